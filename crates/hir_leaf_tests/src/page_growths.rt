@@ -1,6 +1,6 @@
 //! Refused growths of a page. A call that is refused leaves the page as it was, so the same call made again gives the whole page. The loop
 //! over the growths is `scripts/refused-growths`.
-use hir_page::{LineFormat, PageBuffer};
+use hir_page::{LineFormat, PageBuffer, PieceWriter};
 use std::alloc::AllocError;
 use std::test::Fail;
 
@@ -43,7 +43,7 @@ fn each_call_is_made_again(rt: HostRuntime) -> Result<(), Fail> {
     indent(&mut page)?;
     text(&mut page, "{")?;
     line_break(&mut page)?;
-    page.outdent();
+    page.outdent()?;
     line_break(&mut page)?;
     text(&mut page, "}")?;
     assert_eq!(rt;

@@ -1,5 +1,5 @@
 //! Shapes of layout, in lines and in one line: a further case is one more row of a table.
-use hir_page::{LineFormat, PageBuffer, write_number};
+use hir_page::{LineFormat, PageBuffer, PieceWriter, write_number};
 use std::alloc::{AllocError, Global};
 use std::test::Fail;
 
@@ -136,10 +136,7 @@ fn write_step(page: &mut PageBuffer, step: &Step) -> Result<(), AllocError> {
         Step::SoftSpace => page.soft_space(),
         Step::Break => page.line_break(),
         Step::Indent => page.indent(),
-        Step::Outdent => {
-            page.outdent();
-            Ok(())
-        }
+        Step::Outdent => page.outdent(),
     }
 }
 
@@ -207,7 +204,7 @@ fn nest(page: &mut PageBuffer, depth: u32) -> Result<(), AllocError> {
     page.text("_")?;
     for _ in 0..depth {
         page.line_break()?;
-        page.outdent();
+        page.outdent()?;
         page.text("}")?;
     }
     Ok(())

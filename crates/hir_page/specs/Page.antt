@@ -3,6 +3,7 @@ use Rattle.std.specs.Prelude.{◌≡◌, ℕ, ◌+◌, ◌*◌, ◌-◌, Bool, t
 use Rattle.hir_page.specs.declared.line_format.LineFormat.{LineFormat}
 use Rattle.hir_page.specs.declared.line_format.LineFormat.TheVariants.{Oneline, Newline, Indentation}
 use Rattle.hir_page.specs.Pieces.{Piece, Text, SoftSpace, Break, Indent, Outdent}
+use Rattle.hir_page.specs.Steps.{steps}
 
 -- lines: those above the last, the nearest first, and the last
 abbrev pub Lines : Type 0
@@ -128,16 +129,7 @@ render Indent p = with_break (record p { level = p.level + 1 })
 render Outdent p = without_empty_lines (record p { level = p.level - 1 })
 
 abbrev pub all_rendered : List Piece → Page → Page
-all_rendered [] page = page
-all_rendered (p ∷ ps) page = all_rendered ps (render p page)
-
--- Writing stops in pieces, at one that is refused: those before it make the page, and nothing is written after that.
-pub record StopsIn (pieces : List Piece) (old new : Page) : Type 0 where
-  pub before : List Piece
-  pub refused : Piece
-  pub after : List Piece
-  pub parts : pieces ≡ before ++ (refused ∷ after)
-  pub page : new ≡ all_rendered before old
+all_rendered = steps render
 
 -- the text of pieces, in one line or in lines
 abbrev pub rendering : LineFormat → List Piece → List ℕ

@@ -3,11 +3,11 @@
 
 ghost use Rattle.std.specs.Prelude.{◌≡◌, ◌∷◌, [], ◌++◌, ◌+◌, ◌-◌, ◌*◌, replicate, OnOk, OnErr, IsTrue, ◌↔◌, string_bytes};
 ghost use Rattle.hir_page.specs.Buffer.{HasNoEnd, IsTrimmedLen, IsCutText, EndsInLineEnd, IsGrown};
-ghost use Rattle.hir_page.specs.Pieces as piece;
-ghost use Rattle.hir_page.specs.Page.{begin, on_new_line, indent, put, put_all, trim, with_space, ends_in_space, is_empty_text, line_ended, with_join, without_empty_lines, is_blank, empty_page, page_text, with_break, render, format_in_line, format_after_end};
+ghost use Rattle.hir_page.specs.Page.{begin, on_new_line, indent, put, put_all, trim, ends_in_space, is_empty_text, line_ended, with_join, without_empty_lines, is_blank, empty_page, page_text, format_in_line, format_after_end};
 
-use crate::LineFormat;
+use crate::{LineFormat, PieceWriter};
 use std::alloc::{AllocError, Global};
+use std::fmt;
 use std::marker::Model;
 
 /// A page of text, written piece by piece. Contracts see it as its lines, its level and its format.
@@ -303,47 +303,41 @@ impl PageBuffer {
             self.kept = trimmed_len(self.text.as_bytes());
         }
     }
+}
 
-    /// Writes text.
+impl PieceWriter for PageBuffer {
+    ghost use Rattle.std.specs.Prelude.{◌≡◌};
+    ghost use Rattle.hir_page.specs.Page.{render};
+
+    ghost step = { render };
+
+    // a page for which memory is refused stays as it was
+    ghost refuses = { λ piece old new. new ≡ old };
+
     #[tactic(auto, using(crate::proofs::PageLemmas::put_all_in_line))]
-    pub fn text(&mut self, text: &str) -> Result<(), AllocError>
-        ensures ok { OnOk result (self.new ≡ put_all text.now self.old) }
-        ensures err { OnErr result (self.new ≡ self.old) }
-    {
+    fn text(&mut self, text: &str) -> Result<(), AllocError> {
         if self.is_in_line() && has_no_end(text.as_bytes()) {
             return self.add(text);
         }
         self.all_or_none(text)
     }
 
-    /// Writes a soft space: a space, unless there is one or a line begins.
     #[tactic(auto, using(crate::proofs::EndLemmas::unspaced_blank, crate::proofs::EndLemmas::no_end_in_spaces))]
-    pub fn soft_space(&mut self) -> Result<(), AllocError>
-        ensures ok { OnOk result (self.new ≡ with_space self.old) }
-        ensures err { OnErr result (self.new ≡ self.old) }
-    {
+    fn soft_space(&mut self) -> Result<(), AllocError> {
         if self.ends_in_space() || self.ends_in_blank_line() {
             return Ok(());
         }
         self.add(" ")
     }
 
-    /// Ends the line, unless it is blank. In one line it writes a space, unless there is one.
-    pub fn line_break(&mut self) -> Result<(), AllocError>
-        ensures ok { OnOk result (self.new ≡ with_break self.old) }
-        ensures err { OnErr result (self.new ≡ self.old) }
-    {
+    fn line_break(&mut self) -> Result<(), AllocError> {
         match self.format {
             LineFormat::Oneline => self.join(),
             LineFormat::Newline | LineFormat::Indentation => self.break_line(),
         }
     }
 
-    /// Raises the level and ends the line.
-    pub fn indent(&mut self) -> Result<(), AllocError>
-        ensures ok { OnOk result (self.new ≡ render piece.Indent self.old) }
-        ensures err { OnErr result (self.new ≡ self.old) }
-    {
+    fn indent(&mut self) -> Result<(), AllocError> {
         self.raise_level()?;
         let broken = self.line_break();
         if broken.is_err() {
@@ -353,11 +347,25 @@ impl PageBuffer {
     }
 
     /// Lowers the level and removes empty last lines. It takes no memory.
-    pub fn outdent(&mut self)
-        ensures { self.new ≡ render piece.Outdent self.old }
-    {
+    fn outdent(&mut self) -> Result<(), AllocError> {
         self.lower_level();
         self.cut_empty_lines();
+        Ok(())
+    }
+}
+
+impl fmt::Write for PageBuffer {
+    ghost use Rattle.std.specs.Prelude.{◌≡◌};
+    ghost use Rattle.hir_page.specs.Page.{put_all};
+
+    ghost write_str_gives = { λ old text new. new ≡ put_all text old };
+
+    /// Writes text. It fails where memory is refused, and then leaves the page as it was.
+    fn write_str(&mut self, text: &str) -> fmt::Result {
+        match self.text(text) {
+            Ok(()) => Ok(()),
+            Err(_) => Err(fmt::Error),
+        }
     }
 }
 

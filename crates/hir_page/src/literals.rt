@@ -5,10 +5,11 @@ ghost use Rattle.std.specs.Prelude.{◌≡◌, ◌<◌, ◌∷◌, [], OnOk, OnE
 ghost use Rattle.std.specs.List.{flat_map};
 ghost use Rattle.std.specs.Char.{digit_char};
 ghost use Rattle.std.specs.Str.{chars};
-ghost use Rattle.hir_page.specs.Page.{all_rendered, put_all, StopsIn};
+ghost use Rattle.hir_page.specs.Pieces as piece;
+ghost use Rattle.hir_page.specs.Steps.{steps, StopsIn};
 ghost use Rattle.hir_page.specs.Literals.{short_escape, escape_in_string, escape_in_bytes, two_digits, hexadecimal, control_escape, long_escape, byte_escape, escaped_by, string_char, byte_pieces, quoted, string_literal, char_literal, bytes_literal, c_string_literal};
 
-use crate::PageBuffer;
+use crate::PieceWriter;
 use itoa::Integer;
 use std::alloc::AllocError;
 
@@ -74,163 +75,166 @@ fn escape_in_bytes(byte: u8) -> &'static str
 }
 
 /// Writes a digit in hexadecimal.
-fn write_digit(page: &mut PageBuffer, digit: u8) -> Result<(), AllocError>
+fn write_digit<W: PieceWriter>(writer: &mut W, digit: u8) -> Result<(), AllocError>
     requires { digit < 16 }
-    ensures ok { OnOk result (page.new ≡ put_all (digit_char digit ∷ []) page.old) }
-    ensures err { OnErr result (page.new ≡ page.old) }
+    ensures ok { OnOk result (writer.new ≡ W.step (piece.Text (digit_char digit ∷ [])) writer.old) }
+    ensures err { OnErr result (W.refuses (piece.Text (digit_char digit ∷ [])) writer.old writer.new) }
 {
-    page.text(hex_digit(digit))
+    writer.text(hex_digit(digit))
 }
 
 /// Writes two digits in hexadecimal.
-fn write_two_digits(page: &mut PageBuffer, number: u8) -> Result<(), AllocError>
-    ensures ok { OnOk result (page.new ≡ all_rendered (two_digits number) page.old) }
-    ensures err { OnErr result (StopsIn (two_digits number) page.old page.new) }
+fn write_two_digits<W: PieceWriter>(writer: &mut W, number: u8) -> Result<(), AllocError>
+    ensures ok { OnOk result (writer.new ≡ steps W.step (two_digits number) writer.old) }
+    ensures err { OnErr result (StopsIn W.step W.refuses (two_digits number) writer.old writer.new) }
 {
-    write_digit(page, number / 16)?;
-    write_digit(page, number % 16)
+    write_digit(writer, number / 16)?;
+    write_digit(writer, number % 16)
 }
 
 /// Writes a number in hexadecimal, without a leading 0.
-fn write_hexadecimal(page: &mut PageBuffer, number: u8) -> Result<(), AllocError>
-    ensures ok { OnOk result (page.new ≡ all_rendered (hexadecimal number) page.old) }
-    ensures err { OnErr result (StopsIn (hexadecimal number) page.old page.new) }
+fn write_hexadecimal<W: PieceWriter>(writer: &mut W, number: u8) -> Result<(), AllocError>
+    ensures ok { OnOk result (writer.new ≡ steps W.step (hexadecimal number) writer.old) }
+    ensures err { OnErr result (StopsIn W.step W.refuses (hexadecimal number) writer.old writer.new) }
 {
     if number >= 16 {
-        return write_two_digits(page, number);
+        return write_two_digits(writer, number);
     }
-    write_digit(page, number)
+    write_digit(writer, number)
 }
 
 /// Writes a character that has no short escape.
-fn write_long_escape(page: &mut PageBuffer, c: char) -> Result<(), AllocError>
-    ensures ok { OnOk result (page.new ≡ all_rendered (long_escape c) page.old) }
-    ensures err { OnErr result (StopsIn (long_escape c) page.old page.new) }
+fn write_long_escape<W: PieceWriter>(writer: &mut W, c: char) -> Result<(), AllocError>
+    ensures ok { OnOk result (writer.new ≡ steps W.step (long_escape c) writer.old) }
+    ensures err { OnErr result (StopsIn W.step W.refuses (long_escape c) writer.old writer.new) }
 {
     if c.is_ascii_control() {
-        return write_control(page, c as u8);
+        return write_control(writer, c as u8);
     }
     let mut bytes = [0u8; 4];
-    page.text(c.encode_utf8(&mut bytes))
+    writer.text(c.encode_utf8(&mut bytes))
 }
 
-fn write_control(page: &mut PageBuffer, control: u8) -> Result<(), AllocError>
-    ensures ok { OnOk result (page.new ≡ all_rendered (control_escape control) page.old) }
-    ensures err { OnErr result (StopsIn (control_escape control) page.old page.new) }
+fn write_control<W: PieceWriter>(writer: &mut W, control: u8) -> Result<(), AllocError>
+    ensures ok { OnOk result (writer.new ≡ steps W.step (control_escape control) writer.old) }
+    ensures err { OnErr result (StopsIn W.step W.refuses (control_escape control) writer.old writer.new) }
 {
-    page.text("\\u{")?;
-    write_hexadecimal(page, control)?;
-    page.text("}")
+    writer.text("\\u{")?;
+    write_hexadecimal(writer, control)?;
+    writer.text("}")
 }
 
 /// Writes a byte that has no short escape.
-fn write_byte_escape(page: &mut PageBuffer, byte: u8) -> Result<(), AllocError>
-    ensures ok { OnOk result (page.new ≡ all_rendered (byte_escape byte) page.old) }
-    ensures err { OnErr result (StopsIn (byte_escape byte) page.old page.new) }
+fn write_byte_escape<W: PieceWriter>(writer: &mut W, byte: u8) -> Result<(), AllocError>
+    ensures ok { OnOk result (writer.new ≡ steps W.step (byte_escape byte) writer.old) }
+    ensures err { OnErr result (StopsIn W.step W.refuses (byte_escape byte) writer.old writer.new) }
 {
     if byte < 32 || 126 < byte {
-        page.text("\\x")?;
-        return write_two_digits(page, byte);
+        writer.text("\\x")?;
+        return write_two_digits(writer, byte);
     }
     let mut bytes = [0u8; 4];
-    page.text((byte as char).encode_utf8(&mut bytes))
+    writer.text((byte as char).encode_utf8(&mut bytes))
 }
 
 /// Writes a character by its short escape, if there is one.
-fn write_escaped(page: &mut PageBuffer, escape: &str, c: char) -> Result<(), AllocError>
-    ensures ok { OnOk result (page.new ≡ all_rendered (escaped_by escape.now (long_escape c)) page.old) }
-    ensures err { OnErr result (StopsIn (escaped_by escape.now (long_escape c)) page.old page.new) }
+fn write_escaped<W: PieceWriter>(writer: &mut W, escape: &str, c: char) -> Result<(), AllocError>
+    ensures ok { OnOk result (writer.new ≡ steps W.step (escaped_by escape.now (long_escape c)) writer.old) }
+    ensures err { OnErr result (StopsIn W.step W.refuses (escaped_by escape.now (long_escape c)) writer.old writer.new) }
 {
     if escape.is_empty() {
-        return write_long_escape(page, c);
+        return write_long_escape(writer, c);
     }
-    page.text(escape)
+    writer.text(escape)
 }
 
-fn write_byte(page: &mut PageBuffer, byte: u8) -> Result<(), AllocError>
-    ensures ok { OnOk result (page.new ≡ all_rendered (byte_pieces byte) page.old) }
-    ensures err { OnErr result (StopsIn (byte_pieces byte) page.old page.new) }
+fn write_byte<W: PieceWriter>(writer: &mut W, byte: u8) -> Result<(), AllocError>
+    ensures ok { OnOk result (writer.new ≡ steps W.step (byte_pieces byte) writer.old) }
+    ensures err { OnErr result (StopsIn W.step W.refuses (byte_pieces byte) writer.old writer.new) }
 {
     let escape = escape_in_bytes(byte);
     if escape.is_empty() {
-        return write_byte_escape(page, byte);
+        return write_byte_escape(writer, byte);
     }
-    page.text(escape)
+    writer.text(escape)
 }
 
-fn write_string_chars(page: &mut PageBuffer, text: &str) -> Result<(), AllocError>
-    ensures ok { OnOk result (page.new ≡ all_rendered (flat_map string_char (chars text.now)) page.old) }
-    ensures err { OnErr result (StopsIn (flat_map string_char (chars text.now)) page.old page.new) }
+fn write_string_chars<W: PieceWriter>(writer: &mut W, text: &str) -> Result<(), AllocError>
+    ensures ok { OnOk result (writer.new ≡ steps W.step (flat_map string_char (chars text.now)) writer.old) }
+    ensures err { OnErr result (StopsIn W.step W.refuses (flat_map string_char (chars text.now)) writer.old writer.new) }
 {
     let mut rest = text.chars();
     while let Some(c) = rest.next() {
-        write_escaped(page, escape_in_string(c), c)?;
+        write_escaped(writer, escape_in_string(c), c)?;
     }
     Ok(())
 }
 
-fn write_bytes(page: &mut PageBuffer, bytes: &[u8]) -> Result<(), AllocError>
-    ensures ok { OnOk result (page.new ≡ all_rendered (flat_map byte_pieces bytes.now) page.old) }
-    ensures err { OnErr result (StopsIn (flat_map byte_pieces bytes.now) page.old page.new) }
+fn write_bytes<W: PieceWriter>(writer: &mut W, bytes: &[u8]) -> Result<(), AllocError>
+    ensures ok { OnOk result (writer.new ≡ steps W.step (flat_map byte_pieces bytes.now) writer.old) }
+    ensures err { OnErr result (StopsIn W.step W.refuses (flat_map byte_pieces bytes.now) writer.old writer.new) }
 {
     for byte in bytes {
-        write_byte(page, *byte)?;
+        write_byte(writer, *byte)?;
     }
     Ok(())
 }
 
 /// Writes bytes behind a double quote, and this text behind them.
-fn write_quoted(page: &mut PageBuffer, bytes: &[u8], end: &str) -> Result<(), AllocError>
-    ensures ok { OnOk result (page.new
-        ≡ all_rendered (quoted (flat_map byte_pieces bytes.now) end.now) page.old) }
-    ensures err { OnErr result (StopsIn (quoted (flat_map byte_pieces bytes.now) end.now) page.old page.new) }
+fn write_quoted<W: PieceWriter>(writer: &mut W, bytes: &[u8], end: &str) -> Result<(), AllocError>
+    ensures ok { OnOk result (writer.new
+        ≡ steps W.step (quoted (flat_map byte_pieces bytes.now) end.now) writer.old) }
+    ensures err { OnErr result (StopsIn W.step W.refuses (quoted (flat_map byte_pieces bytes.now) end.now) writer.old writer.new) }
 {
-    page.text("\"")?;
-    write_bytes(page, bytes)?;
-    page.text(end)
+    writer.text("\"")?;
+    write_bytes(writer, bytes)?;
+    writer.text(end)
 }
 
 /// Writes a string in double quotes.
-pub fn write_string_literal(page: &mut PageBuffer, text: &str) -> Result<(), AllocError>
-    ensures ok { OnOk result (page.new ≡ all_rendered (string_literal text.now) page.old) }
-    ensures err { OnErr result (StopsIn (string_literal text.now) page.old page.new) }
+pub fn write_string_literal<W: PieceWriter>(writer: &mut W, text: &str) -> Result<(), AllocError>
+    ensures ok { OnOk result (writer.new ≡ steps W.step (string_literal text.now) writer.old) }
+    ensures err { OnErr result (StopsIn W.step W.refuses (string_literal text.now) writer.old writer.new) }
 {
-    page.text("\"")?;
-    write_string_chars(page, text)?;
-    page.text("\"")
+    writer.text("\"")?;
+    write_string_chars(writer, text)?;
+    writer.text("\"")
 }
 
 /// Writes a character in single quotes.
-pub fn write_char_literal(page: &mut PageBuffer, c: char) -> Result<(), AllocError>
-    ensures ok { OnOk result (page.new ≡ all_rendered (char_literal c) page.old) }
-    ensures err { OnErr result (StopsIn (char_literal c) page.old page.new) }
+pub fn write_char_literal<W: PieceWriter>(writer: &mut W, c: char) -> Result<(), AllocError>
+    ensures ok { OnOk result (writer.new ≡ steps W.step (char_literal c) writer.old) }
+    ensures err { OnErr result (StopsIn W.step W.refuses (char_literal c) writer.old writer.new) }
 {
-    page.text("'")?;
-    write_escaped(page, short_escape(c), c)?;
-    page.text("'")
+    writer.text("'")?;
+    write_escaped(writer, short_escape(c), c)?;
+    writer.text("'")
 }
 
 /// Writes bytes in double quotes.
-pub fn write_bytes_literal(page: &mut PageBuffer, bytes: &[u8]) -> Result<(), AllocError>
-    ensures ok { OnOk result (page.new ≡ all_rendered (bytes_literal bytes.now) page.old) }
-    ensures err { OnErr result (StopsIn (bytes_literal bytes.now) page.old page.new) }
+pub fn write_bytes_literal<W: PieceWriter>(writer: &mut W, bytes: &[u8]) -> Result<(), AllocError>
+    ensures ok { OnOk result (writer.new ≡ steps W.step (bytes_literal bytes.now) writer.old) }
+    ensures err { OnErr result (StopsIn W.step W.refuses (bytes_literal bytes.now) writer.old writer.new) }
 {
-    write_quoted(page, bytes, "\"")
+    write_quoted(writer, bytes, "\"")
 }
 
 /// Writes a C string in double quotes, with the 0 that ends it.
-pub fn write_c_string_literal(page: &mut PageBuffer, bytes: &[u8]) -> Result<(), AllocError>
-    ensures ok { OnOk result (page.new ≡ all_rendered (c_string_literal bytes.now) page.old) }
-    ensures err { OnErr result (StopsIn (c_string_literal bytes.now) page.old page.new) }
+pub fn write_c_string_literal<W: PieceWriter>(
+    writer: &mut W,
+    bytes: &[u8],
+) -> Result<(), AllocError>
+    ensures ok { OnOk result (writer.new ≡ steps W.step (c_string_literal bytes.now) writer.old) }
+    ensures err { OnErr result (StopsIn W.step W.refuses (c_string_literal bytes.now) writer.old writer.new) }
 {
-    write_quoted(page, bytes, "\\0\"")
+    write_quoted(writer, bytes, "\\0\"")
 }
 
 /// Writes a number in decimal.
-pub fn write_number<I: Integer>(page: &mut PageBuffer, number: I) -> Result<(), AllocError>
-    ensures ok { OnOk result (page.new ≡ put_all (I.text number) page.old) }
-    ensures err { OnErr result (page.new ≡ page.old) }
+pub fn write_number<W: PieceWriter, I: Integer>(writer: &mut W, number: I) -> Result<(), AllocError>
+    ensures ok { OnOk result (writer.new ≡ W.step (piece.Text (I.text number)) writer.old) }
+    ensures err { OnErr result (W.refuses (piece.Text (I.text number)) writer.old writer.new) }
 {
     let mut digits = itoa::Buffer::new();
-    page.text(digits.format(number))
+    writer.text(digits.format(number))
 }

@@ -11,12 +11,16 @@ use crate::heads::add_body_head;
 use hir_base::{DefWithBodyId, Edition};
 use hir_defs::{Body, Param, Tables};
 use hir_node::{BindingId, PatId};
+use hir_page::PieceWriter;
 use hir_printer::{PrintFault, Printer, Work};
 use std::alloc::{AllocError, Global};
 
 /// Adds the binding of `self`, where there is one.
-fn add_self(printer: &mut Printer<'_>, binding: Option<BindingId>) -> Result<(), AllocError>
-    ensures { OnOk result (Adds printer.old (λ s. opt (binding_items s) binding) printer.new) }
+fn add_self<W: PieceWriter>(
+    printer: &mut Printer<'_, W>,
+    binding: Option<BindingId>,
+) -> Result<(), AllocError>
+    ensures { OnOk result (Adds W.step printer.old (λ s. opt (binding_items s) binding) printer.new) }
 {
     match binding {
         None => Ok(()),
@@ -25,12 +29,12 @@ fn add_self(printer: &mut Printer<'_>, binding: Option<BindingId>) -> Result<(),
 }
 
 /// Adds the binding of `self`, where there is one, and the formal patterns.
-fn add_all_formals(
-    printer: &mut Printer<'_>,
+fn add_all_formals<W: PieceWriter>(
+    printer: &mut Printer<'_, W>,
     self_binding: Option<BindingId>,
     params: &[Param<PatId>],
 ) -> Result<(), AllocError>
-    ensures { OnOk result (Adds printer.old
+    ensures { OnOk result (Adds W.step printer.old
         (λ s. comma_joined (formal_params s self_binding (formals_of params.now))) printer.new) }
 {
     add_self(printer, self_binding)?;
@@ -44,13 +48,13 @@ fn add_all_formals(
 }
 
 /// Adds the parameters in parentheses, which only a function has.
-fn add_params(
-    printer: &mut Printer<'_>,
+fn add_params<W: PieceWriter>(
+    printer: &mut Printer<'_, W>,
     owner: &DefWithBodyId,
     self_binding: Option<BindingId>,
     params: &[Param<PatId>],
 ) -> Result<(), AllocError>
-    ensures { OnOk result (Adds printer.old
+    ensures { OnOk result (Adds W.step printer.old
         (λ s. body_params s self_binding (formals_of params.now) owner.now) printer.new) }
 {
     match owner {
@@ -66,8 +70,11 @@ fn add_params(
 }
 
 /// Adds what follows the last root.
-fn add_end(printer: &mut Printer<'_>, owner: &DefWithBodyId) -> Result<(), AllocError>
-    ensures { OnOk result (Adds printer.old (λ s. body_end owner.now) printer.new) }
+fn add_end<W: PieceWriter>(
+    printer: &mut Printer<'_, W>,
+    owner: &DefWithBodyId,
+) -> Result<(), AllocError>
+    ensures { OnOk result (Adds W.step printer.old (λ s. body_end owner.now) printer.new) }
 {
     match owner {
         DefWithBodyId::FunctionId(_) | DefWithBodyId::VariantId(_) => Ok(()),
@@ -85,13 +92,13 @@ fn formal_self(body: &Body) -> Option<BindingId>
     }
 }
 
-fn add_body(
-    printer: &mut Printer<'_>,
+fn add_body<W: PieceWriter>(
+    printer: &mut Printer<'_, W>,
     tables: &Tables,
     body: &Body,
     owner: &DefWithBodyId,
 ) -> Result<(), AllocError>
-    ensures { OnOk result (Adds printer.old
+    ensures { OnOk result (Adds W.step printer.old
         (λ s. body_items s (parents tables.now) owner.now body.now) printer.new) }
 {
     add_body_head(printer, tables, owner)?;

@@ -11,19 +11,26 @@ use crate::generics::{add_generics, add_where};
 use hir_base::{Edition, ExternAbi, FunctionId};
 use hir_defs::{FunctionSignature, Tables};
 use hir_node::TypeRefId;
+use hir_page::PieceWriter;
 use hir_printer::{PrintFault, Printer, Work};
 use std::alloc::{AllocError, Global};
 
-fn add_quoted<'a>(printer: &mut Printer<'a>, abi: &'a str) -> Result<(), AllocError>
-    ensures { OnOk result (Adds printer.old
+fn add_quoted<'a, W: PieceWriter>(
+    printer: &mut Printer<'a, W>,
+    abi: &'a str,
+) -> Result<(), AllocError>
+    ensures { OnOk result (Adds W.step printer.old
         (λ s. text (codes "extern \"") ++ text abi.now ++ text (codes "\" ")) printer.new) }
 {
     printer.add(&[Work::Text("extern \""), Work::Text(abi), Work::Text("\" ")])
 }
 
 /// Adds the calling convention, unless it is that of Rust.
-fn add_abi<'a>(printer: &mut Printer<'a>, abi: &'a ExternAbi) -> Result<(), AllocError>
-    ensures { OnOk result (Adds printer.old (λ s. abi_items abi.now) printer.new) }
+fn add_abi<'a, W: PieceWriter>(
+    printer: &mut Printer<'a, W>,
+    abi: &'a ExternAbi,
+) -> Result<(), AllocError>
+    ensures { OnOk result (Adds W.step printer.old (λ s. abi_items abi.now) printer.new) }
 {
     match abi {
         ExternAbi::Rust => Ok(()),
@@ -52,13 +59,13 @@ fn marks_of(alloc: Global, places: &[u32], count: usize) -> Result<Vec<bool>, Al
 }
 
 /// Adds the types of arguments, each with `const: ` before it where its place is marked.
-fn add_marked(
-    printer: &mut Printer<'_>,
+fn add_marked<W: PieceWriter>(
+    printer: &mut Printer<'_, W>,
     marks: &[bool],
     params: &[TypeRefId],
 ) -> Result<(), AllocError>
     requires { length marks.now ≡ length params.now }
-    ensures { OnOk result (Adds printer.old
+    ensures { OnOk result (Adds W.step printer.old
         (λ s. comma_joined (map (marked_items marks.now) (enumerate_from 0 params.now))) printer.new) }
 {
     for (at, param) in params.iter().enumerate() {
@@ -70,13 +77,13 @@ fn add_marked(
 }
 
 /// Adds the types of arguments, each with `const: ` before it where its place is listed.
-fn add_arguments<'a>(
-    printer: &mut Printer<'a>,
+fn add_arguments<'a, W: PieceWriter>(
+    printer: &mut Printer<'a, W>,
     alloc: Global,
     places: Option<&[u32]>,
     params: &'a [TypeRefId],
 ) -> Result<(), AllocError>
-    ensures { OnOk result (Adds printer.old
+    ensures { OnOk result (Adds W.step printer.old
         (λ s. arguments (option_map (λ list. list.now) places.entry) params.now) printer.new) }
 {
     match places {
@@ -88,8 +95,11 @@ fn add_arguments<'a>(
     }
 }
 
-fn add_flags(printer: &mut Printer<'_>, signature: &FunctionSignature) -> Result<(), AllocError>
-    ensures { OnOk result (Adds printer.old (λ s. flags signature.now) printer.new) }
+fn add_flags<W: PieceWriter>(
+    printer: &mut Printer<'_, W>,
+    signature: &FunctionSignature,
+) -> Result<(), AllocError>
+    ensures { OnOk result (Adds W.step printer.old (λ s. flags signature.now) printer.new) }
 {
     printer.add_if(signature.is_const(), "const ")?;
     printer.add_if(signature.is_async(), "async ")?;
@@ -98,11 +108,11 @@ fn add_flags(printer: &mut Printer<'_>, signature: &FunctionSignature) -> Result
 }
 
 /// Adds all up to the list of arguments.
-fn add_front<'a>(
-    printer: &mut Printer<'a>,
+fn add_front<'a, W: PieceWriter>(
+    printer: &mut Printer<'a, W>,
     signature: &'a FunctionSignature,
 ) -> Result<(), AllocError>
-    ensures { OnOk result (Adds printer.old (λ s. function_front s signature.now) printer.new) }
+    ensures { OnOk result (Adds W.step printer.old (λ s. function_front s signature.now) printer.new) }
 {
     add_flags(printer, signature)?;
     add_abi(printer, signature.abi())?;
@@ -111,12 +121,12 @@ fn add_front<'a>(
 }
 
 /// Adds the arguments and the return type.
-fn add_types<'a>(
-    printer: &mut Printer<'a>,
+fn add_types<'a, W: PieceWriter>(
+    printer: &mut Printer<'a, W>,
     alloc: Global,
     signature: &'a FunctionSignature,
 ) -> Result<(), AllocError>
-    ensures { OnOk result (Adds printer.old (λ s. function_types signature.now) printer.new) }
+    ensures { OnOk result (Adds W.step printer.old (λ s. function_types signature.now) printer.new) }
 {
     printer.add(&[Work::Text("(")])?;
     add_arguments(
@@ -132,12 +142,12 @@ fn add_types<'a>(
     }
 }
 
-fn add_function<'a>(
-    printer: &mut Printer<'a>,
+fn add_function<'a, W: PieceWriter>(
+    printer: &mut Printer<'a, W>,
     alloc: Global,
     signature: &'a FunctionSignature,
 ) -> Result<(), AllocError>
-    ensures { OnOk result (Adds printer.old (λ s. function_items s signature.now) printer.new) }
+    ensures { OnOk result (Adds W.step printer.old (λ s. function_items s signature.now) printer.new) }
 {
     add_front(printer, signature)?;
     add_types(printer, alloc, signature)?;

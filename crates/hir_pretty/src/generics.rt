@@ -12,24 +12,28 @@ use hir_defs::{
     WherePredicate,
 };
 use hir_node::ConstRef;
+use hir_page::PieceWriter;
 use hir_printer::{Part, Printer, Work};
 use std::alloc::AllocError;
 
 /// Adds a type: its name or its place, and its default.
-fn add_type<'a>(
-    printer: &mut Printer<'a>,
+fn add_type<'a, W: PieceWriter>(
+    printer: &mut Printer<'a, W>,
     at: u32,
     param: &'a TypeParamData,
 ) -> Result<(), AllocError>
-    ensures { OnOk result (Adds printer.old
+    ensures { OnOk result (Adds W.step printer.old
         (λ s. generic_param_items s at (TypeOrConstParamData.TypeParamData param.now)) printer.new) }
 {
     printer.add_param_name(at, param.name.as_ref())?;
     printer.add_after(" = ", &param.default)
 }
 
-fn add_default(printer: &mut Printer<'_>, default: Option<ConstRef>) -> Result<(), AllocError>
-    ensures { OnOk result (Adds printer.old (λ s. opt (λ d. text (codes " = ") ++ e d.expr) default)
+fn add_default<W: PieceWriter>(
+    printer: &mut Printer<'_, W>,
+    default: Option<ConstRef>,
+) -> Result<(), AllocError>
+    ensures { OnOk result (Adds W.step printer.old (λ s. opt (λ d. text (codes " = ") ++ e d.expr) default)
         printer.new) }
 {
     match default {
@@ -39,12 +43,12 @@ fn add_default(printer: &mut Printer<'_>, default: Option<ConstRef>) -> Result<(
 }
 
 /// Adds a constant with its type and its default.
-fn add_const<'a>(
-    printer: &mut Printer<'a>,
+fn add_const<'a, W: PieceWriter>(
+    printer: &mut Printer<'a, W>,
     at: u32,
     param: &'a ConstParamData,
 ) -> Result<(), AllocError>
-    ensures { OnOk result (Adds printer.old
+    ensures { OnOk result (Adds W.step printer.old
         (λ s. generic_param_items s at (TypeOrConstParamData.ConstParamData param.now)) printer.new) }
 {
     printer.add(&[
@@ -56,12 +60,12 @@ fn add_const<'a>(
     add_default(printer, param.default)
 }
 
-fn add_type_or_const<'a>(
-    printer: &mut Printer<'a>,
+fn add_type_or_const<'a, W: PieceWriter>(
+    printer: &mut Printer<'a, W>,
     at: u32,
     param: &'a TypeOrConstParamData,
 ) -> Result<(), AllocError>
-    ensures { OnOk result (Adds printer.old (λ s. generic_param_items s at param.now) printer.new) }
+    ensures { OnOk result (Adds W.step printer.old (λ s. generic_param_items s at param.now) printer.new) }
 {
     match param {
         TypeOrConstParamData::TypeParamData(param) => add_type(printer, at, param),
@@ -70,8 +74,11 @@ fn add_type_or_const<'a>(
 }
 
 /// Adds the lifetimes, with `, ` between them.
-fn add_lifetimes<'a>(printer: &mut Printer<'a>, params: &'a GenericParams) -> Result<(), AllocError>
-    ensures { OnOk result (Adds printer.old
+fn add_lifetimes<'a, W: PieceWriter>(
+    printer: &mut Printer<'a, W>,
+    params: &'a GenericParams,
+) -> Result<(), AllocError>
+    ensures { OnOk result (Adds W.step printer.old
         (λ s. following (text (codes ", ")) false (each_lifetime s params.now.lifetimes)) printer.new) }
 {
     let mut after = false;
@@ -84,12 +91,12 @@ fn add_lifetimes<'a>(printer: &mut Printer<'a>, params: &'a GenericParams) -> Re
 }
 
 /// Adds types and constants in their places, each after `, `; the first only where something is before it.
-fn add_types_and_consts<'a>(
-    printer: &mut Printer<'a>,
+fn add_types_and_consts<'a, W: PieceWriter>(
+    printer: &mut Printer<'a, W>,
     params: &'a GenericParams,
     first: bool,
 ) -> Result<(), AllocError>
-    ensures { OnOk result (Adds printer.old
+    ensures { OnOk result (Adds W.step printer.old
         (λ s. following (text (codes ", ")) first
         (each_type_or_const s (enumerate_from 0 params.now.type_or_consts))) printer.new) }
 {
@@ -103,8 +110,11 @@ fn add_types_and_consts<'a>(
 }
 
 /// Adds all parameters in `<` and `>`.
-fn add_in_angles<'a>(printer: &mut Printer<'a>, params: &'a GenericParams) -> Result<(), AllocError>
-    ensures { OnOk result (Adds printer.old
+fn add_in_angles<'a, W: PieceWriter>(
+    printer: &mut Printer<'a, W>,
+    params: &'a GenericParams,
+) -> Result<(), AllocError>
+    ensures { OnOk result (Adds W.step printer.old
         (λ s. text (codes "<") ++ comma_joined (each_param s params.now) ++ text (codes ">")) printer.new) }
 {
     printer.add(&[Work::Text("<")])?;
@@ -114,11 +124,11 @@ fn add_in_angles<'a>(printer: &mut Printer<'a>, params: &'a GenericParams) -> Re
 }
 
 /// Adds all parameters in `<` and `>`, where there are any.
-pub(crate) fn add_generics<'a>(
-    printer: &mut Printer<'a>,
+pub(crate) fn add_generics<'a, W: PieceWriter>(
+    printer: &mut Printer<'a, W>,
     params: &'a GenericParams,
 ) -> Result<(), AllocError>
-    ensures { OnOk result (Adds printer.old (λ s. generics_items s params.now) printer.new) }
+    ensures { OnOk result (Adds W.step printer.old (λ s. generics_items s params.now) printer.new) }
 {
     if params.is_empty() {
         return Ok(());
@@ -127,11 +137,11 @@ pub(crate) fn add_generics<'a>(
 }
 
 /// Adds a predicate.
-fn add_predicate<'a>(
-    printer: &mut Printer<'a>,
+fn add_predicate<'a, W: PieceWriter>(
+    printer: &mut Printer<'a, W>,
     predicate: &'a WherePredicate,
 ) -> Result<(), AllocError>
-    ensures { OnOk result (Adds printer.old (λ s. predicate_items s predicate.now) printer.new) }
+    ensures { OnOk result (Adds W.step printer.old (λ s. predicate_items s predicate.now) printer.new) }
 {
     match predicate {
         WherePredicate::TypeBound {
@@ -152,11 +162,11 @@ fn add_predicate<'a>(
 }
 
 /// Adds the predicates, each on a line of its own after `where`, where there are any.
-pub(crate) fn add_where<'a>(
-    printer: &mut Printer<'a>,
+pub(crate) fn add_where<'a, W: PieceWriter>(
+    printer: &mut Printer<'a, W>,
     predicates: &'a [WherePredicate],
 ) -> Result<(), AllocError>
-    ensures { OnOk result (Adds printer.old (λ s. where_items s predicates.now) printer.new) }
+    ensures { OnOk result (Adds W.step printer.old (λ s. where_items s predicates.now) printer.new) }
 {
     if predicates.is_empty() {
         return Ok(());

@@ -12,11 +12,16 @@ ghost use Rattle.hir_pretty.specs.FoundParts.{parents};
 use hir_base::{DefWithBodyId, EnumId, EnumVariantId, NamedDef, VariantId};
 use hir_defs::Tables;
 use hir_expr_store::Missing;
+use hir_page::PieceWriter;
 use hir_printer::{Printer, Work};
 use std::alloc::AllocError;
 
-fn add_enum(printer: &mut Printer<'_>, id: EnumVariantId, parent: EnumId) -> Result<(), AllocError>
-    ensures { OnOk result (Adds printer.old (λ s. of_enum s id (Ok parent)) printer.new) }
+fn add_enum<W: PieceWriter>(
+    printer: &mut Printer<'_, W>,
+    id: EnumVariantId,
+    parent: EnumId,
+) -> Result<(), AllocError>
+    ensures { OnOk result (Adds W.step printer.old (λ s. of_enum s id (Ok parent)) printer.new) }
 {
     printer.add(&[Work::Text("enum ")])?;
     printer.add_named(NamedDef::EnumId(parent))?;
@@ -25,12 +30,12 @@ fn add_enum(printer: &mut Printer<'_>, id: EnumVariantId, parent: EnumId) -> Res
 }
 
 /// Adds the names of the variant's enum and of the variant. The enum is looked up first.
-fn add_variant_name(
-    printer: &mut Printer<'_>,
+fn add_variant_name<W: PieceWriter>(
+    printer: &mut Printer<'_, W>,
     tables: &Tables,
     id: EnumVariantId,
 ) -> Result<(), AllocError>
-    ensures { OnOk result (Adds printer.old (λ s. variant_name s (parents tables.now) id) printer.new) }
+    ensures { OnOk result (Adds W.step printer.old (λ s. variant_name s (parents tables.now) id) printer.new) }
 {
     match tables.variant_parent(id) {
         Ok(parent) => add_enum(printer, id, parent),
@@ -39,12 +44,12 @@ fn add_variant_name(
 }
 
 /// Adds a keyword and the name of a definition.
-fn add_keyword(
-    printer: &mut Printer<'_>,
+fn add_keyword<W: PieceWriter>(
+    printer: &mut Printer<'_, W>,
     keyword: &'static str,
     def: NamedDef,
 ) -> Result<(), AllocError>
-    ensures { OnOk result (Adds printer.old
+    ensures { OnOk result (Adds W.step printer.old
         (λ s. text keyword.now ++ found_name (codes "<missing>") (s.tables.name def)) printer.new) }
 {
     printer.add(&[Work::Text(keyword)])?;
@@ -52,12 +57,12 @@ fn add_keyword(
 }
 
 /// Adds what a body begins with. A constant without a name is `_`.
-pub(crate) fn add_body_head(
-    printer: &mut Printer<'_>,
+pub(crate) fn add_body_head<W: PieceWriter>(
+    printer: &mut Printer<'_, W>,
     tables: &Tables,
     owner: &DefWithBodyId,
 ) -> Result<(), AllocError>
-    ensures { OnOk result (Adds printer.old (λ s. body_head s (parents tables.now) owner.now) printer.new) }
+    ensures { OnOk result (Adds W.step printer.old (λ s. body_head s (parents tables.now) owner.now) printer.new) }
 {
     match owner {
         DefWithBodyId::FunctionId(id) => add_keyword(printer, "fn ", NamedDef::FunctionId(*id)),
@@ -75,12 +80,12 @@ pub(crate) fn add_body_head(
 }
 
 /// Adds what a struct, a union or a variant begins with.
-pub(crate) fn add_variant_head(
-    printer: &mut Printer<'_>,
+pub(crate) fn add_variant_head<W: PieceWriter>(
+    printer: &mut Printer<'_, W>,
     tables: &Tables,
     owner: &VariantId,
 ) -> Result<(), AllocError>
-    ensures { OnOk result (Adds printer.old (λ s. variant_head s (parents tables.now) owner.now)
+    ensures { OnOk result (Adds W.step printer.old (λ s. variant_head s (parents tables.now) owner.now)
         printer.new) }
 {
     match owner {

@@ -12,12 +12,17 @@ use crate::structs::print_struct;
 use hir_base::{AdtId, Edition, FunctionId, GenericDefId, StructId};
 use hir_defs::Tables;
 use hir_expr_store::ExpressionStore;
+use hir_page::PieceWriter;
 use hir_printer::{PrintFault, Printer, Work};
 use std::alloc::{AllocError, Global};
 
 /// Adds that the signature of a definition of this kind isn't printed.
-fn add_other<'a>(printer: &mut Printer<'a>, kind: &'a str, id: u32) -> Result<(), AllocError>
-    ensures { OnOk result (Adds printer.old (λ s. unimplemented_items kind.now id) printer.new) }
+fn add_other<'a, W: PieceWriter>(
+    printer: &mut Printer<'a, W>,
+    kind: &'a str,
+    id: u32,
+) -> Result<(), AllocError>
+    ensures { OnOk result (Adds W.step printer.old (λ s. unimplemented_items kind.now id) printer.new) }
 {
     printer.add(&[Work::Text("unimplemented ")])?;
     printer.add_numbered(kind, id)

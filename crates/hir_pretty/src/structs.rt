@@ -9,15 +9,16 @@ ghost use Rattle.hir_pretty.specs.Signatures.{repr_items, shape_begin, shape_end
 use crate::generics::{add_generics, add_where};
 use hir_base::{Edition, StructId};
 use hir_defs::{FieldsShape, Repr, StructSignature, Tables};
+use hir_page::PieceWriter;
 use hir_printer::{PrintFault, Printer, Work};
 use std::alloc::{AllocError, Global};
 
-fn add_attribute_if(
-    printer: &mut Printer<'_>,
+fn add_attribute_if<W: PieceWriter>(
+    printer: &mut Printer<'_, W>,
     holds: bool,
     attribute: &'static str,
 ) -> Result<(), AllocError>
-    ensures { OnOk result (Adds printer.old (λ s. when holds (text attribute.now ++ br)) printer.new) }
+    ensures { OnOk result (Adds W.step printer.old (λ s. when holds (text attribute.now ++ br)) printer.new) }
 {
     if holds {
         return printer.add(&[Work::Text(attribute), Work::Break]);
@@ -26,12 +27,12 @@ fn add_attribute_if(
 }
 
 /// Adds an attribute with this many bytes, where there are any.
-fn add_bytes(
-    printer: &mut Printer<'_>,
+fn add_bytes<W: PieceWriter>(
+    printer: &mut Printer<'_, W>,
     before: &'static str,
     bytes: Option<u64>,
 ) -> Result<(), AllocError>
-    ensures { OnOk result (Adds printer.old
+    ensures { OnOk result (Adds W.step printer.old
         (λ s. opt (λ n. text before.now ++ text (decimal n) ++ text (codes "))]") ++ br) bytes) printer.new) }
 {
     match bytes {
@@ -45,16 +46,19 @@ fn add_bytes(
     }
 }
 
-fn add_repr(printer: &mut Printer<'_>, repr: Repr) -> Result<(), AllocError>
-    ensures { OnOk result (Adds printer.old (λ s. repr_items (Some repr)) printer.new) }
+fn add_repr<W: PieceWriter>(printer: &mut Printer<'_, W>, repr: Repr) -> Result<(), AllocError>
+    ensures { OnOk result (Adds W.step printer.old (λ s. repr_items (Some repr)) printer.new) }
 {
     add_attribute_if(printer, repr.c, "#[repr(C)]")?;
     add_bytes(printer, "#[repr(align(", repr.align)?;
     add_bytes(printer, "#[repr(pack(", repr.pack)
 }
 
-fn add_repr_opt(printer: &mut Printer<'_>, repr: Option<Repr>) -> Result<(), AllocError>
-    ensures { OnOk result (Adds printer.old (λ s. repr_items repr) printer.new) }
+fn add_repr_opt<W: PieceWriter>(
+    printer: &mut Printer<'_, W>,
+    repr: Option<Repr>,
+) -> Result<(), AllocError>
+    ensures { OnOk result (Adds W.step printer.old (λ s. repr_items repr) printer.new) }
 {
     match repr {
         None => Ok(()),
@@ -62,8 +66,11 @@ fn add_repr_opt(printer: &mut Printer<'_>, repr: Option<Repr>) -> Result<(), All
     }
 }
 
-fn add_begin(printer: &mut Printer<'_>, shape: FieldsShape) -> Result<(), AllocError>
-    ensures { OnOk result (Adds printer.old (λ s. shape_begin shape) printer.new) }
+fn add_begin<W: PieceWriter>(
+    printer: &mut Printer<'_, W>,
+    shape: FieldsShape,
+) -> Result<(), AllocError>
+    ensures { OnOk result (Adds W.step printer.old (λ s. shape_begin shape) printer.new) }
 {
     match shape {
         FieldsShape::Record => printer.add(&[Work::Text(" {...}"), Work::Break]),
@@ -72,8 +79,11 @@ fn add_begin(printer: &mut Printer<'_>, shape: FieldsShape) -> Result<(), AllocE
     }
 }
 
-fn add_end(printer: &mut Printer<'_>, shape: FieldsShape) -> Result<(), AllocError>
-    ensures { OnOk result (Adds printer.old (λ s. shape_end shape) printer.new) }
+fn add_end<W: PieceWriter>(
+    printer: &mut Printer<'_, W>,
+    shape: FieldsShape,
+) -> Result<(), AllocError>
+    ensures { OnOk result (Adds W.step printer.old (λ s. shape_end shape) printer.new) }
 {
     match shape {
         FieldsShape::Record => printer.add(&[Work::Break]),
@@ -82,12 +92,12 @@ fn add_end(printer: &mut Printer<'_>, shape: FieldsShape) -> Result<(), AllocErr
 }
 
 /// Adds the attributes, the name and the parameters.
-fn add_front<'a>(
-    printer: &mut Printer<'a>,
+fn add_front<'a, W: PieceWriter>(
+    printer: &mut Printer<'a, W>,
     repr: Option<Repr>,
     signature: &'a StructSignature,
 ) -> Result<(), AllocError>
-    ensures { OnOk result (Adds printer.old (λ s. struct_front s repr signature.now) printer.new) }
+    ensures { OnOk result (Adds W.step printer.old (λ s. struct_front s repr signature.now) printer.new) }
 {
     add_repr_opt(printer, repr)?;
     add_attribute_if(printer, signature.is_fundamental(), "#[fundamental]")?;
@@ -95,12 +105,12 @@ fn add_front<'a>(
     add_generics(printer, signature.generic_params())
 }
 
-fn add_struct<'a>(
-    printer: &mut Printer<'a>,
+fn add_struct<'a, W: PieceWriter>(
+    printer: &mut Printer<'a, W>,
     repr: Option<Repr>,
     signature: &'a StructSignature,
 ) -> Result<(), AllocError>
-    ensures { OnOk result (Adds printer.old (λ s. struct_items s repr signature.now) printer.new) }
+    ensures { OnOk result (Adds W.step printer.old (λ s. struct_items s repr signature.now) printer.new) }
 {
     add_front(printer, repr, signature)?;
     add_begin(printer, signature.shape())?;

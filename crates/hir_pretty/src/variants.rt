@@ -11,12 +11,13 @@ use crate::heads::{add_variant_head, missing_in_head};
 use hir_base::{Edition, ModPath, PathKind, VariantId};
 use hir_defs::{FieldData, FieldsShape, RawVisibility, Tables, VariantFields};
 use hir_expr_store::Missing;
+use hir_page::PieceWriter;
 use hir_printer::{PrintFault, Printer, Work, colons_first};
 use std::alloc::{AllocError, Global};
 
 /// Adds what the path of a module begins with.
-fn add_kind(printer: &mut Printer<'_>, kind: PathKind) -> Result<(), AllocError>
-    ensures { OnOk result (Adds printer.old (λ s. join (text (codes "::")) (kind_word s kind)) printer.new) }
+fn add_kind<W: PieceWriter>(printer: &mut Printer<'_, W>, kind: PathKind) -> Result<(), AllocError>
+    ensures { OnOk result (Adds W.step printer.old (λ s. join (text (codes "::")) (kind_word s kind)) printer.new) }
 {
     match kind {
         PathKind::Plain | PathKind::Abs => Ok(()),
@@ -27,18 +28,21 @@ fn add_kind(printer: &mut Printer<'_>, kind: PathKind) -> Result<(), AllocError>
 }
 
 /// Adds the path of a module: where it begins, and its names.
-fn add_module<'a>(printer: &mut Printer<'a>, path: &'a ModPath) -> Result<(), AllocError>
-    ensures { OnOk result (Adds printer.old (λ s. module_items s path.now) printer.new) }
+fn add_module<'a, W: PieceWriter>(
+    printer: &mut Printer<'a, W>,
+    path: &'a ModPath,
+) -> Result<(), AllocError>
+    ensures { OnOk result (Adds W.step printer.old (λ s. module_items s path.now) printer.new) }
 {
     add_kind(printer, path.kind())?;
     printer.add_list(colons_first(path.kind()), "::", path.segments())
 }
 
-fn add_visibility<'a>(
-    printer: &mut Printer<'a>,
+fn add_visibility<'a, W: PieceWriter>(
+    printer: &mut Printer<'a, W>,
     visibility: &'a RawVisibility,
 ) -> Result<(), AllocError>
-    ensures { OnOk result (Adds printer.old (λ s. visibility_items s visibility.now) printer.new) }
+    ensures { OnOk result (Adds W.step printer.old (λ s. visibility_items s visibility.now) printer.new) }
 {
     match visibility {
         RawVisibility::Module(path) => {
@@ -53,8 +57,11 @@ fn add_visibility<'a>(
 }
 
 /// Adds a field, on a line of its own.
-fn add_field<'a>(printer: &mut Printer<'a>, field: &'a FieldData) -> Result<(), AllocError>
-    ensures { OnOk result (Adds printer.old (λ s. field_line s field.now) printer.new) }
+fn add_field<'a, W: PieceWriter>(
+    printer: &mut Printer<'a, W>,
+    field: &'a FieldData,
+) -> Result<(), AllocError>
+    ensures { OnOk result (Adds W.step printer.old (λ s. field_line s field.now) printer.new) }
 {
     add_visibility(printer, &field.visibility)?;
     printer.add_if(field.is_unsafe, "unsafe ")?;
@@ -67,8 +74,11 @@ fn add_field<'a>(printer: &mut Printer<'a>, field: &'a FieldData) -> Result<(), 
     ])
 }
 
-fn add_begin(printer: &mut Printer<'_>, shape: FieldsShape) -> Result<(), AllocError>
-    ensures { OnOk result (Adds printer.old (λ s. fields_begin shape) printer.new) }
+fn add_begin<W: PieceWriter>(
+    printer: &mut Printer<'_, W>,
+    shape: FieldsShape,
+) -> Result<(), AllocError>
+    ensures { OnOk result (Adds W.step printer.old (λ s. fields_begin shape) printer.new) }
 {
     match shape {
         FieldsShape::Record => printer.add(&[Work::Text(" {"), Work::Break]),
@@ -77,8 +87,11 @@ fn add_begin(printer: &mut Printer<'_>, shape: FieldsShape) -> Result<(), AllocE
     }
 }
 
-fn add_end(printer: &mut Printer<'_>, shape: FieldsShape) -> Result<(), AllocError>
-    ensures { OnOk result (Adds printer.old (λ s. fields_end shape) printer.new) }
+fn add_end<W: PieceWriter>(
+    printer: &mut Printer<'_, W>,
+    shape: FieldsShape,
+) -> Result<(), AllocError>
+    ensures { OnOk result (Adds W.step printer.old (λ s. fields_end shape) printer.new) }
 {
     match shape {
         FieldsShape::Record => printer.add(&[Work::Text("}"), Work::Break]),
@@ -88,12 +101,12 @@ fn add_end(printer: &mut Printer<'_>, shape: FieldsShape) -> Result<(), AllocErr
 }
 
 /// Adds fields, and what is around them.
-fn add_fields<'a>(
-    printer: &mut Printer<'a>,
+fn add_fields<'a, W: PieceWriter>(
+    printer: &mut Printer<'a, W>,
     shape: FieldsShape,
     fields: &'a [FieldData],
 ) -> Result<(), AllocError>
-    ensures { OnOk result (Adds printer.old (λ s. fields_items s shape fields.now) printer.new) }
+    ensures { OnOk result (Adds W.step printer.old (λ s. fields_items s shape fields.now) printer.new) }
 {
     add_begin(printer, shape)?;
     for field in fields {
@@ -102,13 +115,13 @@ fn add_fields<'a>(
     add_end(printer, shape)
 }
 
-fn add_variant<'a>(
-    printer: &mut Printer<'a>,
+fn add_variant<'a, W: PieceWriter>(
+    printer: &mut Printer<'a, W>,
     tables: &Tables,
     owner: &VariantId,
     fields: &'a VariantFields,
 ) -> Result<(), AllocError>
-    ensures { OnOk result (Adds printer.old
+    ensures { OnOk result (Adds W.step printer.old
         (λ s. variant_items s (parents tables.now) owner.now fields.now) printer.new) }
 {
     add_variant_head(printer, tables, owner)?;

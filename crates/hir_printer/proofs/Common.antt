@@ -9,11 +9,11 @@ pub use Rattle.hir_printer.proofs.ArgsItems.{assoc_items_is}
 pub use Rattle.hir_printer.proofs.FieldLemmas.{field_step, no_fields, param_step, no_args, no_types, same_from, short_field, long_field, record_rest, record_plain}
 pub use Rattle.hir_printer.proofs.ItemsFall.{items_fall}
 pub use Rattle.hir_printer.proofs.ListLemmas.{each_step, each_ends, parts, following_joined, following_step, following_ends}
-pub use Rattle.hir_printer.proofs.NameLemmas.{parts_rendered, not_quoted, not_raw, same_printed, no_quote, quoted_static, quoted_other}
+pub use Rattle.hir_printer.proofs.NameLemmas.{parts_written, not_quoted, not_raw, same_printed, no_quote, quoted_static, quoted_other}
 pub use Rattle.hir_printer.proofs.OrderLemmas.{none_is, no_statements, without_tail, with_tail, no_arguments, some_arguments, no_elements, some_elements, rest_is, braces_behind, bounds_is, slice_is, segment_alone, segment_with, no_segments, supers_more, supers_last, filled, args_is, bound_to}
 pub use Rattle.hir_printer.proofs.PieceLemmas.{literal_pieces, name_printed, pieces_put}
 pub use Rattle.hir_printer.proofs.SignatureLemmas.{signature_is}
 pub use Rattle.hir_printer.proofs.StepLemmas.{pieces_at}
-pub use Rattle.hir_printer.proofs.TurnLemmas.{wrote_adds, kept_adds, wrote, whole_gives, first_gives, under_gives, pattern_gives, type_gives, written_then, turned_wrote, turned_gave, turn_leads, turn_less, missing_next, all_is_written, prints_text, prints_fault, prints}
+pub use Rattle.hir_printer.proofs.TurnLemmas.{wrote_adds, kept_adds, wrote, whole_gives, first_gives, under_gives, pattern_gives, type_gives, written_then, turned_wrote, turned_gave, turn_leads, turn_less, missing_next, all_is_written, writes_all, writes_fault, prints_text, prints_fault, prints}
 pub use Rattle.hir_printer.proofs.WeightLemmas.{literal_heft, name_heft}
 pub use Rattle.hir_printer.proofs.WorksLemmas.{kept_more, waiting_still}

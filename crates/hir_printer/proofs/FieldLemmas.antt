@@ -3,14 +3,15 @@ use Rattle.std.proofs.Common.{◌≡◌, ℕ, ◌+◌, ◌<◌, ◌≤◌, Bool,
 use Rattle.hir_path.specs.declared.path.Path.{Path}
 use Rattle.hir_node.specs.declared.pat.Pat.TheVariants as pat
 use Rattle.hir_node.specs.declared.pat.RecordFieldPat.{RecordFieldPat}
+use Rattle.hir_page.specs.Pieces.{Piece}
 use Rattle.hir_printer.specs.Prelude.{Setting, Item, text, br, into, out, p, t, opt, when, name_items, is_short, field_pattern, after_last, field_patterns, pat_items, path_items, params, Printing, AddsItems, following}
 use Rattle.std.proofs.lemmas.List.{drop_all}
 use Rattle.hir_printer.proofs.ListLemmas.{drop_item, is_cons}
 use Rattle.hir_printer.proofs.OrderLemmas.{not_empty}
 
 -- what is printed from stays
-pub same_from : {old new : Printing} {items : Setting → List Item} → AddsItems old items new → new.from ≡ old.from
-same_from a = ap (λ (p : Printing). p.from) a.same
+pub same_from : {W : Type 0} {step : Piece → W → W} {old new : Printing step} {items : Setting → List Item} → AddsItems old items new → new.from ≡ old.from
+same_from {step = step} a = ap (λ (p : Printing step). p.from) a.same
 
 pub short_field : (s : Setting) (f : RecordFieldPat) → is_short s f.name (slice_get s.nodes.pats f.pat) ≡ true → name_items s f.name ≡ field_pattern s f
 short_field s f h = sym (ap (λ b. name_items s f.name ++ when (not b) (text (codes ": ") ++ p f.pat)) h ∙ append-nil (name_items s f.name))

@@ -1,7 +1,7 @@
 -- Names by their parts.
 use Rattle.std.proofs.Common.{◌≡◌, ◌≢◌, ℕ, Bool, true, false, List, [], ◌∷◌, ◌++◌, map, codes, refl, sym, ap, ap₂, ◌∙◌, append-nil, ◌==◌, ◌&&◌, if◌then◌else◌, nat_eq, flat_map}
-use Rattle.hir_page.specs.Page.{Page, put_all, all_rendered}
-use Rattle.hir_page.specs.Pieces.{Text}
+use Rattle.hir_page.specs.Pieces.{Piece, Text}
+use Rattle.hir_page.specs.Steps.{steps}
 use Rattle.std.specs.Cmp.Lexicographic.{bytes_decides}
 use Rattle.std.proofs.lemmas.Bool.Decides.{Decides-eqb}
 use Rattle.hir_printer.specs.Prelude.{is_word, raw_parts, name_parts, behind, printed_name, same_text}
@@ -33,12 +33,12 @@ plain_word words name e = ap (λ b. if b then codes "r#" ∷ name ∷ [] else na
 -- 2. Parts as they were found
 
 -- what is written of them, one text after another
-pub parts_rendered : (q r : Bool) (name : List ℕ) (page : Page)
-    → put_all name (all_rendered (map Text (behind r (codes "r#") [])) (all_rendered (map Text (behind q (codes "'") [])) page)) ≡ all_rendered (map Text (behind q (codes "'") (behind r (codes "r#") (name ∷ [])))) page
-parts_rendered true true name page = refl
-parts_rendered true false name page = refl
-parts_rendered false true name page = refl
-parts_rendered false false name page = refl
+pub parts_written : {W : Type 0} (step : Piece → W → W) (q r : Bool) (name : List ℕ) (value : W)
+    → step (Text name) (steps step (map Text (behind r (codes "r#") [])) (steps step (map Text (behind q (codes "'") [])) value)) ≡ steps step (map Text (behind q (codes "'") (behind r (codes "r#") (name ∷ [])))) value
+parts_written step true true name value = refl
+parts_written step true false name value = refl
+parts_written step false true name value = refl
+parts_written step false false name value = refl
 
 -- as one text
 pub parts_text : (q r : Bool) (name : List ℕ) → flat_map (λ part. part) (behind q (codes "'") (behind r (codes "r#") (name ∷ []))) ≡ (if q then codes "'" else []) ++ ((if r then codes "r#" else []) ++ name)

@@ -1,12 +1,12 @@
--- Items that are pieces, and what printing makes of a page with them.
+-- Items that are pieces, and what printing makes of a value with them.
 use Rattle.std.proofs.Common.{◌≡◌, ℕ, Bool, true, false, List, [], ◌∷◌, ◌++◌, map, codes, Some, None, refl, sym, ap, ◌∙◌, append-nil, flat_map}
 use Rattle.std.proofs.lemmas.List.Concat.{flat_map-append}
 use Rattle.hir_node.specs.declared.literal.Literal.{Literal}
 use Rattle.hir_node.specs.declared.literal.Literal.TheVariants as literal
 use Rattle.hir_node.specs.declared.node_id.NodeId.TheVariants as node
 use Rattle.hir_printer.specs.Prelude.{Missing, Setting, Item, Put, Lacks, Whole, Under, Pattern, TypeItem, text, name_parts, name_items, literal_items, put_pieces, NodePiece, Layout, Absent, items_of, item_pieces, pieces, item_list_pieces, with_parentheses, first_missing, layout, ItemsFall, enclose, printing, Leads}
-use Rattle.hir_page.specs.Page.{Page, render, all_rendered}
 use Rattle.hir_page.specs.Pieces.{Piece, Text}
+use Rattle.hir_page.specs.Steps.{steps}
 use Rattle.hir_page.specs.Literals.{string_literal, char_literal, bytes_literal, c_string_literal}
 use Rattle.hir_printer.proofs.StepLemmas.{pieces_at}
 
@@ -74,35 +74,37 @@ enclosed_printed s fall true id =
     ap (λ ps. Layout (Text (codes "(")) ∷ ps) (printed-append s (items_of s (node.Expr id)) (text (codes ")")) ∙ ap (λ ps. ps ++ close) (sym (pieces_at s fall (node.Expr id))))
     ∙ sym (append-nil (Layout (Text (codes "(")) ∷ (pieces s (node.Expr id) ++ close)))
 
--- 2. A page
+-- 2. A value
 
-pub printing_pieces : (page : Page) (ps : List Piece) (rest : List NodePiece) → printing page (map Layout ps ++ rest) ≡ printing (all_rendered ps page) rest
-unfolding printing
-printing_pieces page [] rest = refl
-printing_pieces page (p ∷ ps) rest = printing_pieces (render p page) ps rest
+module _ {W : Type 0} (step : Piece → W → W) where
+  pub printing_pieces : (value : W) (ps : List Piece) (rest : List NodePiece) → printing step value (map Layout ps ++ rest) ≡ printing step (steps step ps value) rest
+  unfolding printing
+  printing_pieces value [] rest = refl
+  printing_pieces value (p ∷ ps) rest = printing_pieces (step p value) ps rest
 
-pub pieces_lead : {s : Setting} {page new : Page} {is : List Item} (ps : List Piece) → item_list_pieces s is ≡ map Layout ps → new ≡ all_rendered ps page → Leads s page is new []
-pieces_lead {s} {page} {new} {is} ps e f = record {
-  leads = λ more. ap (printing page) (printed-append s is more ∙ ap (λ qs. qs ++ item_list_pieces s more) e) ∙ printing_pieces page ps (item_list_pieces s more) ∙ ap (λ p. printing p (item_list_pieces s more)) (sym f);
+  -- the first that is missing is told
+  pub missing_is : (value : W) (ps : List NodePiece) → (printing step value ps).1 ≡ first_missing ps
+  unfolding printing
+  missing_is value [] = refl
+  missing_is value (Layout piece ∷ ps) = missing_is (step piece value) ps
+  missing_is value (Absent missing ∷ ps) = refl
+
+  pub value_of_pieces : (value : W) (ps : List NodePiece) → first_missing ps ≡ None → (printing step value ps).0 ≡ steps step (layout ps) value
+  unfolding printing
+  value_of_pieces value [] e = refl
+  value_of_pieces value (Layout piece ∷ ps) e = value_of_pieces (step piece value) ps e
+  value_of_pieces value (Absent missing ∷ ps) e = absurd (cc)
+
+  pub nothing_left : (value : W) → printing step value [] ≡ (value, None)
+  unfolding printing
+  nothing_left value = refl
+
+  pub is_missing : (value : W) (missing : Missing) (ps : List NodePiece) → (printing step value (Absent missing ∷ ps)).1 ≡ Some missing
+  unfolding printing
+  is_missing value missing ps = refl
+
+pub pieces_lead : {W : Type 0} {step : Piece → W → W} {s : Setting} {value new : W} {is : List Item} (ps : List Piece) → item_list_pieces s is ≡ map Layout ps → new ≡ steps step ps value
+    → Leads step s value is new []
+pieces_lead {step = step} {s} {value} {new} {is} ps e f = record {
+  leads = λ more. ap (printing step value) (printed-append s is more ∙ ap (λ qs. qs ++ item_list_pieces s more) e) ∙ printing_pieces step value ps (item_list_pieces s more) ∙ ap (λ v. printing step v (item_list_pieces s more)) (sym f);
 }
-
--- the first that is missing is told
-pub missing_is : (page : Page) (ps : List NodePiece) → (printing page ps).1 ≡ first_missing ps
-unfolding printing
-missing_is page [] = refl
-missing_is page (Layout piece ∷ ps) = missing_is (render piece page) ps
-missing_is page (Absent missing ∷ ps) = refl
-
-pub page_of_pieces : (page : Page) (ps : List NodePiece) → first_missing ps ≡ None → (printing page ps).0 ≡ all_rendered (layout ps) page
-unfolding printing
-page_of_pieces page [] e = refl
-page_of_pieces page (Layout piece ∷ ps) e = page_of_pieces (render piece page) ps e
-page_of_pieces page (Absent missing ∷ ps) e = absurd (cc)
-
-pub nothing_left : (page : Page) → printing page [] ≡ (page, None)
-unfolding printing
-nothing_left page = refl
-
-pub is_missing : (page : Page) (missing : Missing) (ps : List NodePiece) → (printing page (Absent missing ∷ ps)).1 ≡ Some missing
-unfolding printing
-is_missing page missing ps = refl

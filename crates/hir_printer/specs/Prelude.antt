@@ -14,10 +14,10 @@ pub use Rattle.hir_printer.specs.Pieces.{NodePiece, Layout, Absent, items_of, is
 unfoldable pub use Rattle.hir_printer.specs.Pieces.{pieces}
 pub use Rattle.hir_printer.specs.Falls.{AllNodes, ItemsFall}
 pub use Rattle.hir_printer.specs.Settings.{setting}
-pub use Rattle.hir_printer.specs.PrintAnswers.{PrintsPieces}
+pub use Rattle.hir_printer.specs.PrintAnswers.{PrintsPieces, WritesPieces}
 pub use Rattle.hir_printer.specs.Weights.{total, item_weight, weight_step, heft}
 unfoldable pub use Rattle.hir_printer.specs.Weights.{weight}
-pub use Rattle.hir_printer.specs.Printing.{Printing, printing_of, on_page}
+pub use Rattle.hir_printer.specs.Printing.{Printing, printing_of, begun, on_page}
 pub use Rattle.hir_printer.specs.Printers.{ending_items, exprs_items, stands_for, is_node, items_of_works, stood_after, items_one_by_one, following, enclose, Wrote, Adds, AddsWorks, GaveWay, Turns, AddsItems, AddsList, GaveWayTo, Leads, TurnedBy, WroteWork}
 unfoldable pub use Rattle.hir_printer.specs.Printers.{printing}
 pub use Rattle.hir_printer.specs.Answers.{found_or, answers}

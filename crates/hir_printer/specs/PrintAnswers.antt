@@ -4,10 +4,18 @@ use Rattle.hir_expr_store.specs.declared.missing.Missing.{Missing}
 use Rattle.hir_printer.specs.declared.fault.PrintFault.{PrintFault}
 use Rattle.hir_printer.specs.declared.fault.PrintFault.TheVariants as fault
 use Rattle.hir_printer.specs.Questions.{Setting}
-use Rattle.hir_printer.specs.Pieces.{NodePiece, first_missing, text_of}
+use Rattle.hir_page.specs.Pieces.{Piece}
+use Rattle.hir_page.specs.Steps.{steps}
+use Rattle.hir_printer.specs.Pieces.{NodePiece, first_missing, layout, text_of}
 
 -- The text of pieces of which no definition is missing; the first definition that is missing; or that memory was refused.
 pub record PrintsPieces {A : Type 0} (s : Setting) (ps : List NodePiece)
     (result : Result (String A) PrintFault) : Type 0 where
   pub text : IfOk result (λ text. (first_missing ps ≡ None) × (string_bytes text ≡ text_of s ps))
+  pub missing : (m : Missing) → result ≡ Err (fault.Missing m) → first_missing ps ≡ Some m
+
+-- The steps over pieces of which no definition is missing lead from the first value to the last; the first definition that is missing; or that memory was refused.
+pub record WritesPieces {W : Type 0} (step : Piece → W → W) (ps : List NodePiece) (entry : W)
+    (result : Result W PrintFault) : Type 0 where
+  pub exit : IfOk result (λ exit. (first_missing ps ≡ None) × (exit ≡ steps step (layout ps) entry))
   pub missing : (m : Missing) → result ≡ Err (fault.Missing m) → first_missing ps ≡ Some m

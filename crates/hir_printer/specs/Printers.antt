@@ -1,7 +1,7 @@
 -- What works stand for, and what becomes of them.
 use Rattle.std.specs.Prelude.{◌≡◌, ◌<◌, ◌≤◌, ℕ, Bool, true, false, List, [], ◌∷◌, ◌++◌, Option, Some, None, codes, flat_map, decimal}
 use Rattle.hir_expr_store.specs.declared.missing.Missing.{Missing}
-use Rattle.hir_page.specs.Page.{Page, render}
+use Rattle.hir_page.specs.Pieces.{Piece}
 use Rattle.hir_printer.specs.declared.work.Work.{Work}
 use Rattle.hir_printer.specs.declared.work.Ending.{Ending}
 use Rattle.hir_printer.specs.declared.work.Ending.TheVariants as ending
@@ -76,60 +76,63 @@ following separator after (x ∷ xs) = when after separator ++ x ++ following se
 abbrev pub enclose : Bool → List Item → List Item
 enclose b is = when b (text (codes "(")) ++ is ++ when b (text (codes ")"))
 
--- What printing makes of a page: the page after the pieces before the first definition that is missing, and that definition.
-unfoldable pub printing : Page → List NodePiece → Page × Option Missing
-printing page [] = (page, None)
-printing page (Layout piece ∷ ps) = printing (render piece page) ps
-printing page (Absent missing ∷ ps) = (page, Some missing)
+-- What printing makes of a value: the value after the steps of the pieces before the first definition that is missing, and that definition.
+unfoldable pub printing : {W : Type 0} → (Piece → W → W) → W → List NodePiece → W × Option Missing
+printing step value [] = (value, None)
+printing step value (Layout piece ∷ ps) = printing step (step piece value) ps
+printing step value (Absent missing ∷ ps) = (value, Some missing)
 
--- To print the first items on the first page comes to the same as the second on the second, whatever is printed behind them.
-pub record Leads (s : Setting) (first : Page) (is : List Item) (second : Page) (js : List Item) : Type 0 where
-  pub leads : (more : List Item) → printing first (item_list_pieces s (is ++ more))
-      ≡ printing second (item_list_pieces s (js ++ more))
+-- To print the first items on the first value comes to the same as the second on the second, whatever is printed behind them.
+pub record Leads {W : Type 0} (step : Piece → W → W) (s : Setting) (first : W) (is : List Item) (second : W)
+    (js : List Item) : Type 0 where
+  pub leads : (more : List Item) → printing step first (item_list_pieces s (is ++ more))
+      ≡ printing step second (item_list_pieces s (js ++ more))
 
 -- A printer after a work was written, which is something.
-pub record WroteWork (w : Work) (old new : Printing) : Type 0 where
-  pub same : new ≡ record old { page = new.page }
-  pub leads : Leads old.from old.page (stands_for old.from w) new.page []
+pub record WroteWork {W : Type 0} {step : Piece → W → W} (w : Work) (old new : Printing step) : Type 0 where
+  pub same : new ≡ record old { value = new.value }
+  pub leads : Leads step old.from old.value (stands_for old.from w) new.value []
   pub some : 0 < heft old.from (stands_for old.from w)
 
 -- A printer after items were added: they were written, or are kept behind those that were.
-pub record AddsItems (old : Printing) (items : Setting → List Item) (new : Printing) : Type 0 where
-  pub same : new ≡ record old { kept = new.kept; page = new.page }
-  pub leads : Leads old.from old.page (items_of_works old.from old.kept ++ items old.from) new.page
+pub record AddsItems {W : Type 0} {step : Piece → W → W} (old : Printing step) (items : Setting → List Item)
+    (new : Printing step) : Type 0 where
+  pub same : new ≡ record old { kept = new.kept; value = new.value }
+  pub leads : Leads step old.from old.value (items_of_works old.from old.kept ++ items old.from) new.value
       (items_of_works old.from new.kept)
   pub less : heft old.from (items_of_works old.from new.kept)
       ≤ heft old.from (items_of_works old.from old.kept ++ items old.from)
 
 -- The same of works.
-pub record AddsList (old : Printing) (works : List Work) (new : Printing) : Type 0 where
+pub record AddsList {W : Type 0} {step : Piece → W → W} (old : Printing step) (works : List Work)
+    (new : Printing step) : Type 0 where
   pub adds : AddsItems old (λ s. items_one_by_one s works) new
 
 -- A printer after a node gave way to what is kept, which is less.
-pub record GaveWayTo (w : Work) (old new : Printing) : Type 0 where
-  pub same : new ≡ record old { kept = new.kept; page = new.page }
-  pub leads : Leads old.from old.page (stands_for old.from w) new.page (items_of_works old.from new.kept)
+pub record GaveWayTo {W : Type 0} {step : Piece → W → W} (w : Work) (old new : Printing step) : Type 0 where
+  pub same : new ≡ record old { kept = new.kept; value = new.value }
+  pub leads : Leads step old.from old.value (stands_for old.from w) new.value (items_of_works old.from new.kept)
   pub less : heft old.from (items_of_works old.from new.kept) < heft old.from (stands_for old.from w)
 
 -- A turn: a work was written, or gave way to works that wait before all others, and less is to be done.
-pub record TurnedBy (w : Work) (old new : Printing) : Type 0 where
+pub record TurnedBy {W : Type 0} {step : Piece → W → W} (w : Work) (old new : Printing step) : Type 0 where
   pub way : List Work
-  pub same : new ≡ record old { waiting = way ++ old.waiting; page = new.page }
-  pub leads : Leads old.from old.page (stands_for old.from w) new.page (items_of_works old.from way)
+  pub same : new ≡ record old { waiting = way ++ old.waiting; value = new.value }
+  pub leads : Leads step old.from old.value (stands_for old.from w) new.value (items_of_works old.from way)
   pub less : heft old.from (items_of_works old.from way) < heft old.from (stands_for old.from w)
 
 -- the same of printers
-abbrev pub Wrote : Work → Printer → Printer → Type 0
-Wrote w old new = WroteWork w (printing_of old) (printing_of new)
+abbrev pub Wrote : {W : Type 0} → (Piece → W → W) → Work → Printer W → Printer W → Type 0
+Wrote step w old new = WroteWork w (printing_of step old) (printing_of step new)
 
-abbrev pub Adds : Printer → (Setting → List Item) → Printer → Type 0
-Adds old items new = AddsItems (printing_of old) items (printing_of new)
+abbrev pub Adds : {W : Type 0} → (Piece → W → W) → Printer W → (Setting → List Item) → Printer W → Type 0
+Adds step old items new = AddsItems (printing_of step old) items (printing_of step new)
 
-abbrev pub AddsWorks : Printer → List Work → Printer → Type 0
-AddsWorks old works new = AddsList (printing_of old) works (printing_of new)
+abbrev pub AddsWorks : {W : Type 0} → (Piece → W → W) → Printer W → List Work → Printer W → Type 0
+AddsWorks step old works new = AddsList (printing_of step old) works (printing_of step new)
 
-abbrev pub GaveWay : Work → Printer → Printer → Type 0
-GaveWay w old new = GaveWayTo w (printing_of old) (printing_of new)
+abbrev pub GaveWay : {W : Type 0} → (Piece → W → W) → Work → Printer W → Printer W → Type 0
+GaveWay step w old new = GaveWayTo w (printing_of step old) (printing_of step new)
 
-abbrev pub Turns : Work → Printer → Printer → Type 0
-Turns w old new = TurnedBy w (printing_of old) (printing_of new)
+abbrev pub Turns : {W : Type 0} → (Piece → W → W) → Work → Printer W → Printer W → Type 0
+Turns step w old new = TurnedBy w (printing_of step old) (printing_of step new)

@@ -1,8 +1,8 @@
 //! What is added to a printer: it is written at once, or kept.
 
-ghost use Rattle.std.specs.Prelude.{◌≡◌, ◌≤◌, length, ◌∷◌, [], ◌++◌, false, IfSome, None, OnOk, string_bytes};
-ghost use Rattle.hir_printer.specs.Prelude.{words_of, text, when, with_number, setting, answers, format_of, on_page, printing_of, is_node, Adds, AddsWorks, Wrote, stands_for};
-ghost use Rattle.hir_page.specs.Page.{page_text};
+ghost use Rattle.std.specs.Prelude.{◌≡◌, ◌≤◌, length, ◌∷◌, [], ◌++◌, false, IfSome, None, OnOk};
+ghost use Rattle.hir_printer.specs.Prelude.{words_of, text, when, with_number, setting, answers, format_of, begun, on_page, printing_of, is_node, Adds, AddsWorks, Wrote, stands_for};
+ghost use Rattle.hir_page.specs.Page.{render};
 
 use crate::literals::write_literal;
 use crate::names::write_name;
@@ -10,7 +10,7 @@ use crate::{Printer, Work};
 use hir_base::{Edition, Text};
 use hir_defs::Tables;
 use hir_expr_store::ExpressionStore;
-use hir_page::{LineFormat, PageBuffer, write_number};
+use hir_page::{LineFormat, PageBuffer, PieceWriter, write_number};
 use std::alloc::{AllocError, Global};
 
 fn line_format(one_line: bool) -> LineFormat
@@ -39,24 +39,43 @@ fn copy_of<T: Copy>(item: &T) -> T
     *item
 }
 
-impl<'a> Printer<'a> {
-    /// A printer from a store and tables, with the words of an edition, to which nothing was added. It allocates from `alloc`, and nothing now.
+impl<'a> Printer<'a, PageBuffer> {
+    /// A printer onto an empty page. It allocates from `alloc`, and nothing now.
     pub fn new(
         alloc: Global,
         store: &'a ExpressionStore,
         tables: &'a Tables,
         edition: Edition,
         one_line: bool,
-    ) -> Printer<'a>
-        ensures { printing_of result ≡ on_page
+    ) -> Printer<'a, PageBuffer>
+        ensures { printing_of render result ≡ on_page
             (setting store.now (answers tables.now) (words_of tables.now.words edition) one_line) }
+    {
+        let page = PageBuffer::new(alloc, line_format(one_line));
+        Printer::over(alloc, page, store, tables, edition, one_line)
+    }
+}
+
+impl<'a, W: PieceWriter> Printer<'a, W> {
+    /// A printer that writes to this, from a store and tables, with the words of an edition, to which nothing was added. `one_line` says
+    /// that all is written in one line, where there are pieces for lines alone. It allocates from `alloc`, and nothing now.
+    pub fn over(
+        alloc: Global,
+        writer: W,
+        store: &'a ExpressionStore,
+        tables: &'a Tables,
+        edition: Edition,
+        one_line: bool,
+    ) -> Printer<'a, W>
+        ensures { printing_of W.step result ≡ begun
+            (setting store.now (answers tables.now) (words_of tables.now.words edition) one_line) writer }
     {
         Printer {
             store,
             tables,
             words: tables.raw_words(edition),
             one_line,
-            page: PageBuffer::new(alloc, line_format(one_line)),
+            writer,
             works: Vec::new(alloc),
             waiting: 0,
         }
@@ -65,28 +84,25 @@ impl<'a> Printer<'a> {
     /// Writes a work that is text or layout.
     pub(crate) fn write_work(&mut self, work: &Work<'a>) -> Result<(), AllocError>
         requires { is_node work.now ≡ false }
-        ensures { OnOk result (Wrote work.now self.old self.new) }
+        ensures { OnOk result (Wrote W.step work.now self.old self.new) }
     {
         match work {
-            Work::Text(text) => self.page.text(*text),
-            Work::Space => self.page.soft_space(),
-            Work::Break => self.page.line_break(),
-            Work::Indent => self.page.indent(),
-            Work::Outdent => {
-                self.page.outdent();
-                Ok(())
-            }
-            Work::Number(number) => write_number(&mut self.page, *number),
-            Work::Literal(literal) => write_literal(&mut self.page, *literal),
-            Work::Name(name) => write_name(&mut self.page, self.words, *name),
+            Work::Text(text) => self.writer.text(*text),
+            Work::Space => self.writer.soft_space(),
+            Work::Break => self.writer.line_break(),
+            Work::Indent => self.writer.indent(),
+            Work::Outdent => self.writer.outdent(),
+            Work::Number(number) => write_number(&mut self.writer, *number),
+            Work::Literal(literal) => write_literal(&mut self.writer, *literal),
+            Work::Name(name) => write_name(&mut self.writer, self.words, *name),
             _ => unreachable!(),
         }
     }
 
     /// Keeps a work behind those that were kept in this turn.
     fn keep(&mut self, work: &Work<'a>) -> Result<(), AllocError>
-        ensures { OnOk result (printing_of self.new
-            ≡ record (printing_of self.old) { kept = (printing_of self.old).kept ++ (work.now ∷ []) }) }
+        ensures { OnOk result (printing_of W.step self.new
+            ≡ record (printing_of W.step self.old) { kept = (printing_of W.step self.old).kept ++ (work.now ∷ []) }) }
     {
         push_copy(&mut self.works, work)
     }
@@ -96,7 +112,7 @@ impl<'a> Printer<'a> {
     // memory. That takes six hundredths of the instructions of a run that prints away, and five of one with all questions.
     #[inline(always)]
     fn add_work(&mut self, work: &Work<'a>) -> Result<(), AllocError>
-        ensures { OnOk result (Adds self.old (λ s. stands_for s work.now) self.new) }
+        ensures { OnOk result (Adds W.step self.old (λ s. stands_for s work.now) self.new) }
     {
         if self.works.len() > self.waiting || work.is_node() {
             return self.keep(work);
@@ -108,7 +124,7 @@ impl<'a> Printer<'a> {
 
     /// Makes room for so many works.
     pub(crate) fn reserve(&mut self, works: usize) -> Result<(), AllocError>
-        ensures { OnOk result (printing_of self.new ≡ printing_of self.old) }
+        ensures { OnOk result (printing_of W.step self.new ≡ printing_of W.step self.old) }
     {
         self.works.reserve(works)?;
         Ok(())
@@ -117,7 +133,7 @@ impl<'a> Printer<'a> {
     /// Adds works.
     #[inline(always)]
     pub fn add(&mut self, works: &[Work<'a>]) -> Result<(), AllocError>
-        ensures { OnOk result (AddsWorks self.old works.now self.new) }
+        ensures { OnOk result (AddsWorks W.step self.old works.now self.new) }
     {
         for work in works {
             self.add_work(work)?;
@@ -127,7 +143,7 @@ impl<'a> Printer<'a> {
 
     /// Adds a text, where the condition holds.
     pub fn add_if(&mut self, holds: bool, shown: &'a str) -> Result<(), AllocError>
-        ensures { OnOk result (Adds self.old (λ s. when holds (text shown.now)) self.new) }
+        ensures { OnOk result (Adds W.step self.old (λ s. when holds (text shown.now)) self.new) }
     {
         if holds {
             return self.add(&[Work::Text(shown)]);
@@ -138,7 +154,7 @@ impl<'a> Printer<'a> {
     /// Adds the kind of an id and its number, as `ExprId(3)`.
     #[tactic(auto, using(crate::proofs::AddLemmas::adding))]
     pub fn add_numbered(&mut self, kind: &'a str, number: u32) -> Result<(), AllocError>
-        ensures { OnOk result (Adds self.old (λ s. with_number kind.now number) self.new) }
+        ensures { OnOk result (Adds W.step self.old (λ s. with_number kind.now number) self.new) }
     {
         self.add(&[
             Work::Text(kind),
@@ -150,8 +166,8 @@ impl<'a> Printer<'a> {
 
     /// Lets what was kept in this turn wait, before all that waits.
     pub(crate) fn end_turn(&mut self)
-        ensures { let old = printing_of self.old in
-            printing_of self.new ≡ record old { kept = []; waiting = old.kept ++ old.waiting } }
+        ensures { let old = printing_of W.step self.old in
+            printing_of W.step self.new ≡ record old { kept = []; waiting = old.kept ++ old.waiting } }
     {
         self.works[self.waiting..].reverse();
         self.waiting = self.works.len();
@@ -159,32 +175,32 @@ impl<'a> Printer<'a> {
 
     /// Begins a turn: the next that waits, where something does.
     pub(crate) fn begin_turn(&mut self) -> Option<Work<'a>>
-        requires { (printing_of self.old).kept ≡ [] }
-        ensures next { IfSome result (λ work. ((printing_of self.old).waiting
-            ≡ work ∷ (printing_of self.new).waiting)
-            × (printing_of self.new ≡ record (printing_of self.old)
-            { waiting = (printing_of self.new).waiting })) }
-        ensures over { result ≡ None → ((printing_of self.old).waiting ≡ [])
-            × (self.new.page ≡ self.old.page) }
+        requires { (printing_of W.step self.old).kept ≡ [] }
+        ensures next { IfSome result (λ work. ((printing_of W.step self.old).waiting
+            ≡ work ∷ (printing_of W.step self.new).waiting)
+            × (printing_of W.step self.new ≡ record (printing_of W.step self.old)
+            { waiting = (printing_of W.step self.new).waiting })) }
+        ensures over { result ≡ None → ((printing_of W.step self.old).waiting ≡ [])
+            × (self.new.writer ≡ self.old.writer) }
     {
         let work = self.works.pop();
         self.waiting = self.works.len();
         work
     }
 
-    /// The text that was written.
-    pub(crate) fn into_text(self) -> String
-        ensures { string_bytes result ≡ page_text self.entry.page }
+    /// What was written to.
+    pub(crate) fn into_writer(self) -> W
+        ensures { result ≡ self.entry.writer }
     {
         let Printer {
             store: _,
             tables: _,
             words: _,
             one_line: _,
-            page,
+            writer,
             works: _,
             waiting: _,
         } = self;
-        page.into_text()
+        writer
     }
 }

@@ -6,12 +6,16 @@ ghost use Rattle.hir_printer.specs.Prelude.{text, arm_items, field_items, statem
 
 use crate::{Part, Printer, Work};
 use hir_node::{ExprId, MatchArm, RecordLitField, Statement};
+use hir_page::PieceWriter;
 use std::alloc::AllocError;
 
 impl Part for MatchArm {
     ghost items = { λ s arm. arm_items arm };
 
-    fn add_to<'a>(&'a self, printer: &mut Printer<'a>) -> Result<(), AllocError> {
+    fn add_to<'a, W: PieceWriter>(
+        &'a self,
+        printer: &mut Printer<'a, W>,
+    ) -> Result<(), AllocError> {
         printer.add(&[Work::Pattern(self.pat)])?;
         printer.add_after(" if ", &self.guard)?;
         printer.add(&[
@@ -26,7 +30,10 @@ impl Part for MatchArm {
 impl Part for RecordLitField {
     ghost items = { field_items };
 
-    fn add_to<'a>(&'a self, printer: &mut Printer<'a>) -> Result<(), AllocError> {
+    fn add_to<'a, W: PieceWriter>(
+        &'a self,
+        printer: &mut Printer<'a, W>,
+    ) -> Result<(), AllocError> {
         printer.add(&[
             Work::Name(self.name.as_str()),
             Work::Text(": "),
@@ -40,7 +47,10 @@ impl Part for RecordLitField {
 impl Part for Statement {
     ghost items = { λ s statement. statement_items statement };
 
-    fn add_to<'a>(&'a self, printer: &mut Printer<'a>) -> Result<(), AllocError> {
+    fn add_to<'a, W: PieceWriter>(
+        &'a self,
+        printer: &mut Printer<'a, W>,
+    ) -> Result<(), AllocError> {
         match self {
             Statement::Let {
                 pat,
@@ -64,14 +74,14 @@ impl Part for Statement {
     }
 }
 
-impl<'a> Printer<'a> {
+impl<'a, W: PieceWriter> Printer<'a, W> {
     /// Adds the braces of a block, and what is between them.
     pub(crate) fn add_braces(
         &mut self,
         statements: &'a [Statement],
         tail: Option<ExprId>,
     ) -> Result<(), AllocError>
-        ensures { OnOk result (Adds self.old
+        ensures { OnOk result (Adds W.step self.old
             (λ s. text (codes "{") ++ inside_block statements.now tail ++ text (codes "}")) self.new) }
     {
         let is_bare = statements.is_empty() & tail.is_none();

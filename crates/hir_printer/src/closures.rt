@@ -9,6 +9,7 @@ ghost use Rattle.hir_printer.specs.Prelude.{comma_joined, coroutine_keyword, mov
 use crate::{Printer, Work};
 use hir_expr_store::ExpressionStore;
 use hir_node::{CaptureBy, ClosureKind, CoroutineKind, Expr, ExprId, Movability, PatId, TypeRefId};
+use hir_page::PieceWriter;
 use std::alloc::AllocError;
 
 fn coroutine_keyword(kind: CoroutineKind) -> &'static str
@@ -85,14 +86,14 @@ fn printed_body(store: &ExpressionStore, kind: ClosureKind, body: ExprId) -> Exp
     }
 }
 
-impl<'a> Printer<'a> {
+impl<'a, W: PieceWriter> Printer<'a, W> {
     /// Adds parameters with their types, as many as both lists have.
     fn add_params(
         &mut self,
         args: &'a [PatId],
         types: &'a [Option<TypeRefId>],
     ) -> Result<(), AllocError>
-        ensures { OnOk result (Adds self.old (λ s. comma_joined (params args.now types.now)) self.new) }
+        ensures { OnOk result (Adds W.step self.old (λ s. comma_joined (params args.now types.now)) self.new) }
     {
         let mut types = types;
         let mut after = false;
@@ -115,7 +116,7 @@ impl<'a> Printer<'a> {
         types: &'a [Option<TypeRefId>],
         ret: &'a Option<TypeRefId>,
     ) -> Result<(), AllocError>
-        ensures { OnOk result (Adds self.old
+        ensures { OnOk result (Adds W.step self.old
             (λ s. header kinds.Closure (params args.now types.now) ret.now) self.new) }
     {
         self.add(&[Work::Text("|")])?;
@@ -133,7 +134,7 @@ impl<'a> Printer<'a> {
         types: &'a [Option<TypeRefId>],
         ret: &'a Option<TypeRefId>,
     ) -> Result<(), AllocError>
-        ensures { OnOk result (Adds self.old
+        ensures { OnOk result (Adds W.step self.old
             (λ s. header kind (params args.now types.now) ret.now) self.new) }
     {
         match kind {
@@ -154,7 +155,7 @@ impl<'a> Printer<'a> {
         kind: ClosureKind,
         capture: CaptureBy,
     ) -> Result<(), AllocError>
-        ensures { OnOk result (Adds self.old (λ s. expr_items s
+        ensures { OnOk result (Adds W.step self.old (λ s. expr_items s
             (of_expr.Closure args.now arg_types.now ret_type.now body kind capture)) self.new) }
     {
         self.add(&[

@@ -11,6 +11,7 @@ use hir_node::{
     Array, Boxed, Expr, ExprId, GenericArgs, LabelId, MatchArm, Path, Rawness, RecordLitField,
     RecordSpread, Unsafe,
 };
+use hir_page::PieceWriter;
 use std::alloc::AllocError;
 
 fn raw_keyword(rawness: Rawness) -> &'static str
@@ -32,10 +33,10 @@ fn operator_text(op: Option<BinaryOp>) -> &'static str
     }
 }
 
-impl<'a> Printer<'a> {
+impl<'a, W: PieceWriter> Printer<'a, W> {
     /// Adds what stands behind a keyword such as `return`.
     fn add_operand(&mut self, expr: Option<ExprId>) -> Result<(), AllocError>
-        ensures { OnOk result (Adds self.old (λ s. operand expr) self.new) }
+        ensures { OnOk result (Adds W.step self.old (λ s. operand expr) self.new) }
     {
         match expr {
             None => Ok(()),
@@ -44,14 +45,14 @@ impl<'a> Printer<'a> {
     }
 
     fn add_keyword(&mut self, keyword: &'a str, expr: Option<ExprId>) -> Result<(), AllocError>
-        ensures { OnOk result (Adds self.old (λ s. text keyword.now ++ operand expr) self.new) }
+        ensures { OnOk result (Adds W.step self.old (λ s. text keyword.now ++ operand expr) self.new) }
     {
         self.add(&[Work::Text(keyword)])?;
         self.add_operand(expr)
     }
 
     fn add_ending(&mut self, ending: Ending) -> Result<(), AllocError>
-        ensures { OnOk result (Adds self.old (λ s. ending_items ending) self.new) }
+        ensures { OnOk result (Adds W.step self.old (λ s. ending_items ending) self.new) }
     {
         match ending {
             Ending::Comma => self.add(&[Work::Text(", ")]),
@@ -61,7 +62,7 @@ impl<'a> Printer<'a> {
 
     /// Adds expressions, each with its ending. They wait together, so that a list takes no more memory than one expression.
     fn add_exprs(&mut self, ending: Ending, exprs: &'a [ExprId]) -> Result<(), AllocError>
-        ensures { OnOk result (Adds self.old (λ s. exprs_items ending exprs.now) self.new) }
+        ensures { OnOk result (Adds W.step self.old (λ s. exprs_items ending exprs.now) self.new) }
     {
         match exprs {
             [] => Ok(()),
@@ -75,7 +76,7 @@ impl<'a> Printer<'a> {
         ending: Ending,
         others: &'a [ExprId],
     ) -> Result<(), AllocError>
-        ensures { OnOk result (Adds self.old
+        ensures { OnOk result (Adds W.step self.old
             (λ s. ending_items ending ++ exprs_items ending others.now) self.new) }
     {
         self.add_ending(ending)?;
@@ -84,7 +85,7 @@ impl<'a> Printer<'a> {
 
     /// Adds arguments in parentheses, each on a line of its own.
     fn add_arguments(&mut self, args: &'a [ExprId]) -> Result<(), AllocError>
-        ensures { OnOk result (Adds self.old (λ s. arguments args.now) self.new) }
+        ensures { OnOk result (Adds W.step self.old (λ s. arguments args.now) self.new) }
     {
         if args.is_empty() {
             return self.add(&[Work::Text("("), Work::Text(")")]);
@@ -95,7 +96,7 @@ impl<'a> Printer<'a> {
     }
 
     fn add_method_args(&mut self, args: &'a Option<Boxed<GenericArgs>>) -> Result<(), AllocError>
-        ensures { OnOk result (Adds self.old
+        ensures { OnOk result (Adds W.step self.old
             (λ s. opt (λ a. turbofish (args_items s a)) args.now) self.new) }
     {
         match args {
@@ -111,7 +112,7 @@ impl<'a> Printer<'a> {
         args: &'a [ExprId],
         generic_args: &'a Option<Boxed<GenericArgs>>,
     ) -> Result<(), AllocError>
-        ensures { OnOk result (Adds self.old
+        ensures { OnOk result (Adds W.step self.old
             (λ s. expr_items s (of_expr.MethodCall receiver name.now args.now generic_args.now)) self.new) }
     {
         self.add(&[
@@ -124,7 +125,7 @@ impl<'a> Printer<'a> {
     }
 
     fn add_match(&mut self, expr: ExprId, arms: &'a [MatchArm]) -> Result<(), AllocError>
-        ensures { OnOk result (Adds self.old (λ s. expr_items s (of_expr.Match expr arms.now)) self.new) }
+        ensures { OnOk result (Adds W.step self.old (λ s. expr_items s (of_expr.Match expr arms.now)) self.new) }
     {
         self.add(&[
             Work::Text("match "),
@@ -137,7 +138,7 @@ impl<'a> Printer<'a> {
     }
 
     fn add_spread(&mut self, spread: RecordSpread) -> Result<(), AllocError>
-        ensures { OnOk result (Adds self.old (λ s. spread_items spread) self.new) }
+        ensures { OnOk result (Adds W.step self.old (λ s. spread_items spread) self.new) }
     {
         match spread {
             RecordSpread::None => Ok(()),
@@ -154,7 +155,7 @@ impl<'a> Printer<'a> {
         fields: &'a [RecordLitField],
         spread: RecordSpread,
     ) -> Result<(), AllocError>
-        ensures { OnOk result (Adds self.old
+        ensures { OnOk result (Adds W.step self.old
             (λ s. expr_items s (of_expr.RecordLit path.now fields.now spread)) self.new) }
     {
         self.add_path(path)?;
@@ -165,7 +166,7 @@ impl<'a> Printer<'a> {
     }
 
     fn add_array(&mut self, array: &'a Array) -> Result<(), AllocError>
-        ensures { OnOk result (Adds self.old (λ s. array_items array.now) self.new) }
+        ensures { OnOk result (Adds W.step self.old (λ s. array_items array.now) self.new) }
     {
         match array {
             Array::ElementList { elements } => {
@@ -193,7 +194,7 @@ impl<'a> Printer<'a> {
     }
 
     fn add_unsafe(&mut self, unsafe_: Unsafe) -> Result<(), AllocError>
-        ensures { OnOk result (Adds self.old (λ s. unsafe_items unsafe_) self.new) }
+        ensures { OnOk result (Adds W.step self.old (λ s. unsafe_items unsafe_) self.new) }
     {
         match unsafe_ {
             Unsafe::Yes => self.add(&[Work::Text("unsafe ")]),
@@ -203,7 +204,7 @@ impl<'a> Printer<'a> {
 
     /// Adds what an expression is printed as.
     pub(crate) fn add_expr(&mut self, expr: &'a Expr) -> Result<(), AllocError>
-        ensures { OnOk result (Adds self.old (λ s. expr_items s expr.now) self.new) }
+        ensures { OnOk result (Adds W.step self.old (λ s. expr_items s expr.now) self.new) }
     {
         match expr {
             Expr::Missing => self.add(&[Work::Text("\u{fffd}")]),

@@ -9,6 +9,7 @@ use hir_base::{CrateId, LifetimeParamId, Name, NamedDef, Text, TypeParamId};
 use hir_defs::{GenericParams, Tables};
 use hir_expr_store::Missing;
 use hir_node::{LabelId, LifetimeRef, LifetimeRefId};
+use hir_page::PieceWriter;
 use std::alloc::AllocError;
 
 /// The name of a type or constant parameter; `None` where it has no name.
@@ -37,7 +38,10 @@ fn lifetime_param(tables: &Tables, id: LifetimeParamId) -> Result<&Name, Missing
 impl Part for LabelId {
     ghost items = { label_items };
 
-    fn add_to<'a>(&'a self, printer: &mut Printer<'a>) -> Result<(), AllocError> {
+    fn add_to<'a, W: PieceWriter>(
+        &'a self,
+        printer: &mut Printer<'a, W>,
+    ) -> Result<(), AllocError> {
         let store = printer.store;
         if store.has_label(*self) {
             return store[*self].name.add_to(printer);
@@ -49,7 +53,10 @@ impl Part for LabelId {
 impl Part for LifetimeRefId {
     ghost items = { l };
 
-    fn add_to<'a>(&'a self, printer: &mut Printer<'a>) -> Result<(), AllocError> {
+    fn add_to<'a, W: PieceWriter>(
+        &'a self,
+        printer: &mut Printer<'a, W>,
+    ) -> Result<(), AllocError> {
         let store = printer.store;
         if store.has_lifetime(*self) {
             return printer.add_lifetime(&store[*self]);
@@ -58,10 +65,10 @@ impl Part for LifetimeRefId {
     }
 }
 
-impl<'a> Printer<'a> {
+impl<'a, W: PieceWriter> Printer<'a, W> {
     /// Adds a name as the tables have it, or a default where there is none.
     fn add_found(&mut self, found: Option<&'a Text>, default: &'a str) -> Result<(), AllocError>
-        ensures { OnOk result (Adds self.old
+        ensures { OnOk result (Adds W.step self.old
             (λ s. found_name default.now (Ok (option_copied found.entry))) self.new) }
     {
         match found {
@@ -72,7 +79,7 @@ impl<'a> Printer<'a> {
 
     /// Adds the name of a definition, or a default where it has none.
     pub fn add_def_name(&mut self, def: NamedDef, default: &'a str) -> Result<(), AllocError>
-        ensures { OnOk result (Adds self.old (λ s. found_name default.now (s.tables.name def)) self.new) }
+        ensures { OnOk result (Adds W.step self.old (λ s. found_name default.now (s.tables.name def)) self.new) }
     {
         match self.tables.name(def) {
             Ok(found) => self.add_found(found, default),
@@ -82,14 +89,14 @@ impl<'a> Printer<'a> {
 
     /// Adds the name of a definition, or `<missing>` where it has none.
     pub fn add_named(&mut self, def: NamedDef) -> Result<(), AllocError>
-        ensures { OnOk result (Adds self.old
+        ensures { OnOk result (Adds W.step self.old
             (λ s. found_name (codes "<missing>") (s.tables.name def)) self.new) }
     {
         self.add_def_name(def, "<missing>")
     }
 
     pub(crate) fn add_crate_name(&mut self, id: CrateId) -> Result<(), AllocError>
-        ensures { OnOk result (Adds self.old (λ s. found_name (codes "$crate") (s.tables.crate_name id))
+        ensures { OnOk result (Adds W.step self.old (λ s. found_name (codes "$crate") (s.tables.crate_name id))
             self.new) }
     {
         match self.tables.crate_name(id) {
@@ -100,7 +107,7 @@ impl<'a> Printer<'a> {
 
     /// Adds the name of a type parameter, or its number.
     pub fn add_param_name(&mut self, number: u32, name: Option<&'a Name>) -> Result<(), AllocError>
-        ensures { OnOk result (Adds self.old (λ s. type_param_items s number (Ok (option_copied name.entry)))
+        ensures { OnOk result (Adds W.step self.old (λ s. type_param_items s number (Ok (option_copied name.entry)))
             self.new) }
     {
         match name {
@@ -114,7 +121,7 @@ impl<'a> Printer<'a> {
     }
 
     pub(crate) fn add_type_param(&mut self, id: TypeParamId) -> Result<(), AllocError>
-        ensures { OnOk result (Adds self.old (λ s. type_param_items s id.local_id (s.tables.type_param id))
+        ensures { OnOk result (Adds W.step self.old (λ s. type_param_items s id.local_id (s.tables.type_param id))
             self.new) }
     {
         match type_param(self.tables, id) {
@@ -124,7 +131,7 @@ impl<'a> Printer<'a> {
     }
 
     fn add_lifetime(&mut self, lifetime: &'a LifetimeRef) -> Result<(), AllocError>
-        ensures { OnOk result (Adds self.old (λ s. lifetime_items s lifetime.now) self.new) }
+        ensures { OnOk result (Adds W.step self.old (λ s. lifetime_items s lifetime.now) self.new) }
     {
         match lifetime {
             LifetimeRef::Named(name) => self.add(&[Work::Name(name.as_str())]),

@@ -1,12 +1,12 @@
 //! Names as they are printed: with `r#` where the edition's words list them.
 
 ghost use Rattle.std.specs.Prelude.{◌≡◌, ◌≢◌, ◌∷◌, ◌++◌, [], if◌then◌else◌, List, ℕ, MatchOption, OnOk, map};
-ghost use Rattle.hir_page.specs.Page.{all_rendered};
+ghost use Rattle.hir_page.specs.Steps.{steps};
 ghost use Rattle.hir_page.specs.Pieces as piece;
 ghost use Rattle.hir_printer.specs.Prelude.{behind, is_word, name_parts, texts_of, printed_name, same_text};
 
 use hir_base::Text;
-use hir_page::PageBuffer;
+use hir_page::PieceWriter;
 use std::alloc::AllocError;
 
 /// What is printed of a name: perhaps a quote, perhaps `r#`, and a text.
@@ -61,28 +61,28 @@ fn name_parts<'n>(words: &[Text], name: &'n str) -> NameParts<'n>
     }
 }
 
-fn write_if(page: &mut PageBuffer, holds: bool, shown: &str) -> Result<(), AllocError>
-    ensures { OnOk result (page.new ≡ all_rendered (map piece.Text (behind holds shown.now [])) page.old) }
+fn write_if<W: PieceWriter>(writer: &mut W, holds: bool, shown: &str) -> Result<(), AllocError>
+    ensures { OnOk result (writer.new ≡ steps W.step (map piece.Text (behind holds shown.now [])) writer.old) }
 {
     if holds {
-        return page.text(shown);
+        return writer.text(shown);
     }
     Ok(())
 }
 
 /// Writes a name, with `r#` where the words list it.
-pub(crate) fn write_name(
-    page: &mut PageBuffer,
+pub(crate) fn write_name<W: PieceWriter>(
+    writer: &mut W,
     words: &[Text],
     name: &str,
 ) -> Result<(), AllocError>
-    ensures { OnOk result (page.new
-        ≡ all_rendered (map piece.Text (name_parts words.now name.now)) page.old) }
+    ensures { OnOk result (writer.new
+        ≡ steps W.step (map piece.Text (name_parts words.now name.now)) writer.old) }
 {
     let parts = name_parts(words, name);
-    write_if(page, parts.is_quoted, "'")?;
-    write_if(page, parts.is_raw, "r#")?;
-    page.text(parts.text)
+    write_if(writer, parts.is_quoted, "'")?;
+    write_if(writer, parts.is_raw, "r#")?;
+    writer.text(parts.text)
 }
 
 /// What follows the first text, which is there where the condition holds.

@@ -7,6 +7,7 @@ ghost use Rattle.hir_printer.specs.Prelude.{Setting, Item, text, opt, p, e, t, j
 use crate::{Printer, Work};
 use hir_base::Name;
 use hir_node::{ExprId, PatId, TypeRefId};
+use hir_page::PieceWriter;
 use std::alloc::AllocError;
 
 /// A part of a node.
@@ -15,14 +16,17 @@ pub trait Part {
     ghost items: { Setting → Self → List Item };
 
     /// Adds what the part is printed as.
-    fn add_to<'a>(&'a self, printer: &mut Printer<'a>) -> Result<(), AllocError>
-        ensures { OnOk result (Adds printer.old (λ s. items s self.now) printer.new) };
+    fn add_to<'a, W: PieceWriter>(&'a self, printer: &mut Printer<'a, W>) -> Result<(), AllocError>
+        ensures { OnOk result (Adds W.step printer.old (λ s. items s self.now) printer.new) };
 }
 
 impl Part for ExprId {
     ghost items = { λ s id. e id };
 
-    fn add_to<'a>(&'a self, printer: &mut Printer<'a>) -> Result<(), AllocError> {
+    fn add_to<'a, W: PieceWriter>(
+        &'a self,
+        printer: &mut Printer<'a, W>,
+    ) -> Result<(), AllocError> {
         printer.add(&[Work::Whole(*self)])
     }
 }
@@ -30,7 +34,10 @@ impl Part for ExprId {
 impl Part for PatId {
     ghost items = { λ s id. p id };
 
-    fn add_to<'a>(&'a self, printer: &mut Printer<'a>) -> Result<(), AllocError> {
+    fn add_to<'a, W: PieceWriter>(
+        &'a self,
+        printer: &mut Printer<'a, W>,
+    ) -> Result<(), AllocError> {
         printer.add(&[Work::Pattern(*self)])
     }
 }
@@ -38,7 +45,10 @@ impl Part for PatId {
 impl Part for TypeRefId {
     ghost items = { λ s id. t id };
 
-    fn add_to<'a>(&'a self, printer: &mut Printer<'a>) -> Result<(), AllocError> {
+    fn add_to<'a, W: PieceWriter>(
+        &'a self,
+        printer: &mut Printer<'a, W>,
+    ) -> Result<(), AllocError> {
         printer.add(&[Work::Type(*self)])
     }
 }
@@ -46,12 +56,15 @@ impl Part for TypeRefId {
 impl Part for Name {
     ghost items = { name_items };
 
-    fn add_to<'a>(&'a self, printer: &mut Printer<'a>) -> Result<(), AllocError> {
+    fn add_to<'a, W: PieceWriter>(
+        &'a self,
+        printer: &mut Printer<'a, W>,
+    ) -> Result<(), AllocError> {
         printer.add(&[Work::Name(self.as_str())])
     }
 }
 
-impl<'a> Printer<'a> {
+impl<'a, W: PieceWriter> Printer<'a, W> {
     /// Adds the members of a list with a text between them, which is also before the first where `after` says so.
     pub fn add_list<T: Part>(
         &mut self,
@@ -59,7 +72,7 @@ impl<'a> Printer<'a> {
         between: &'a str,
         members: &'a [T],
     ) -> Result<(), AllocError>
-        ensures { OnOk result (Adds self.old
+        ensures { OnOk result (Adds W.step self.old
             (λ s. following (text between.now) after (map (T.items s) members.now)) self.new) }
     {
         self.reserve(members.len())?;
@@ -78,7 +91,7 @@ impl<'a> Printer<'a> {
         between: &'a str,
         members: &'a [T],
     ) -> Result<(), AllocError>
-        ensures { OnOk result (Adds self.old
+        ensures { OnOk result (Adds W.step self.old
             (λ s. join (text between.now) (map (T.items s) members.now)) self.new) }
     {
         self.add_list(false, between, members)
@@ -90,7 +103,7 @@ impl<'a> Printer<'a> {
         members: &'a [T],
         behind: &[Work<'a>],
     ) -> Result<(), AllocError>
-        ensures { OnOk result (Adds self.old
+        ensures { OnOk result (Adds W.step self.old
             (λ s. flat_map (λ x. stood_after s (T.items s x) behind.now) members.now) self.new) }
     {
         self.reserve(members.len())?;
@@ -107,7 +120,7 @@ impl<'a> Printer<'a> {
         before: &'a str,
         part: &'a Option<T>,
     ) -> Result<(), AllocError>
-        ensures { OnOk result (Adds self.old
+        ensures { OnOk result (Adds W.step self.old
             (λ s. opt (λ x. text before.now ++ T.items s x) part.now) self.new) }
     {
         match part {
@@ -125,7 +138,7 @@ impl<'a> Printer<'a> {
         part: &'a Option<T>,
         behind: &'a str,
     ) -> Result<(), AllocError>
-        ensures { OnOk result (Adds self.old
+        ensures { OnOk result (Adds W.step self.old
             (λ s. opt (λ x. T.items s x ++ text behind.now) part.now) self.new) }
     {
         match part {

@@ -10,6 +10,7 @@ use hir_base::{ExprPrecedence, LangItemTarget, Name, NamedDef, PathKind};
 use hir_node::{
     AssociatedTypeBinding, Boxed, GenericArg, GenericArgs, NormalPath, Path, TypeBound, TypeRefId,
 };
+use hir_page::PieceWriter;
 use std::alloc::AllocError;
 
 /// Whether `::` is before the first segment of a path of this kind.
@@ -25,7 +26,10 @@ pub fn colons_first(kind: PathKind) -> bool
 impl Part for GenericArg {
     ghost items = { arg_items };
 
-    fn add_to<'a>(&'a self, printer: &mut Printer<'a>) -> Result<(), AllocError> {
+    fn add_to<'a, W: PieceWriter>(
+        &'a self,
+        printer: &mut Printer<'a, W>,
+    ) -> Result<(), AllocError> {
         match self {
             GenericArg::Ty(id) => printer.add(&[Work::Type(*id)]),
             GenericArg::Lifetime(id) => id.add_to(printer),
@@ -40,7 +44,10 @@ impl Part for GenericArg {
 impl Part for AssociatedTypeBinding {
     ghost items = { assoc_items };
 
-    fn add_to<'a>(&'a self, printer: &mut Printer<'a>) -> Result<(), AllocError> {
+    fn add_to<'a, W: PieceWriter>(
+        &'a self,
+        printer: &mut Printer<'a, W>,
+    ) -> Result<(), AllocError> {
         printer.add(&[Work::Name(self.name.as_str())])?;
         printer.add_turbofish(&self.args)?;
         printer.add_bounds_after(self.bounds.as_slice())?;
@@ -48,10 +55,10 @@ impl Part for AssociatedTypeBinding {
     }
 }
 
-impl<'a> Printer<'a> {
+impl<'a, W: PieceWriter> Printer<'a, W> {
     /// Adds `super`, so many times.
     pub fn add_supers(&mut self, times: u8) -> Result<(), AllocError>
-        ensures { OnOk result (Adds self.old (λ s. supers times) self.new) }
+        ensures { OnOk result (Adds W.step self.old (λ s. supers times) self.new) }
     {
         if times == 0 {
             return self.add(&[Work::Text("self")]);
@@ -66,7 +73,7 @@ impl<'a> Printer<'a> {
 
     /// Adds what a path begins with.
     fn add_kind(&mut self, kind: PathKind) -> Result<(), AllocError>
-        ensures { OnOk result (Adds self.old (λ s. kind_items s kind) self.new) }
+        ensures { OnOk result (Adds W.step self.old (λ s. kind_items s kind) self.new) }
     {
         match kind {
             PathKind::Plain | PathKind::Abs => Ok(()),
@@ -83,7 +90,7 @@ impl<'a> Printer<'a> {
         names: &'a [Name],
         lists: &'a [Option<GenericArgs>],
     ) -> Result<(), AllocError>
-        ensures { OnOk result (Adds self.old (λ s. segments_from s after names.now lists.now) self.new) }
+        ensures { OnOk result (Adds W.step self.old (λ s. segments_from s after names.now lists.now) self.new) }
     {
         let mut after = after;
         let mut lists = lists;
@@ -102,7 +109,7 @@ impl<'a> Printer<'a> {
 
     /// Adds the type that a path begins at, or else its kind.
     fn add_start(&mut self, anchor: Option<TypeRefId>, kind: PathKind) -> Result<(), AllocError>
-        ensures { OnOk result (Adds self.old (λ s. start_items s anchor kind) self.new) }
+        ensures { OnOk result (Adds W.step self.old (λ s. start_items s anchor kind) self.new) }
     {
         match anchor {
             None => self.add_kind(kind),
@@ -111,7 +118,7 @@ impl<'a> Printer<'a> {
     }
 
     fn add_normal_path(&mut self, path: &'a NormalPath) -> Result<(), AllocError>
-        ensures { OnOk result (Adds self.old (λ s. path_items s (of_path.Normal path.now)) self.new) }
+        ensures { OnOk result (Adds W.step self.old (λ s. path_items s (of_path.Normal path.now)) self.new) }
     {
         self.add_start(path.type_anchor, path.mod_path.kind())?;
         self.add_segments(
@@ -123,7 +130,7 @@ impl<'a> Printer<'a> {
 
     /// Adds the name of an item of the language, or the number of one that has no name.
     fn add_target(&mut self, target: LangItemTarget) -> Result<(), AllocError>
-        ensures { OnOk result (Adds self.old (λ s. target_items s target) self.new) }
+        ensures { OnOk result (Adds W.step self.old (λ s. target_items s target) self.new) }
     {
         match target {
             LangItemTarget::ImplId(id) => self.add_numbered("ImplId", id.into_raw()),
@@ -145,7 +152,7 @@ impl<'a> Printer<'a> {
         target: LangItemTarget,
         name: &'a Option<Boxed<Name>>,
     ) -> Result<(), AllocError>
-        ensures { OnOk result (Adds self.old (λ s. path_items s (of_path.LangItem target name.now))
+        ensures { OnOk result (Adds W.step self.old (λ s. path_items s (of_path.LangItem target name.now))
             self.new) }
     {
         self.add(&[Work::Text("builtin#lang(")])?;
@@ -162,7 +169,7 @@ impl<'a> Printer<'a> {
 
     /// Adds what a path is printed as.
     pub fn add_path(&mut self, path: &'a Path) -> Result<(), AllocError>
-        ensures { OnOk result (Adds self.old (λ s. path_items s path.now) self.new) }
+        ensures { OnOk result (Adds W.step self.old (λ s. path_items s path.now) self.new) }
     {
         match path {
             Path::BarePath(path) => {
@@ -176,7 +183,7 @@ impl<'a> Printer<'a> {
 
     /// Adds arguments in `::<` and `>`, where there are any.
     fn add_turbofish(&mut self, args: &'a Option<GenericArgs>) -> Result<(), AllocError>
-        ensures { OnOk result (Adds self.old (λ s. opt (λ a. turbofish (args_items s a)) args.now) self.new) }
+        ensures { OnOk result (Adds W.step self.old (λ s. opt (λ a. turbofish (args_items s a)) args.now) self.new) }
     {
         match args {
             None => Ok(()),
@@ -186,7 +193,7 @@ impl<'a> Printer<'a> {
 
     /// Adds the arguments and the bindings of a list.
     pub(crate) fn add_args(&mut self, args: &'a GenericArgs) -> Result<(), AllocError>
-        ensures { OnOk result (Adds self.old (λ s. args_items s args.now) self.new) }
+        ensures { OnOk result (Adds W.step self.old (λ s. args_items s args.now) self.new) }
     {
         let has_args = !args.args.is_empty();
         self.add_if(has_args & args.has_self_type, "Self=")?;
@@ -196,7 +203,7 @@ impl<'a> Printer<'a> {
 
     /// Adds bounds behind `: `, where there are any.
     fn add_bounds_after(&mut self, bounds: &'a [TypeBound]) -> Result<(), AllocError>
-        ensures { OnOk result (Adds self.old (λ s. bounds_after s bounds.now) self.new) }
+        ensures { OnOk result (Adds W.step self.old (λ s. bounds_after s bounds.now) self.new) }
     {
         self.add_if(!bounds.is_empty(), ": ")?;
         self.add_joined(" + ", bounds)

@@ -11,6 +11,7 @@ use crate::{Printer, Work};
 use hir_base::{ExprPrecedence, Text};
 use hir_expr_store::ExpressionStore;
 use hir_node::{Binding, BindingAnnotation, BindingId, ExprId, Pat, PatId, Path, RecordFieldPat};
+use hir_page::PieceWriter;
 use std::alloc::AllocError;
 
 /// Whether the text of a binding is this name as it is printed.
@@ -23,9 +24,9 @@ fn has_printed_name(words: &[Text], name: &str, binding: &Binding) -> bool
     }
 }
 
-impl<'a> Printer<'a> {
+impl<'a, W: PieceWriter> Printer<'a, W> {
     fn add_annotation(&mut self, mode: BindingAnnotation) -> Result<(), AllocError>
-        ensures { OnOk result (Adds self.old (λ s. annotation_items mode) self.new) }
+        ensures { OnOk result (Adds W.step self.old (λ s. annotation_items mode) self.new) }
     {
         match mode {
             BindingAnnotation::Unannotated => Ok(()),
@@ -37,7 +38,7 @@ impl<'a> Printer<'a> {
 
     /// Adds a binding.
     pub fn add_binding(&mut self, id: BindingId) -> Result<(), AllocError>
-        ensures { OnOk result (Adds self.old (λ s. binding_items s id) self.new) }
+        ensures { OnOk result (Adds W.step self.old (λ s. binding_items s id) self.new) }
     {
         let store = self.store;
         if store.has_binding(id) {
@@ -49,16 +50,16 @@ impl<'a> Printer<'a> {
     }
 
     fn binds_name(&self, name: &str, id: BindingId) -> bool
-        ensures { result ≡ has_printed_name (printing_of self.now).from name.now
-            (slice_get (printing_of self.now).from.nodes.bindings id) }
+        ensures { result ≡ has_printed_name (printing_of W.step self.now).from name.now
+            (slice_get (printing_of W.step self.now).from.nodes.bindings id) }
     {
         self.store.has_binding(id) && has_printed_name(self.words, name, &self.store[id])
     }
 
     /// Whether a field's pattern binds its name as it is printed, so that the name alone is printed.
     fn is_short(&self, field: &RecordFieldPat) -> bool
-        ensures { result ≡ is_short (printing_of self.now).from field.now.name
-            (slice_get (printing_of self.now).from.nodes.pats field.now.pat) }
+        ensures { result ≡ is_short (printing_of W.step self.now).from field.now.name
+            (slice_get (printing_of W.step self.now).from.nodes.pats field.now.pat) }
     {
         if self.store.has_pat(field.pat) {
             if let Pat::Bind { id, subpat: None } = &self.store[field.pat] {
@@ -69,7 +70,7 @@ impl<'a> Printer<'a> {
     }
 
     fn add_field_pat(&mut self, field: &'a RecordFieldPat) -> Result<(), AllocError>
-        ensures { OnOk result (Adds self.old (λ s. field_pattern s field.now) self.new) }
+        ensures { OnOk result (Adds W.step self.old (λ s. field_pattern s field.now) self.new) }
     {
         self.add(&[Work::Name(field.name.as_str())])?;
         if self.is_short(field) {
@@ -80,7 +81,7 @@ impl<'a> Printer<'a> {
 
     /// Adds what stands behind a field: where nothing follows in one line, a space.
     fn add_field_end(&mut self, has_more: bool) -> Result<(), AllocError>
-        ensures { OnOk result (Adds self.old (λ s. after_last s has_more) self.new) }
+        ensures { OnOk result (Adds W.step self.old (λ s. after_last s has_more) self.new) }
     {
         if !has_more && self.one_line {
             return self.add(&[Work::Text(" ")]);
@@ -90,7 +91,7 @@ impl<'a> Printer<'a> {
 
     /// Adds the fields of a record, which a rest may follow.
     fn add_field_pats(&mut self, fields: &'a [RecordFieldPat], rest: bool) -> Result<(), AllocError>
-        ensures { OnOk result (Adds self.old (λ s. field_patterns s rest fields.now) self.new) }
+        ensures { OnOk result (Adds W.step self.old (λ s. field_patterns s rest fields.now) self.new) }
     {
         let mut left = fields;
         while let [field, others @ ..] = left {
@@ -107,7 +108,7 @@ impl<'a> Printer<'a> {
         fields: &'a [RecordFieldPat],
         rest: bool,
     ) -> Result<(), AllocError>
-        ensures { OnOk result (Adds self.old (λ s. pat_items s (of_pat.Record rest path.now fields.now))
+        ensures { OnOk result (Adds W.step self.old (λ s. pat_items s (of_pat.Record rest path.now fields.now))
             self.new) }
     {
         self.add_path(path)?;
@@ -126,7 +127,7 @@ impl<'a> Printer<'a> {
 
     /// Adds patterns, with `..` before the one in this place, or behind all.
     fn add_with_rest(&mut self, pats: &'a [PatId], rest: Option<u32>) -> Result<(), AllocError>
-        ensures { OnOk result (Adds self.old (λ s. comma_joined (with_rest rest (map p pats.now))) self.new) }
+        ensures { OnOk result (Adds W.step self.old (λ s. comma_joined (with_rest rest (map p pats.now))) self.new) }
     {
         let Some(at) = rest else {
             return self.add_joined(", ", pats);
@@ -140,7 +141,7 @@ impl<'a> Printer<'a> {
     }
 
     fn add_in_parentheses(&mut self, pats: &'a [PatId], rest: Option<u32>) -> Result<(), AllocError>
-        ensures { OnOk result (Adds self.old (λ s. in_parentheses rest pats.now) self.new) }
+        ensures { OnOk result (Adds W.step self.old (λ s. in_parentheses rest pats.now) self.new) }
     {
         self.add(&[Work::Text("(")])?;
         self.add_with_rest(pats, rest)?;
@@ -153,7 +154,7 @@ impl<'a> Printer<'a> {
         slice: &'a Option<PatId>,
         suffix: &'a [PatId],
     ) -> Result<(), AllocError>
-        ensures { OnOk result (Adds self.old (λ s. pat_items s (of_pat.Slice prefix.now slice.now suffix.now))
+        ensures { OnOk result (Adds W.step self.old (λ s. pat_items s (of_pat.Slice prefix.now slice.now suffix.now))
             self.new) }
     {
         self.add(&[Work::Text("[")])?;
@@ -165,7 +166,7 @@ impl<'a> Printer<'a> {
 
     /// Adds an expression in a pattern, where there is one.
     fn add_in_pat(&mut self, expr: Option<ExprId>) -> Result<(), AllocError>
-        ensures { OnOk result (Adds self.old (λ s. opt (under Shift) expr) self.new) }
+        ensures { OnOk result (Adds W.step self.old (λ s. opt (under Shift) expr) self.new) }
     {
         match expr {
             None => Ok(()),
@@ -175,7 +176,7 @@ impl<'a> Printer<'a> {
 
     /// Adds what a pattern is printed as.
     pub(crate) fn add_pat(&mut self, pat: &'a Pat) -> Result<(), AllocError>
-        ensures { OnOk result (Adds self.old (λ s. pat_items s pat.now) self.new) }
+        ensures { OnOk result (Adds W.step self.old (λ s. pat_items s pat.now) self.new) }
     {
         match pat {
             Pat::Missing => self.add(&[Work::Text("\u{fffd}")]),

@@ -3,7 +3,8 @@
 
 ghost use Rattle.std.specs.Prelude.{◌≡◌, ◌++◌, [], true, List, Some, None, Err, OnOk, slice_get};
 ghost use Rattle.hir_node.specs.declared.node_id.NodeId.TheVariants as node;
-ghost use Rattle.hir_printer.specs.Prelude.{Missing, Item, items_of, item_list_pieces, is_chain, stands_in_parentheses, precedence_found, ItemsFall, is_node, PrintsPieces, on_page, printing_of, items_of_works, printing, Adds, AddsItems, GaveWay, Turns, enclose, ending_items, exprs_items};
+ghost use Rattle.hir_printer.specs.Prelude.{Missing, Item, items_of, item_list_pieces, is_chain, stands_in_parentheses, precedence_found, ItemsFall, is_node, PrintsPieces, WritesPieces, begun, on_page, printing_of, items_of_works, printing, Adds, AddsItems, GaveWay, Turns, enclose, ending_items, exprs_items};
+ghost use Rattle.hir_page.specs.Page.{render};
 ghost use Rattle.hir_printer.specs.declared.fault.PrintFault.TheVariants as fault;
 ghost use Rattle.hir_printer.specs.declared.work.Work.TheVariants as works;
 
@@ -12,6 +13,7 @@ use crate::{Ending, PrintFault, Printer, Work};
 use hir_base::ExprPrecedence;
 use hir_expr_store::ExpressionStore;
 use hir_node::{ExprId, GenericArgs, PatId, TypeRefId};
+use hir_page::{PageBuffer, PieceWriter};
 use std::alloc::AllocError;
 
 fn precedence_at(store: &ExpressionStore, id: ExprId) -> ExprPrecedence
@@ -40,9 +42,9 @@ fn stands_in_parentheses(child: ExprPrecedence, parent: ExprPrecedence) -> bool
     child.needs_parentheses_in(parent) && !is_chain(child, parent)
 }
 
-impl<'a> Printer<'a> {
+impl<'a, W: PieceWriter> Printer<'a, W> {
     fn add_expr_at(&mut self, id: ExprId) -> Result<(), AllocError>
-        ensures { OnOk result (Adds self.old (λ s. items_of s (node.Expr id)) self.new) }
+        ensures { OnOk result (Adds W.step self.old (λ s. items_of s (node.Expr id)) self.new) }
     {
         let store = self.store;
         if store.has_expr(id) {
@@ -52,7 +54,7 @@ impl<'a> Printer<'a> {
     }
 
     fn add_pat_at(&mut self, id: PatId) -> Result<(), AllocError>
-        ensures { OnOk result (Adds self.old (λ s. items_of s (node.Pat id)) self.new) }
+        ensures { OnOk result (Adds W.step self.old (λ s. items_of s (node.Pat id)) self.new) }
     {
         let store = self.store;
         if store.has_pat(id) {
@@ -62,7 +64,7 @@ impl<'a> Printer<'a> {
     }
 
     fn add_type_at(&mut self, id: TypeRefId) -> Result<(), AllocError>
-        ensures { OnOk result (Adds self.old (λ s. items_of s (node.TypeRef id)) self.new) }
+        ensures { OnOk result (Adds W.step self.old (λ s. items_of s (node.TypeRef id)) self.new) }
     {
         let store = self.store;
         if store.has_type(id) {
@@ -73,7 +75,7 @@ impl<'a> Printer<'a> {
 
     /// Adds an expression, in parentheses where its precedence asks for them under that of its parent.
     fn add_under(&mut self, id: ExprId, parent: ExprPrecedence) -> Result<(), AllocError>
-        ensures { OnOk result (Adds self.old (λ s. enclose
+        ensures { OnOk result (Adds W.step self.old (λ s. enclose
             (stands_in_parentheses (precedence_found (slice_get s.nodes.exprs id)) parent)
             (items_of s (node.Expr id))) self.new) }
     {
@@ -90,7 +92,7 @@ impl<'a> Printer<'a> {
         first: ExprId,
         others: &'a [ExprId],
     ) -> Result<(), AllocError>
-        ensures { OnOk result (Adds self.old (λ s. items_of s (node.Expr first)
+        ensures { OnOk result (Adds W.step self.old (λ s. items_of s (node.Expr first)
             ++ (ending_items ending ++ exprs_items ending others.now)) self.new) }
     {
         self.add_expr_at(first)?;
@@ -99,8 +101,8 @@ impl<'a> Printer<'a> {
 
     /// Adds generic arguments in `::<` and `>`. The first text is written at once, so that less is kept than they are.
     fn add_fish(&mut self, args: &'a GenericArgs) -> Result<(), AllocError>
-        requires none { (printing_of self.old).kept ≡ [] }
-        ensures { OnOk result (GaveWay (works.Args args.entry) self.old self.new) }
+        requires none { (printing_of W.step self.old).kept ≡ [] }
+        ensures { OnOk result (GaveWay W.step (works.Args args.entry) self.old self.new) }
     {
         self.write_work(&Work::Text("::<"))?;
         self.add_args(args)?;
@@ -110,9 +112,9 @@ impl<'a> Printer<'a> {
     /// Adds what a node gives way to, or answers that it is missing.
     fn give_way(&mut self, work: &Work<'a>) -> Result<(), PrintFault>
         requires node { is_node work.now ≡ true }
-        requires fall { ItemsFall (printing_of self.old).from }
-        requires none { (printing_of self.old).kept ≡ [] }
-        ensures ok { OnOk result (GaveWay work.now self.old self.new) }
+        requires fall { ItemsFall (printing_of W.step self.old).from }
+        requires none { (printing_of W.step self.old).kept ≡ [] }
+        ensures ok { OnOk result (GaveWay W.step work.now self.old self.new) }
         ensures missing { (m : Missing) → result ≡ Err (fault.Missing m) → work.now ≡ works.Lacks m }
     {
         match work {
@@ -129,9 +131,9 @@ impl<'a> Printer<'a> {
 
     /// Writes a work, or lets what it gives way to wait before all that waits.
     fn turn(&mut self, work: &Work<'a>) -> Result<(), PrintFault>
-        requires fall { ItemsFall (printing_of self.old).from }
-        requires none { (printing_of self.old).kept ≡ [] }
-        ensures ok { OnOk result (Turns work.now self.old self.new) }
+        requires fall { ItemsFall (printing_of W.step self.old).from }
+        requires none { (printing_of W.step self.old).kept ≡ [] }
+        ensures ok { OnOk result (Turns W.step work.now self.old self.new) }
         ensures missing { (m : Missing) → result ≡ Err (fault.Missing m) → work.now ≡ works.Lacks m }
     {
         if work.is_node() {
@@ -145,12 +147,12 @@ impl<'a> Printer<'a> {
 
     /// Writes the pieces of what was added, up to the first fault.
     fn write(&mut self) -> Result<(), PrintFault>
-        ensures ok { let old = printing_of self.old in
-            OnOk result (printing old.page (item_list_pieces old.from
-            (items_of_works old.from (old.kept ++ old.waiting))) ≡ (self.new.page, None)) }
-        ensures missing { let old = printing_of self.old in
+        ensures ok { let old = printing_of W.step self.old in
+            OnOk result (printing W.step old.value (item_list_pieces old.from
+            (items_of_works old.from (old.kept ++ old.waiting))) ≡ (self.new.writer, None)) }
+        ensures missing { let old = printing_of W.step self.old in
             (m : Missing) → result ≡ Err (fault.Missing m)
-            → (printing old.page (item_list_pieces old.from
+            → (printing W.step old.value (item_list_pieces old.from
             (items_of_works old.from (old.kept ++ old.waiting)))).1 ≡ Some m }
     {
         self.store.has_no_fault();
@@ -161,16 +163,33 @@ impl<'a> Printer<'a> {
         }
         Ok(())
     }
+}
 
-    /// The text of what was added.
+impl<'a, W: PieceWriter + Drop> Printer<'a, W> {
+    /// Writes what was added, and gives back what it was written to.
     ///
-    /// Answers `Missing` of the first definition that the text names and the tables don't have, and `Memory` where memory was refused.
-    pub fn print(mut self) -> Result<String, PrintFault>
-        ensures { let s = (printing_of self.entry).from in
-            (items : List Item) → AddsItems (on_page s) (λ s. items) (printing_of self.entry)
-            → PrintsPieces s (item_list_pieces s items) result }
+    /// Returns `Missing` of the first definition that the pieces name and the tables don't have, and `Memory` where memory was refused.
+    pub fn finish(mut self) -> Result<W, PrintFault>
+        ensures { let s = (printing_of W.step self.entry).from in
+            (value : W) → (items : List Item)
+            → AddsItems (begun s value) (λ s. items) (printing_of W.step self.entry)
+            → WritesPieces W.step (item_list_pieces s items) value result }
     {
         self.write()?;
-        Ok(self.into_text())
+        Ok(self.into_writer())
+    }
+}
+
+impl<'a> Printer<'a, PageBuffer> {
+    /// The text of what was added.
+    ///
+    /// Returns `Missing` of the first definition that the text names and the tables don't have, and `Memory` where memory was refused.
+    pub fn print(self) -> Result<String, PrintFault>
+        ensures { let s = (printing_of render self.entry).from in
+            (items : List Item) → AddsItems (on_page s) (λ s. items) (printing_of render self.entry)
+            → PrintsPieces s (item_list_pieces s items) result }
+    {
+        let page = self.finish()?;
+        Ok(page.into_text())
     }
 }

@@ -8,13 +8,17 @@ ghost use Rattle.hir_printer.specs.Prelude.{text, t, opt, for_names, use_items, 
 use crate::{Part, Printer, Work};
 use hir_base::{ExprPrecedence, ExternAbi, Name, Seq};
 use hir_node::{FnType, RefType, TraitBoundModifier, TypeBound, TypeRef, TypeRefId, UseArgRef};
+use hir_page::PieceWriter;
 use std::alloc::AllocError;
 
 /// A parameter of a function's type, whose name isn't printed.
 impl Part for (Option<Name>, TypeRefId) {
     ghost items = { λ s param. t param.1 };
 
-    fn add_to<'a>(&'a self, printer: &mut Printer<'a>) -> Result<(), AllocError> {
+    fn add_to<'a, W: PieceWriter>(
+        &'a self,
+        printer: &mut Printer<'a, W>,
+    ) -> Result<(), AllocError> {
         printer.add(&[Work::Type(self.1)])
     }
 }
@@ -22,7 +26,10 @@ impl Part for (Option<Name>, TypeRefId) {
 impl Part for UseArgRef {
     ghost items = { use_items };
 
-    fn add_to<'a>(&'a self, printer: &mut Printer<'a>) -> Result<(), AllocError> {
+    fn add_to<'a, W: PieceWriter>(
+        &'a self,
+        printer: &mut Printer<'a, W>,
+    ) -> Result<(), AllocError> {
         match self {
             UseArgRef::Name(name) => name.add_to(printer),
             UseArgRef::Lifetime(id) => id.add_to(printer),
@@ -33,7 +40,10 @@ impl Part for UseArgRef {
 impl Part for TypeBound {
     ghost items = { bound_items };
 
-    fn add_to<'a>(&'a self, printer: &mut Printer<'a>) -> Result<(), AllocError> {
+    fn add_to<'a, W: PieceWriter>(
+        &'a self,
+        printer: &mut Printer<'a, W>,
+    ) -> Result<(), AllocError> {
         match self {
             TypeBound::Path(id, TraitBoundModifier::None) => {
                 printer.add(&[Work::Type(id.type_ref())])
@@ -56,10 +66,10 @@ impl Part for TypeBound {
     }
 }
 
-impl<'a> Printer<'a> {
+impl<'a, W: PieceWriter> Printer<'a, W> {
     /// Adds names behind `for`.
     fn add_for(&mut self, names: &'a [Name]) -> Result<(), AllocError>
-        ensures { OnOk result (Adds self.old (λ s. for_names s names.now) self.new) }
+        ensures { OnOk result (Adds W.step self.old (λ s. for_names s names.now) self.new) }
     {
         self.add(&[Work::Text("for<")])?;
         self.add_joined(", ", names)?;
@@ -68,7 +78,7 @@ impl<'a> Printer<'a> {
 
     /// Adds names behind `for`, where there are any.
     pub fn add_binder(&mut self, names: &'a Option<Seq<Name>>) -> Result<(), AllocError>
-        ensures { OnOk result (Adds self.old (λ s. opt (for_names s) names.now) self.new) }
+        ensures { OnOk result (Adds W.step self.old (λ s. opt (for_names s) names.now) self.new) }
     {
         match names {
             None => Ok(()),
@@ -78,7 +88,7 @@ impl<'a> Printer<'a> {
 
     /// Adds `extern` and a calling convention, unless it is that of Rust.
     fn add_extern(&mut self, abi: &'a ExternAbi) -> Result<(), AllocError>
-        ensures { OnOk result (Adds self.old (λ s. extern_items abi.now) self.new) }
+        ensures { OnOk result (Adds W.step self.old (λ s. extern_items abi.now) self.new) }
     {
         match abi {
             ExternAbi::Rust => Ok(()),
@@ -100,7 +110,7 @@ impl<'a> Printer<'a> {
         params: &'a [(Option<Name>, TypeRefId)],
         is_varargs: bool,
     ) -> Result<(), AllocError>
-        ensures { OnOk result (Adds self.old (λ s. signature_items is_varargs
+        ensures { OnOk result (Adds W.step self.old (λ s. signature_items is_varargs
             (map (λ (entry : Option (List ℕ) × ℕ). entry.1) params.now)) self.new) }
     {
         let (front, ret) = params.split_at(params.len().saturating_sub(1));
@@ -113,7 +123,7 @@ impl<'a> Printer<'a> {
     }
 
     fn add_fn(&mut self, function: &'a FnType) -> Result<(), AllocError>
-        ensures { OnOk result (Adds self.old (λ s. fn_items s function.now) self.new) }
+        ensures { OnOk result (Adds W.step self.old (λ s. fn_items s function.now) self.new) }
     {
         self.add_binder(&function.binder)?;
         self.add_if(function.is_unsafe, "unsafe ")?;
@@ -122,7 +132,7 @@ impl<'a> Printer<'a> {
     }
 
     fn add_reference(&mut self, reference: &'a RefType) -> Result<(), AllocError>
-        ensures { OnOk result (Adds self.old (λ s. type_items s (of_type.Reference reference.now)) self.new) }
+        ensures { OnOk result (Adds W.step self.old (λ s. type_items s (of_type.Reference reference.now)) self.new) }
     {
         self.add(&[Work::Text("&")])?;
         self.add_before(&reference.lifetime, " ")?;
@@ -133,7 +143,7 @@ impl<'a> Printer<'a> {
     }
 
     fn add_bounds(&mut self, keyword: &'a str, bounds: &'a [TypeBound]) -> Result<(), AllocError>
-        ensures { OnOk result (Adds self.old (λ s. text keyword.now ++ bounds_items s bounds.now) self.new) }
+        ensures { OnOk result (Adds W.step self.old (λ s. text keyword.now ++ bounds_items s bounds.now) self.new) }
     {
         self.add(&[Work::Text(keyword)])?;
         self.add_joined(" + ", bounds)
@@ -141,7 +151,7 @@ impl<'a> Printer<'a> {
 
     /// Adds what a type is printed as.
     pub(crate) fn add_type(&mut self, type_ref: &'a TypeRef) -> Result<(), AllocError>
-        ensures { OnOk result (Adds self.old (λ s. type_items s type_ref.now) self.new) }
+        ensures { OnOk result (Adds W.step self.old (λ s. type_items s type_ref.now) self.new) }
     {
         match type_ref {
             TypeRef::Never => self.add(&[Work::Text("!")]),

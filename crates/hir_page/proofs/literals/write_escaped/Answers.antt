@@ -5,7 +5,7 @@ use Rattle.hir_page.proofs.PieceLemmas.{stops_here, is_escape}
 use Rattle.hir_page.proofs.literals.write_escaped.Goals as goal
 
 pub returns-clause-err : goal.returns-clause-err
-returns-clause-err c = rw (is_escape c.args.escape.now (long_escape c.args.c) (sym c.is_empty.ensures ∙ c.if-is_empty.false)) (on_err_weaker _ stops_here c.text.ensures.err)
+returns-clause-err g c = rw (is_escape c.args.escape.now (long_escape c.args.c) (sym c.is_empty.ensures ∙ c.if-is_empty.false)) (on_err_weaker _ stops_here c.text.ensures.err)
 
 pub returns-clause-ok : goal.returns-clause-ok
-returns-clause-ok c = rw (is_escape c.args.escape.now (long_escape c.args.c) (sym c.is_empty.ensures ∙ c.if-is_empty.false)) c.text.ensures.ok
+returns-clause-ok g c = rw (is_escape c.args.escape.now (long_escape c.args.c) (sym c.is_empty.ensures ∙ c.if-is_empty.false)) c.text.ensures.ok

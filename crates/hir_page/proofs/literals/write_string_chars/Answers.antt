@@ -9,7 +9,7 @@ no_chars [] e = chars-nil
 no_chars (x ∷ xs) e = absurd (omega arith)
 
 pub loop-c-preserved : goal.loop-c-preserved
-loop-c-preserved c =
+loop-c-preserved g c =
     let text = c.loop-c.rest.rest.now in
     let rest = c.next.new.self.rest.now in
     let utf8 = c.loop-c.invariant.utf8 in
@@ -20,13 +20,13 @@ loop-c-preserved c =
     }
 
 pub returns-in_err-write_escaped-clause-err : goal.returns-in_err-write_escaped-clause-err
-returns-in_err-write_escaped-clause-err c =
+returns-in_err-write_escaped-clause-err g c =
     let text = c.loop-c.rest.rest.now in
     let rest = c.next.new.self.rest.now in
     let is = c.in-Some.ensures.steps.0 in
     on_err _ (stops_in_rest _ (rw (chars_past_char text rest c.in-Some.c c.loop-c.invariant.utf8 is) at c.loop-c.invariant.left) (rw c.escape_in_string.ensures at c.in_err-write_escaped.ensures.err))
 
 pub returns-clause-ok : goal.returns-clause-ok
-returns-clause-ok c =
+returns-clause-ok g c =
     let over = c.in_default.ensures.steps in
     none_left (rw (no_chars c.loop-c.rest.rest.now over.0.0) at c.loop-c.invariant.left)

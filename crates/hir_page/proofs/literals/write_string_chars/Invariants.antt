@@ -5,7 +5,7 @@ use Rattle.hir_page.proofs.PieceLemmas.{LeftOf}
 use Rattle.hir_page.proofs.literals.write_string_chars.Given as goal
 
 abbrev pub invariant-loop-c : goal.invariant-loop-c
-invariant-loop-c l = record {
+invariant-loop-c g l = record {
   utf8 : IsUtf8 l.rest.rest.now;
-  left : LeftOf (flat_map string_char (chars l.fn.text)) (flat_map string_char (chars l.rest.rest.now)) l.fn.page l.page;
+  left : LeftOf g.W.PieceWriter.step (flat_map string_char (chars l.fn.text)) (flat_map string_char (chars l.rest.rest.now)) l.fn.writer l.writer;
 }

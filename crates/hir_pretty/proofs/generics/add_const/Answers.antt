@@ -2,4 +2,4 @@ use Rattle.hir_printer.proofs.Common.{refl, on_ok_weaker, adds, adds_then}
 use Rattle.hir_pretty.proofs.generics.add_const.Goals as goal
 
 pub returns : goal.returns
-returns c = on_ok_weaker c.add_default.result (adds_then (adds (rw c.as_str.ensures at c.in_ok-add.ensures) (λ s. refl))) c.add_default.ensures
+returns g c = on_ok_weaker c.add_default.result (adds_then (adds (rw c.as_str.ensures at c.in_ok-add.ensures) (λ s. refl))) c.add_default.ensures

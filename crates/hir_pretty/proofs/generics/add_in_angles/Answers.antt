@@ -5,7 +5,7 @@ use Rattle.hir_pretty.proofs.ListLemmas.{angles, is_longer}
 use Rattle.hir_pretty.proofs.generics.add_in_angles.Goals as goal
 
 pub returns : goal.returns
-returns c = on_ok_weaker c.add-2.result
+returns g c = on_ok_weaker c.add-2.result
     (λ a. adds_as (adds_more (adds_then (adds_then (adds c.in_ok-add.ensures (λ s. refl)) c.in_ok-add_lifetimes.ensures) c.in_ok-add_types_and_consts.ensures) a)
     (λ s. angles (each_lifetime s c.args.params.now.lifetimes) (each_type_or_const s (enumerate_from 0 c.args.params.now.type_or_consts)) _
     (is_longer (λ (lifetime : LifetimeParamData). name_items s lifetime.name) c.args.params.now.lifetimes _ c.len_lifetimes.ensures.len))) c.add-2.ensures

@@ -3,7 +3,7 @@ use Rattle.hir_pretty.proofs.ListLemmas.{type_names}
 use Rattle.hir_pretty.proofs.generics.add_type.Goals as goal
 
 pub returns : goal.returns
-returns c = on_ok_weaker c.add_after.result
+returns g c = on_ok_weaker c.add_after.result
     (λ a. adds_as (adds_then c.in_ok-add_param_name.ensures a)
     (λ s. ap (λ is. is ++ opt (λ id. text (codes " = ") ++ t id) c.args.param.now.default)
     (ap (λ o. type_param_items s c.args.at (Ok o)) c.as_ref.ensures.value ∙ type_names s c.args.at c.args.param.now.name)))

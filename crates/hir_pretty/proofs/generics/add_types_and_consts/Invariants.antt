@@ -3,6 +3,6 @@ use Rattle.hir_pretty.specs.Signatures.{each_type_or_const}
 use Rattle.hir_pretty.proofs.generics.add_types_and_consts.Given as goal
 
 abbrev pub invariant-loop-at : goal.invariant-loop-at
-invariant-loop-at l =
-    AddsRest (printing_of l.fn.printer) (λ s. following (text (codes ", ")) l.first (each_type_or_const s (enumerate_from 0 l.params.type_or_consts))) (printing_of l.printer)
+invariant-loop-at g l =
+    AddsRest (printing_of g.W.PieceWriter.step l.fn.printer) (λ s. following (text (codes ", ")) l.first (each_type_or_const s (enumerate_from 0 l.params.type_or_consts))) (printing_of g.W.PieceWriter.step l.printer)
     (λ s. following (text (codes ", ")) l.after (each_type_or_const s l.at-iterator))

@@ -3,4 +3,4 @@ use Rattle.hir_pretty.specs.Variants.{field_line}
 use Rattle.hir_pretty.proofs.variants.add_fields.Given as goal
 
 abbrev pub invariant-loop-field : goal.invariant-loop-field
-invariant-loop-field l = AddsRest (printing_of l.initial.printer) (λ s. flat_map (field_line s) l.fields) (printing_of l.printer) (λ s. flat_map (field_line s) (drop l.field-index l.fields))
+invariant-loop-field g l = AddsRest (printing_of g.W.PieceWriter.step l.initial.printer) (λ s. flat_map (field_line s) l.fields) (printing_of g.W.PieceWriter.step l.printer) (λ s. flat_map (field_line s) (drop l.field-index l.fields))

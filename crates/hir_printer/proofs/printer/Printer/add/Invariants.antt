@@ -2,4 +2,4 @@ use Rattle.hir_printer.proofs.Common.{take, printing_of, items_of_works, AddsIte
 use Rattle.hir_printer.proofs.printer.Printer.add.Given as goal
 
 abbrev pub invariant-loop-work : goal.invariant-loop-work
-invariant-loop-work l = AddsItems (printing_of l.fn.self) (λ s. items_of_works s (take l.work-index l.works)) (printing_of l.self)
+invariant-loop-work g l = AddsItems (printing_of g.W.PieceWriter.step l.fn.self) (λ s. items_of_works s (take l.work-index l.works)) (printing_of g.W.PieceWriter.step l.self)

@@ -3,7 +3,7 @@ use Rattle.hir_path.specs.declared.path.GenericArgs.{out-GenericArgs}
 use Rattle.hir_printer.proofs.printer.Printer.add_args.Goals as goal
 
 pub returns : goal.returns
-returns c =
+returns g c =
     let x = c.args.args.now in
     let sep = text (codes ", ") in
     on_ok_weaker c.add_list.result

@@ -3,7 +3,7 @@ use Rattle.hir_node.specs.declared.expr.Expr.TheVariants as of_expr
 use Rattle.hir_printer.proofs.printer.Printer.add_closure.Goals as goal
 
 pub returns : goal.returns
-returns c =
+returns g c =
     let kind = c.args.kind in
     let head = text (closure_head kind) ++ text (capture_keyword c.args.capture) in
     let between = header kind (params c.args.args.now c.args.arg_types.now) c.args.ret_type.now in

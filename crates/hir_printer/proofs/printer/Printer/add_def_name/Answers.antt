@@ -3,10 +3,10 @@ use Rattle.hir_expr_store.specs.declared.missing.Missing.TheVariants as missing
 use Rattle.hir_printer.proofs.printer.Printer.add_def_name.Goals as goal
 
 pub returns-in-Ok : goal.returns-in-Ok
-returns-in-Ok c = on_ok_weaker c.add_found.result
+returns-in-Ok g c = on_ok_weaker c.add_found.result
     (λ a. adds_here a (sym (ap (λ found. found_name c.args.default.now (found_or (missing.Name c.args.def) found)) c.in-Ok.ensures.found))) c.add_found.ensures
 
 pub returns-in-Err : goal.returns-in-Err
-returns-in-Err c = on_ok_weaker c.add.result
+returns-in-Err g c = on_ok_weaker c.add.result
     (λ a. adds_here (adds {is = λ s. Lacks c.in-Err.missing ∷ []} a (λ s. refl))
     (ap (λ m. Lacks m ∷ []) c.in-Err.ensures.absent.0 ∙ sym (ap (λ found. found_name c.args.default.now (found_or (missing.Name c.args.def) found)) c.in-Err.ensures.absent.1))) c.add.ensures

@@ -2,7 +2,7 @@ use Rattle.hir_printer.proofs.Common.{refl, on_ok_weaker, adds, adds_then, adds_
 use Rattle.hir_printer.proofs.printer.Printer.add_signature.Goals as goal
 
 pub returns : goal.returns
-returns c =
+returns g c =
     let cut = c.split_at.ensures in
     on_ok_weaker c.add_each.result
     (λ a. adds_as

@@ -3,9 +3,9 @@ use Rattle.hir_printer.specs.declared.work.Work.{Work}
 use Rattle.hir_printer.proofs.printer.Printer.keep.Goals as goal
 
 pub returns : goal.returns
-returns c =
+returns g c =
     let p = c.args.self.now in
     on_ok_weaker c.push_copy.result
-    (λ e. ap₂ (λ (k ws : List Work). record (printing_of p) { kept = k; waiting = ws })
+    (λ e. ap₂ (λ (k ws : List Work). record (printing_of g.W.PieceWriter.step p) { kept = k; waiting = ws })
     (kept_more p.waiting p.works.items _ c.args.work.now (omega arith) e) (waiting_still p.waiting p.works.items _ c.args.work.now (omega arith) e))
     c.push_copy.ensures.added
