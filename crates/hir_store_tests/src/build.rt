@@ -44,8 +44,8 @@ pub const NEVER: Step = Step::Type(TypeStep::Never);
 
 /// Puts an entry of each kind, of this number, behind the steps.
 pub fn push_entries(steps: &mut Vec<Step>, number: u32) -> Result<(), AllocError> {
-    for kind in ENTRIES {
-        steps.push(Step::Entry(kind, number))?;
+    for kind in &ENTRIES {
+        steps.push(Step::Entry(*kind, number))?;
     }
     Ok(())
 }
@@ -66,8 +66,13 @@ fn added<I: Drop, T: PartialEq + Drop>(
 ) -> Result<(), BuildFault> {
     match outcome {
         Ok(_) => Ok(()),
-        Err((ArenaFault::Memory, value)) if value == item => Err(BuildFault::Memory),
-        Err(_) => Err(BuildFault::Changed),
+        Err((fault, value)) => {
+            if fault == ArenaFault::Memory && value == item {
+                Err(BuildFault::Memory)
+            } else {
+                Err(BuildFault::Changed)
+            }
+        }
     }
 }
 
@@ -78,8 +83,13 @@ pub fn taken<I: Drop, T: PartialEq + Drop>(
 ) -> Result<(), BuildFault> {
     match outcome {
         Ok(_) => Ok(()),
-        Err(failed) if failed.value == value => Err(BuildFault::Memory),
-        Err(_) => Err(BuildFault::Changed),
+        Err(failed) => {
+            if failed.value == value {
+                Err(BuildFault::Memory)
+            } else {
+                Err(BuildFault::Changed)
+            }
+        }
     }
 }
 
@@ -208,12 +218,12 @@ pub fn build_steps(
     steps: &[Step],
 ) -> Result<Box<ExpressionStoreBuilder>, BuildFault> {
     let mut builder = in_a_box(alloc, ExpressionStoreBuilder::new(alloc))?;
-    for (place, step) in steps.iter().enumerate() {
-        match add(&mut builder, alloc, step) {
+    for place in 0..steps.len() {
+        match add(&mut builder, alloc, &steps[place]) {
             Ok(()) => {}
             Err(BuildFault::Memory) => {
                 is_of_steps(alloc, &builder, &steps[..place])?;
-                add(&mut builder, alloc, step)?;
+                add(&mut builder, alloc, &steps[place])?;
             }
             Err(BuildFault::Changed) => return Err(BuildFault::Changed),
         }
