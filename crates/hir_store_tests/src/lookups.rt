@@ -1,5 +1,5 @@
 //! Items by their ids, in each of the six arenas, and the qualifier of a path that a store has.
-use crate::build::Step;
+use crate::build::{NEVER, PATH, Step, WILD};
 use crate::outcomes;
 use hir_base::Idx;
 use hir_node::{BindingId, Expr, ExprId, LabelId, LifetimeRefId, PatId, TypeRefId};
@@ -10,10 +10,10 @@ use std::test::Fail;
 /// One item in each arena, and an expression more.
 const ITEMS: &[Step] = &[
     Step::Begin,
-    Step::Path,
-    Step::Path,
-    Step::Wild,
-    Step::TypePath,
+    PATH,
+    PATH,
+    WILD,
+    NEVER,
     Step::Binding("x"),
     Step::Label("l"),
     Step::Static,
@@ -65,6 +65,7 @@ fn items_by_their_ids(rt: HostRuntime) -> Result<(), Fail> {
     let one = [true, false, false, false, false, false];
     let none = [false, false, false, false, false, false];
     assert!(&rt; found == [all, one, none]);
-    assert!(&rt; path? & !absent?);
+    let (path, absent) = (path?, absent?);
+    assert!(&rt; path && !absent);
     Ok(())
 }
