@@ -43,8 +43,8 @@ pub enum ExprStep {
     If(u32, u32, u32),
     /// `const { expression }`
     Const(u32),
-    /// A block of `let`s, each of a pattern and an expression, and a tail.
-    Block(&'static [(u32, u32)], Option<u32>),
+    /// A block of a `let` of a pattern and an expression, or of none, and a tail.
+    Block(Option<(u32, u32)>, Option<u32>),
 }
 
 /// A pattern.
@@ -222,24 +222,26 @@ fn tuple(alloc: Global, numbers: &[u32]) -> Result<Expr, AllocError> {
     }
 }
 
-/// The `let`s of these patterns and expressions.
-fn lets(alloc: Global, numbers: &[(u32, u32)]) -> Result<Seq<Statement>, AllocError> {
-    let mut statements = Seq::new(alloc);
-    for (pat, expr) in numbers {
-        let statement = Statement::Let {
-            pat: Idx::from_raw(*pat),
-            type_ref: None,
-            initializer: Some(Idx::from_raw(*expr)),
-            else_branch: None,
-        };
-        statements.push(statement)?;
+/// The list of this statement, which a `let` of this pattern and this expression is, where there is one.
+fn lets(alloc: Global, of: Option<(u32, u32)>) -> Result<Seq<Statement>, AllocError> {
+    let Some((pat, expr)) = of else {
+        return Ok(Seq::new(alloc));
+    };
+    let statement = Statement::Let {
+        pat: Idx::from_raw(pat),
+        type_ref: None,
+        initializer: Some(Idx::from_raw(expr)),
+        else_branch: None,
+    };
+    match Seq::of(alloc, [statement]) {
+        Ok(statements) => Ok(statements),
+        Err(failed) => Err(AllocError::from(failed)),
     }
-    Ok(statements)
 }
 
-/// A block of these `let`s and this tail.
-fn block(alloc: Global, numbers: &[(u32, u32)], tail: Option<u32>) -> Result<Expr, AllocError> {
-    match lets(alloc, numbers) {
+/// A block of the `let` of this pattern and this expression, where there is one, and of this tail.
+fn block(alloc: Global, of: Option<(u32, u32)>, tail: Option<u32>) -> Result<Expr, AllocError> {
+    match lets(alloc, of) {
         Ok(statements) => Ok(Expr::Block {
             id: None,
             statements,

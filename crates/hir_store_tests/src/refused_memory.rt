@@ -16,7 +16,7 @@ const SHADOWED: &[Step] = &[
     Step::Expr(ExprStep::Path(Written::Name("x"))),
     Step::Expr(ExprStep::Ref(0)),
     Step::Expr(ExprStep::Path(Written::Name("x"))),
-    Step::Expr(ExprStep::Block(&[(1, 1)], Some(2))),
+    Step::Expr(ExprStep::Block(Some((1, 1)), Some(2))),
     Step::Root(3),
 ];
 
@@ -28,9 +28,9 @@ const CHAIN_OF_LETS: &[Step] = &[
     Step::Expr(ExprStep::Let(0, 0)),
     Step::Expr(ExprStep::Path(Written::Name("M1"))),
     Step::Expr(ExprStep::And(1, 2)),
-    Step::Expr(ExprStep::Block(&[], None)),
+    Step::Expr(ExprStep::Block(None, None)),
     Step::Expr(ExprStep::Path(Written::Name("M2"))),
-    Step::Expr(ExprStep::Block(&[], Some(5))),
+    Step::Expr(ExprStep::Block(None, Some(5))),
     Step::Expr(ExprStep::If(3, 4, 6)),
     Step::Root(7),
 ];
@@ -44,14 +44,14 @@ const CONST_IN_PATTERN: &[Step] = &[
     Step::Pat(PatStep::Bind(2)),
     Step::Expr(ExprStep::One),
     Step::Expr(ExprStep::Path(Written::Name("y"))),
-    Step::Expr(ExprStep::Block(&[(1, 0)], Some(1))),
+    Step::Expr(ExprStep::Block(Some((1, 0)), Some(1))),
     Step::Expr(ExprStep::Const(2)),
     Step::Pat(PatStep::Expr(3)),
     Step::Pat(PatStep::Bind(1)),
     Step::Pat(PatStep::Tuple(&[0, 2, 3])),
     Step::Expr(ExprStep::Path(Written::Name("z"))),
     Step::Expr(ExprStep::Path(Written::Name("W"))),
-    Step::Expr(ExprStep::Block(&[(4, 4)], Some(5))),
+    Step::Expr(ExprStep::Block(Some((4, 4)), Some(5))),
     Step::Root(6),
 ];
 
