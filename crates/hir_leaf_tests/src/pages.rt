@@ -1,6 +1,7 @@
 //! Shapes of layout, in lines and in one line: a further case is one more row of a table.
 use hir_page::{LineFormat, PageBuffer, PieceWriter, write_number};
 use std::alloc::{AllocError, Global};
+use std::fmt::Write;
 use std::test::Fail;
 
 /// What is written next.
@@ -192,6 +193,21 @@ fn numbers_are_written_in_place(rt: HostRuntime) -> Result<(), Fail> {
     let mut page = PageBuffer::new(rt.alloc(), LineFormat::Newline);
     write_in_place(&mut page)?;
     assert_eq!(rt; page.into_text().as_str(), "x\n    ExprId(3)");
+    Ok(())
+}
+
+/// A page of the text `x = 7`, a line end, and behind it, a level further in, `y`.
+fn formatted_page(alloc: Global) -> Result<String, Fail> {
+    let mut page = PageBuffer::new(alloc, LineFormat::Newline);
+    page.indent()?;
+    write!(page, "x = {}\n", 7u32)?;
+    page.text("y")?;
+    Ok(page.into_text())
+}
+
+#[test]
+fn a_page_takes_formatted_text(rt: HostRuntime) -> Result<(), Fail> {
+    assert_eq!(rt; formatted_page(rt.alloc())?.as_str(), "x = 7\n    y");
     Ok(())
 }
 

@@ -1,7 +1,7 @@
 -- A turn of the loop, by what its work is.
 use Rattle.std.proofs.Common.{◌≡◌, ℕ, ◌<◌, ◌≤◌, List, [], ◌∷◌, ◌++◌, map, Option, Some, None, refl, sym, ap, ap₂, subst, ◌∙◌, arith, append_assoc, append-nil, Result, Ok, Err, String, string_bytes, slice_get}
 use Rattle.hir_base.specs.declared.prec.ExprPrecedence.{ExprPrecedence}
-use Rattle.hir_printer.specs.Prelude.{NodeId, Missing, Setting, Item, Whole, Under, NodePiece, PrintsPieces, WritesPieces, format_of, first_missing, items_of, pieces, item_list_pieces, stands_in_parentheses, precedence_found, ItemsFall, heft, Printing, begun, on_page, stands_for, items_of_works, printing, Leads, WroteWork, AddsItems, GaveWayTo, TurnedBy, enclose}
+use Rattle.hir_printer.specs.Prelude.{NodeId, Missing, Setting, Item, Whole, Under, NodePiece, Layout, PrintsPieces, WritesPieces, format_of, first_missing, items_of, pieces, item_list_pieces, stands_in_parentheses, precedence_found, ItemsFall, heft, Printing, begun, on_page, stands_for, items_of_works, printing, Leads, WroteWork, AddsItems, GaveWayTo, TurnedBy, enclose}
 use Rattle.hir_node.specs.declared.node_id.NodeId.TheVariants as node
 use Rattle.hir_page.specs.Page.{Page, empty_page, page_text, render}
 use Rattle.hir_page.specs.Pieces.{Piece}
@@ -151,6 +151,7 @@ module _ {W : Type 0} {step : Piece → W → W} where
         let m = ap (λ ws. heft s (items_of_works s ws)) rest in let n = ap (heft s) (meant-append s a.way between.waiting) in
         let o = heft-append s (items_of_works s a.way) (items_of_works s between.waiting) in omega arith
 
+module _ {W : Type 0} (step : Piece → W → W) where
   -- the next is missing, and nothing is left
   pub missing_next : (s : Setting) (value : W) {before : W × Option Missing} {waiting others : List Work} {w : Work} {m : Missing} → before ≡ printing step value (item_list_pieces s (items_of_works s waiting)) → waiting ≡ w ∷ others
       → w ≡ work.Lacks m → before.1 ≡ Some m
@@ -162,6 +163,7 @@ module _ {W : Type 0} {step : Piece → W → W} where
       → before ≡ (last, None)
   all_is_written s {value} same over still = same ∙ ap (λ ws. printing step value (item_list_pieces s (items_of_works s ws))) over ∙ nothing_left step value ∙ ap (λ (v : W). (v, None)) (sym still)
 
+module _ {W : Type 0} {step : Piece → W → W} where
   -- 4. What is printed of all that was added
 
   all_of : {s : Setting} {value : W} {items : List Item} {old : Printing step} → AddsItems (begun s value) (λ t. items) old

@@ -38,8 +38,8 @@ loop-work-smaller g c =
 
 pub returns-in_err-turn-clause-missing : goal.returns-in_err-turn-clause-missing
 returns-in_err-turn-clause-missing g c = λ m e.
-    missing_next (printing_of g.W.PieceWriter.step c.args.self.now).from (printing_of g.W.PieceWriter.step c.loop-work.self).value c.loop-work.invariant.same c.in-Some.ensures.next.0
+    missing_next g.W.PieceWriter.step (printing_of g.W.PieceWriter.step c.args.self.now).from (printing_of g.W.PieceWriter.step c.loop-work.self).value c.loop-work.invariant.same c.in-Some.ensures.next.0
     (c.in_err-turn.ensures.missing m (let p = err_from_is_err_and c.from_residual.result c.from_residual.ensures.1 in let h = p.1 in let k = p.2 in cc))
 
 pub returns-clause-ok : goal.returns-clause-ok
-returns-clause-ok g c = let over = c.in_default.ensures.over refl in all_is_written (printing_of g.W.PieceWriter.step c.args.self.now).from c.loop-work.invariant.same over.0 over.1
+returns-clause-ok g c = let over = c.in_default.ensures.over refl in all_is_written g.W.PieceWriter.step (printing_of g.W.PieceWriter.step c.args.self.now).from c.loop-work.invariant.same over.0 over.1
