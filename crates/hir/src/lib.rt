@@ -6,58 +6,265 @@
 
 pub mod laws;
 
-pub use hir_base::{
-    AdtId, Arena, ArenaFault, ArenaIter, ArenaMap, ArenaMapIter, ArithOp, AstPtr, BinaryOp, BlockId,
-    BuiltinFloat, BuiltinInt, BuiltinUint, CmpOp, ConstId, ConstParamId, CrateId, DefWithBodyId,
-    Edition, EnumId, EnumVariantId, ExactEq, ExprOrPatPtr, ExprOrPatSource, ExprPrecedence, ExprPtr,
-    ExprSource, ExpressionStoreOwnerId, ExternAbi, FieldPtr, FieldSource, FunctionId, GenericDefId,
-    HasCode, HirFileId, HygieneId, Id, Idx, ImplId, InFile, Kind, LabelPtr, LabelSource,
-    LangItemTarget, LifetimeParamId, LifetimeParamKind, LifetimePtr, LifetimeSource,
-    LocalLifetimeParamId, LocalTypeOrConstParamId, LogicOp, MOST_ITEMS, Macro2Id, MacroCallId,
-    MacroCallPtr, MacroDefId, MacroId, MacroRulesId, ModPath, Name, NamedDef, Ordering, PatFieldPtr,
-    PatFieldSource, PatPtr, PatSource, PathKind, ProcMacroId, RangeOp, RawWords, SelfParamPtr, Seq,
-    ShortList, StaticId, Steps, StructId, SyntaxContext, SyntaxNodePtr, SyntheticSyntax, Table,
-    TableIter, Text, TextRange, TraitId, TryClone, TypeAliasId, TypeOrConstParamId,
-    TypeOrConstParamKind, TypeParamId, TypePtr, TypeSource, UnaryOp, UnionId, VariantId, ast, kinds,
-};
-pub use hir_captures::{CapturesFault, captures};
-pub use hir_defs::{PlainDef, Repr, StoreOf, Tables, TablesOf};
+pub use hir_base::AdtId;
+pub use hir_base::Arena;
+pub use hir_base::ArenaFault;
+pub use hir_base::ArenaIter;
+pub use hir_base::ArenaMap;
+pub use hir_base::ArenaMapIter;
+pub use hir_base::ArithOp;
+pub use hir_base::AstPtr;
+pub use hir_base::BinaryOp;
+pub use hir_base::BlockId;
+pub use hir_base::BuiltinFloat;
+pub use hir_base::BuiltinInt;
+pub use hir_base::BuiltinUint;
+pub use hir_base::CmpOp;
+pub use hir_base::ConstId;
+pub use hir_base::ConstParamId;
+pub use hir_base::CrateId;
+pub use hir_base::DefWithBodyId;
+pub use hir_base::Edition;
+pub use hir_base::EnumId;
+pub use hir_base::EnumVariantId;
+pub use hir_base::ExactEq;
+pub use hir_base::ExprOrPatPtr;
+pub use hir_base::ExprOrPatSource;
+pub use hir_base::ExprPrecedence;
+pub use hir_base::ExprPtr;
+pub use hir_base::ExprSource;
+pub use hir_base::ExpressionStoreOwnerId;
+pub use hir_base::ExternAbi;
+pub use hir_base::FieldPtr;
+pub use hir_base::FieldSource;
+pub use hir_base::FunctionId;
+pub use hir_base::GenericDefId;
+pub use hir_base::HasCode;
+pub use hir_base::HirFileId;
+pub use hir_base::HygieneId;
+pub use hir_base::Id;
+pub use hir_base::Idx;
+pub use hir_base::ImplId;
+pub use hir_base::InFile;
+pub use hir_base::Kind;
+pub use hir_base::LabelPtr;
+pub use hir_base::LabelSource;
+pub use hir_base::LangItemTarget;
+pub use hir_base::LifetimeParamId;
+pub use hir_base::LifetimeParamKind;
+pub use hir_base::LifetimePtr;
+pub use hir_base::LifetimeSource;
+pub use hir_base::LocalLifetimeParamId;
+pub use hir_base::LocalTypeOrConstParamId;
+pub use hir_base::LogicOp;
+pub use hir_base::MOST_ITEMS;
+pub use hir_base::Macro2Id;
+pub use hir_base::MacroCallId;
+pub use hir_base::MacroCallPtr;
+pub use hir_base::MacroDefId;
+pub use hir_base::MacroId;
+pub use hir_base::MacroRulesId;
+pub use hir_base::ModPath;
+pub use hir_base::Name;
+pub use hir_base::NamedDef;
+pub use hir_base::Ordering;
+pub use hir_base::PatFieldPtr;
+pub use hir_base::PatFieldSource;
+pub use hir_base::PatPtr;
+pub use hir_base::PatSource;
+pub use hir_base::PathKind;
+pub use hir_base::ProcMacroId;
+pub use hir_base::RangeOp;
+pub use hir_base::RawWords;
+pub use hir_base::SelfParamPtr;
+pub use hir_base::Seq;
+pub use hir_base::ShortList;
+pub use hir_base::StaticId;
+pub use hir_base::Steps;
+pub use hir_base::StructId;
+pub use hir_base::SyntaxContext;
+pub use hir_base::SyntaxNodePtr;
+pub use hir_base::SyntheticSyntax;
+pub use hir_base::Table;
+pub use hir_base::TableIter;
+pub use hir_base::Text;
+pub use hir_base::TextRange;
+pub use hir_base::TraitId;
+pub use hir_base::TryClone;
+pub use hir_base::TypeAliasId;
+pub use hir_base::TypeOrConstParamId;
+pub use hir_base::TypeOrConstParamKind;
+pub use hir_base::TypeParamId;
+pub use hir_base::TypePtr;
+pub use hir_base::TypeSource;
+pub use hir_base::UnaryOp;
+pub use hir_base::UnionId;
+pub use hir_base::VariantId;
+pub use hir_base::ast;
+pub use hir_base::kinds;
+pub use hir_captures::CapturesFault;
+pub use hir_captures::captures;
+pub use hir_defs::PlainDef;
+pub use hir_defs::Repr;
+pub use hir_defs::StoreOf;
+pub use hir_defs::Tables;
+pub use hir_defs::TablesOf;
 pub use hir_error::HirError;
-pub use hir_expr_store::{Blocks, ExprRoots, ExpressionStore, Missing, NodeSet, TypeBoundExt};
+pub use hir_expr_store::Blocks;
+pub use hir_expr_store::ExprRoots;
+pub use hir_expr_store::ExpressionStore;
+pub use hir_expr_store::Missing;
+pub use hir_expr_store::NodeSet;
+pub use hir_expr_store::TypeBoundExt;
 pub use hir_faults::FinishFault;
-pub use hir_items::{
-    Bodies, Body, BodyEntry, BodyFault, BodySourceMap, BoundLifetimes, ConstParamData, FieldData,
-    FieldsShape, FunctionParts, FunctionSignature, GenericParamData, GenericParamDataRef,
-    GenericParams, LifetimeBoundType, LifetimeParamData, Param, PlainParts, PlainSignature,
-    RawVisibility, RefusedBody, RefusedSignature, SignatureEntry, SignatureFault, Signatures,
-    StructParts, StructSignature, TypeOrConstParamData, TypeParamData, TypeParamProvenance,
-    VariantFields, VariantParts, WherePredicate,
-};
-pub use hir_make::{
-    assign, bind, block, body, call, closure, field, if_, int, let_, let_else, local, method_call,
-    params, path_type, reference, statement, tuple, tuple_pat, tuple_struct, where_bound,
-};
-pub use hir_node::{
-    Array, ArrayType, AssociatedTypeBinding, Binding, BindingAnnotation, BindingId, BindingKind,
-    BindingProblems, Boxed, CaptureBy, ChildPats, ClosureKind, ConstRef, CoroutineKind,
-    CoroutineSource, Expr, ExprId, ExprKind, ExprOrPatId, FloatTypeWrapper, FnType, GenericArg,
-    GenericArgs, GenericArgsParentheses, Item, Label, LabelId, LabelKind, LifetimeRef,
-    LifetimeRefId, LifetimeRefKind, Literal, LiteralOrConst, LoopSource, MatchArm, Movability,
-    Mutability, NodeId, NormalPath, OffsetOf, Pat, PatId, PatKind, Path, PathId, PathSegment,
-    PathSegments, PathSegmentsIter, Rawness, RecordFieldPat, RecordLitField, RecordSpread, RefType,
-    Statement, StoreVisitor, StoreVisitorExt, TraitBoundModifier, TraitRef, TypeBound, TypeRef,
-    TypeRefId, TypeRefKind, Unsafe, UseArgRef, visit_generic_args,
-};
-pub use hir_pretty::{
-    LineFormat, PrettyBody, PrintFault, print_body_hir, print_expr_hir, print_function,
-    print_pat_hir, print_path, print_signature, print_struct, print_variant_body_hir,
-};
-pub use hir_scope::{
-    Expansion, ExprScopes, ScopeChain, ScopeData, ScopeEntry, ScopeId, ScopeIds, ScopeKind,
-    ScopeMarker, ScopesFault, asked_name, visit_in_scope_order,
-};
-pub use hir_source::{
-    Definitions, Expansions, ExpressionStoreDiagnostics, ExpressionStoreSourceMap, MacroCalls,
-    MissingBodyItemKind, SourceMapBuilder,
-};
-pub use hir_store::{ExpressionStoreBuilder, Refused};
+pub use hir_items::Bodies;
+pub use hir_items::Body;
+pub use hir_items::BodyEntry;
+pub use hir_items::BodyFault;
+pub use hir_items::BodySourceMap;
+pub use hir_items::BoundLifetimes;
+pub use hir_items::ConstParamData;
+pub use hir_items::FieldData;
+pub use hir_items::FieldsShape;
+pub use hir_items::FunctionParts;
+pub use hir_items::FunctionSignature;
+pub use hir_items::GenericParamData;
+pub use hir_items::GenericParamDataRef;
+pub use hir_items::GenericParams;
+pub use hir_items::LifetimeBoundType;
+pub use hir_items::LifetimeParamData;
+pub use hir_items::Param;
+pub use hir_items::PlainParts;
+pub use hir_items::PlainSignature;
+pub use hir_items::RawVisibility;
+pub use hir_items::RefusedBody;
+pub use hir_items::RefusedSignature;
+pub use hir_items::SignatureEntry;
+pub use hir_items::SignatureFault;
+pub use hir_items::Signatures;
+pub use hir_items::StructParts;
+pub use hir_items::StructSignature;
+pub use hir_items::TypeOrConstParamData;
+pub use hir_items::TypeParamData;
+pub use hir_items::TypeParamProvenance;
+pub use hir_items::VariantFields;
+pub use hir_items::VariantParts;
+pub use hir_items::WherePredicate;
+pub use hir_make::assign;
+pub use hir_make::bind;
+pub use hir_make::block;
+pub use hir_make::body;
+pub use hir_make::call;
+pub use hir_make::closure;
+pub use hir_make::field;
+pub use hir_make::if_;
+pub use hir_make::int;
+pub use hir_make::let_;
+pub use hir_make::let_else;
+pub use hir_make::local;
+pub use hir_make::method_call;
+pub use hir_make::params;
+pub use hir_make::path_type;
+pub use hir_make::reference;
+pub use hir_make::statement;
+pub use hir_make::tuple;
+pub use hir_make::tuple_pat;
+pub use hir_make::tuple_struct;
+pub use hir_make::where_bound;
+pub use hir_node::Array;
+pub use hir_node::ArrayType;
+pub use hir_node::AssociatedTypeBinding;
+pub use hir_node::Binding;
+pub use hir_node::BindingAnnotation;
+pub use hir_node::BindingId;
+pub use hir_node::BindingKind;
+pub use hir_node::BindingProblems;
+pub use hir_node::Boxed;
+pub use hir_node::CaptureBy;
+pub use hir_node::ChildPats;
+pub use hir_node::ClosureKind;
+pub use hir_node::ConstRef;
+pub use hir_node::CoroutineKind;
+pub use hir_node::CoroutineSource;
+pub use hir_node::Expr;
+pub use hir_node::ExprId;
+pub use hir_node::ExprKind;
+pub use hir_node::ExprOrPatId;
+pub use hir_node::FloatTypeWrapper;
+pub use hir_node::FnType;
+pub use hir_node::GenericArg;
+pub use hir_node::GenericArgs;
+pub use hir_node::GenericArgsParentheses;
+pub use hir_node::Item;
+pub use hir_node::Label;
+pub use hir_node::LabelId;
+pub use hir_node::LabelKind;
+pub use hir_node::LifetimeRef;
+pub use hir_node::LifetimeRefId;
+pub use hir_node::LifetimeRefKind;
+pub use hir_node::Literal;
+pub use hir_node::LiteralOrConst;
+pub use hir_node::LoopSource;
+pub use hir_node::MatchArm;
+pub use hir_node::Movability;
+pub use hir_node::Mutability;
+pub use hir_node::NodeId;
+pub use hir_node::NormalPath;
+pub use hir_node::OffsetOf;
+pub use hir_node::Pat;
+pub use hir_node::PatId;
+pub use hir_node::PatKind;
+pub use hir_node::Path;
+pub use hir_node::PathId;
+pub use hir_node::PathSegment;
+pub use hir_node::PathSegments;
+pub use hir_node::PathSegmentsIter;
+pub use hir_node::Rawness;
+pub use hir_node::RecordFieldPat;
+pub use hir_node::RecordLitField;
+pub use hir_node::RecordSpread;
+pub use hir_node::RefType;
+pub use hir_node::Statement;
+pub use hir_node::StoreVisitor;
+pub use hir_node::StoreVisitorExt;
+pub use hir_node::TraitBoundModifier;
+pub use hir_node::TraitRef;
+pub use hir_node::TypeBound;
+pub use hir_node::TypeRef;
+pub use hir_node::TypeRefId;
+pub use hir_node::TypeRefKind;
+pub use hir_node::Unsafe;
+pub use hir_node::UseArgRef;
+pub use hir_node::visit_generic_args;
+pub use hir_pretty::LineFormat;
+pub use hir_pretty::PrettyBody;
+pub use hir_pretty::PrintFault;
+pub use hir_pretty::print_body_hir;
+pub use hir_pretty::print_expr_hir;
+pub use hir_pretty::print_function;
+pub use hir_pretty::print_pat_hir;
+pub use hir_pretty::print_path;
+pub use hir_pretty::print_signature;
+pub use hir_pretty::print_struct;
+pub use hir_pretty::print_variant_body_hir;
+pub use hir_scope::Expansion;
+pub use hir_scope::ExprScopes;
+pub use hir_scope::ScopeChain;
+pub use hir_scope::ScopeData;
+pub use hir_scope::ScopeEntry;
+pub use hir_scope::ScopeId;
+pub use hir_scope::ScopeIds;
+pub use hir_scope::ScopeKind;
+pub use hir_scope::ScopeMarker;
+pub use hir_scope::ScopesFault;
+pub use hir_scope::asked_name;
+pub use hir_scope::visit_in_scope_order;
+pub use hir_source::Definitions;
+pub use hir_source::Expansions;
+pub use hir_source::ExpressionStoreDiagnostics;
+pub use hir_source::ExpressionStoreSourceMap;
+pub use hir_source::MacroCalls;
+pub use hir_source::MissingBodyItemKind;
+pub use hir_source::SourceMapBuilder;
+pub use hir_store::ExpressionStoreBuilder;
+pub use hir_store::Refused;
