@@ -2,14 +2,17 @@
 
 ghost use Rattle.std.specs.Prelude.{◌↔◌, ℕ, IsSome};
 ghost use Rattle.std.specs.FinMap as map;
-ghost use Rattle.hir.specs.NodeId.TheVariants as node;
-ghost use Rattle.hir.specs.Bodies.{BodyReaches};
-ghost use Rattle.hir.specs.BodyScopes.{ChainsAreFrames, tops_of_body};
+ghost use Rattle.hir_node.specs.declared.node_id.NodeId.TheVariants as node;
+ghost use Rattle.hir_items.specs.Bodies.{BodyReaches};
+ghost use Rattle.hir_scope.specs.BodyScopes.{ChainsAreFrames, tops_of_body};
 
 use crate::bodies::closures;
-use hir::{
-    BindingId, Body, CapturesFault, ExprId, ExprScopes, ExpressionStore, HirError, captures,
-};
+use hir_captures::{CapturesFault, captures};
+use hir_error::HirError;
+use hir_items::Body;
+use hir_node::{BindingId, ExprId};
+use hir_scope::ExprScopes;
+use hir_store::ExpressionStore;
 use std::alloc::Global;
 
 /// A closure, and the bindings from outside that its code uses, in the order of their first use.

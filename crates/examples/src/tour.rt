@@ -1,15 +1,18 @@
 //! A tour: a body is built by calls, finished, printed, walked and searched, and the name `x` is resolved at each expression.
 ghost use Rattle.std.specs.Prelude.{◌≡◌, ◌<◌, length, option_map};
 ghost use Rattle.std.specs.FinMap as map;
-ghost use Rattle.hir.specs.RootSearch.{root_for_expr};
-ghost use Rattle.hir.specs.ScopePaths.{chain};
-ghost use Rattle.hir.specs.Resolution.{resolve};
+ghost use Rattle.hir_expr_store.specs.RootSearch.{root_for_expr};
+ghost use Rattle.hir_scope.specs.Paths.{chain};
+ghost use Rattle.hir_scope.specs.Resolution.{resolve};
 
-use hir::{
-    BindingId, Body, DefWithBodyId, Edition, Expr, ExprId, ExprScopes, ExpressionStore,
-    ExpressionStoreBuilder, FunctionId, HirError, HygieneId, Mutability, Name, NamedDef, Rawness,
-    Tables, Text, bind, block, let_, local, params, print_body_hir,
-};
+use hir_base::{DefWithBodyId, Edition, FunctionId, HygieneId, Name, NamedDef, Text};
+use hir_defs::{Body, Tables};
+use hir_error::HirError;
+use hir_make::{bind, block, let_, local, params};
+use hir_node::{BindingId, Expr, ExprId, Mutability, Rawness};
+use hir_pretty::print_body_hir;
+use hir_scope::ExprScopes;
+use hir_store::{ExpressionStore, ExpressionStoreBuilder};
 use std::alloc::Global;
 
 /// The body of `fn f(x) { let x = &x; x }`.

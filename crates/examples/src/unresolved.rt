@@ -2,7 +2,10 @@
 
 use crate::assigned::targets;
 use crate::bodies::names;
-use hir::{Body, Expr, ExprOrPatId, ExprScopes, HirError, Pat, asked_name};
+use hir_error::HirError;
+use hir_items::Body;
+use hir_node::{Expr, ExprOrPatId, Pat};
+use hir_scope::{ExprScopes, asked_name};
 use std::alloc::Global;
 
 /// The paths that may mean a local variable and mean none: expressions, and variables that are assigned to. What is defined outside the

@@ -2,7 +2,12 @@
 
 use crate::assigned::targets;
 use crate::bodies::names;
-use hir::{ArenaMap, BindingId, BindingKind, Body, ExprScopes, ExpressionStore, HirError};
+use hir_base::ArenaMap;
+use hir_error::HirError;
+use hir_items::Body;
+use hir_node::{BindingId, BindingKind};
+use hir_scope::ExprScopes;
+use hir_store::ExpressionStore;
 use std::alloc::Global;
 
 /// A set of bindings.

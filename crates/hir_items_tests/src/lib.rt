@@ -18,8 +18,6 @@ mod memory;
 #[cfg(test)]
 mod order;
 #[cfg(test)]
-mod owners;
-#[cfg(test)]
 mod params;
 #[cfg(test)]
 mod scopes;

@@ -1,51 +1,50 @@
-//! Signatures: parts that are refused come back as they were given, and what an accepted signature names is
-//! in its store. They are asked as soon as they are made, so that a test has small values alone and its
-//! proof is short.
-use crate::memory::{in_a_box, push};
+//! Signatures: parts that are refused come back as they were given, and what an accepted signature names is in its store. They are asked
+//! as soon as they are made, so that a test has small values alone and its proof is short.
+use crate::memory::push;
 use crate::params::{self, Entry, ParamLists, Predicate};
 use crate::trees::{self, BARE, Never};
 use hir_base::{ExternAbi, Idx, Name, Seq};
 use hir_items::{
     FieldData, FieldsShape, FunctionParts, FunctionSignature, PlainParts, PlainSignature,
-    RawVisibility, RefusedSignature, SignatureFault, StructParts, StructSignature, VariantFields,
-    VariantParts,
+    RawVisibility, RefusedSignature, SignatureFault, VariantFields, VariantParts, WherePredicate,
 };
 use hir_node::{TypeRef, TypeRefId};
 use std::alloc::{AllocError, Global};
 use std::test::Fail;
 
-/// Parts that a signature is made of.
-trait Parts<S>: PartialEq + Drop {
-    /// The signature of these parts, or why there is none.
-    fn sign(self) -> Result<S, RefusedSignature<Self>>;
+/// What tests ask of parts that come back.
+trait Known {
+    /// Whether they have what they were given.
+    fn is_known(&self) -> bool;
 }
 
-impl Parts<FunctionSignature> for FunctionParts {
-    fn sign(self) -> Result<FunctionSignature, RefusedSignature<FunctionParts>> {
-        FunctionSignature::new(self)
+/// One parameter, and what stands before `fn f`.
+impl Known for FunctionParts {
+    fn is_known(&self) -> bool {
+        self.name.as_str() == "f"
+            && self.is_const
+            && self.is_unsafe
+            && !self.is_async
+            && self.generic_params.len() == 1
+            && self.params.len() == 1
     }
 }
 
-impl Parts<StructSignature> for StructParts {
-    fn sign(self) -> Result<StructSignature, RefusedSignature<StructParts>> {
-        StructSignature::new(self)
+/// One generic parameter.
+impl Known for PlainParts {
+    fn is_known(&self) -> bool {
+        self.generic_params.len() == 1
     }
 }
 
-impl Parts<PlainSignature> for PlainParts {
-    fn sign(self) -> Result<PlainSignature, RefusedSignature<PlainParts>> {
-        PlainSignature::new(self)
+/// One field.
+impl Known for VariantParts {
+    fn is_known(&self) -> bool {
+        self.fields.len() == 1
     }
 }
 
-impl Parts<VariantFields> for VariantParts {
-    fn sign(self) -> Result<VariantFields, RefusedSignature<VariantParts>> {
-        VariantFields::new(self)
-    }
-}
-
-/// What tests ask of a signature that is accepted. An id that it gives is in its store: nothing is tested
-/// first.
+/// What tests ask of a signature that is accepted. An id that it gives is in its store: nothing is tested first.
 trait Named {
     /// Whether each type that it names is `!`.
     fn names_never(&self) -> bool;
@@ -66,17 +65,26 @@ impl Named for FunctionSignature {
     }
 }
 
-/// It names none here: a predicate is on a path.
+/// The types that its predicates are on.
 impl Named for PlainSignature {
     fn names_never(&self) -> bool {
-        self.generic_params().has_no_predicates()
-    }
-}
-
-/// It names none here: a predicate is on a path.
-impl Named for StructSignature {
-    fn names_never(&self) -> bool {
-        self.generic_params().has_no_predicates()
+        for predicate in self.generic_params().where_predicates() {
+            let is_never = match predicate {
+                WherePredicate::TypeBound {
+                    lifetimes: _,
+                    target,
+                    bound: _,
+                } => self.store()[*target] == TypeRef::Never,
+                WherePredicate::Lifetime {
+                    target: _,
+                    bound: _,
+                } => false,
+            };
+            if !is_never {
+                return false;
+            }
+        }
+        true
     }
 }
 
@@ -92,33 +100,24 @@ impl Named for VariantFields {
     }
 }
 
-/// Whether each type that is named is `!`, where the parts are accepted. Else why they are refused, and
-/// whether they come back as they were, twice: a refusal is asked for again.
+/// Whether the types that are named are `!`, where the parts are accepted. Else why they are refused, and whether what comes back has
+/// what it was given.
 type Outcome = Result<bool, (SignatureFault, bool)>;
 
-/// The answer where the parts were refused so, and where they came back as they were. Where memory was
-/// refused, the second answer is the one that ample memory gives.
-fn ask_again<S: Named + Drop, P: Parts<S>>(first: SignatureFault, parts: P, same: &P) -> Outcome {
-    let came_back = parts == *same;
-    match parts.sign() {
-        Ok(signature) => {
-            Ok(first == SignatureFault::Memory && came_back && signature.names_never())
-        }
-        Err(second) => {
-            let is_same_fault = first == second.fault || first == SignatureFault::Memory;
-            Err((
-                second.fault,
-                is_same_fault && came_back && second.parts == *same,
-            ))
-        }
+/// The answer where the parts are refused so: where memory was refused, that is the error.
+fn refusal(fault: SignatureFault, is_known: bool) -> Result<Outcome, Fail> {
+    if fault == SignatureFault::Memory {
+        return Err(Fail::from(fault));
     }
+    Ok(Err((fault, is_known)))
 }
 
-/// What is answered to the parts. They are made twice, to be compared where they come back.
-fn ask<S: Named + Drop, P: Parts<S>>(parts: Box<P>, same: Box<P>) -> Outcome {
-    match Box::into_inner(parts).sign() {
-        Ok(signature) => Ok(signature.names_never()),
-        Err(refused) => ask_again(refused.fault, refused.parts, &same),
+fn ask<S: Named + Drop, P: Known + Drop>(
+    outcome: Result<S, RefusedSignature<P>>,
+) -> Result<Outcome, Fail> {
+    match outcome {
+        Ok(signature) => Ok(Ok(signature.names_never())),
+        Err(failed) => refusal(failed.fault, failed.parts.is_known()),
     }
 }
 
@@ -158,14 +157,13 @@ fn field_x(alloc: Global) -> Result<Seq<FieldData>, AllocError> {
     Ok(fields)
 }
 
-/// `const unsafe extern "C" fn f<T>(..) -> ..`, with one parameter of type 0, which it returns, over these
-/// types.
-fn function(alloc: Global, types: &[Never]) -> Result<Box<FunctionParts>, Fail> {
+/// `const unsafe extern "C" fn f<T>(..) -> ..`, with one parameter of type 0, which it returns, over these types.
+fn function(alloc: Global, types: &[Never]) -> Result<Outcome, Fail> {
     let generic_params = params::make_params(alloc, &T)?;
     let store = trees::store(alloc, types, &BARE)?;
     let name = Name::new(alloc, "f")?;
     let params = type_0(alloc)?;
-    let parts = FunctionParts {
+    ask(FunctionSignature::new(FunctionParts {
         name,
         generic_params: Box::into_inner(generic_params),
         store: Box::into_inner(store),
@@ -177,95 +175,51 @@ fn function(alloc: Global, types: &[Never]) -> Result<Box<FunctionParts>, Fail> 
         is_unsafe: true,
         is_explicit_safe: false,
         legacy_const_indices: None,
-    };
-    Ok(in_a_box(alloc, parts)?)
+    }))
 }
 
-/// `#[fundamental] struct S<T>(..)`, with these parameters, over these types.
-fn structure(
-    alloc: Global,
-    params: &ParamLists,
-    types: &[Never],
-) -> Result<Box<StructParts>, Fail> {
-    let generic_params = params::make_params(alloc, params)?;
+/// A definition with the type parameter `T`, which is bounded, over these types.
+fn plain(alloc: Global, types: &[Never]) -> Result<Outcome, Fail> {
+    let generic_params = params::make_params(alloc, &BOUNDED)?;
     let store = trees::store(alloc, types, &BARE)?;
-    let name = Name::new(alloc, "S")?;
-    let parts = StructParts {
-        name,
+    ask(PlainSignature::new(PlainParts {
         generic_params: Box::into_inner(generic_params),
         store: Box::into_inner(store),
-        is_fundamental: true,
-        shape: FieldsShape::Tuple,
-    };
-    Ok(in_a_box(alloc, parts)?)
-}
-
-/// A definition with these parameters, over these types.
-fn plain(alloc: Global, params: &ParamLists, types: &[Never]) -> Result<Box<PlainParts>, Fail> {
-    let generic_params = params::make_params(alloc, params)?;
-    let store = trees::store(alloc, types, &BARE)?;
-    let parts = PlainParts {
-        generic_params: Box::into_inner(generic_params),
-        store: Box::into_inner(store),
-    };
-    Ok(in_a_box(alloc, parts)?)
+    }))
 }
 
 /// The fields `{ x }`, over these types.
-fn fields(alloc: Global, types: &[Never]) -> Result<Box<VariantParts>, Fail> {
+fn fields(alloc: Global, types: &[Never]) -> Result<Outcome, Fail> {
     let store = trees::store(alloc, types, &BARE)?;
     let fields = field_x(alloc)?;
-    let parts = VariantParts {
+    ask(VariantFields::new(VariantParts {
         shape: FieldsShape::Record,
         fields,
         store: Box::into_inner(store),
-    };
-    Ok(in_a_box(alloc, parts)?)
+    }))
 }
 
-/// Parts that name what is absent.
 #[test]
 fn refused_parts_come_back(rt: HostRuntime) -> Result<(), Fail> {
     let a = rt.alloc();
     // the type of the parameter is absent
-    let of_function = ask::<FunctionSignature, _>(function(a, &[])?, function(a, &[])?);
-    // the type that a predicate is on is absent
-    let of_struct = ask::<StructSignature, _>(
-        structure(a, &BOUNDED, &[])?,
-        structure(a, &BOUNDED, &[])?,
-    );
-    let of_plain = ask::<PlainSignature, _>(plain(a, &BOUNDED, &[])?, plain(a, &BOUNDED, &[])?);
+    let of_parameter = function(a, &[])?;
+    // a predicate is on a type that is absent, or that is `!`, which is no path
+    let of_nothing = plain(a, &[])?;
+    let of_never = plain(a, &[Never])?;
     // the type of the field is absent
-    let of_fields = ask::<VariantFields, _>(fields(a, &[])?, fields(a, &[])?);
+    let of_field = fields(a, &[])?;
     let no_id = Err((SignatureFault::IdOutOfRange, true));
-    assert!(&rt; [of_function, of_struct, of_plain, of_fields] == [no_id, no_id, no_id, no_id]);
-    Ok(())
-}
-
-/// A predicate names `!` as a path.
-#[test]
-fn parts_with_a_bound_that_is_no_path_come_back(rt: HostRuntime) -> Result<(), Fail> {
-    let a = rt.alloc();
-    let of_struct = ask::<StructSignature, _>(
-        structure(a, &BOUNDED, &[Never])?,
-        structure(a, &BOUNDED, &[Never])?,
-    );
-    let of_plain = ask::<PlainSignature, _>(
-        plain(a, &BOUNDED, &[Never])?,
-        plain(a, &BOUNDED, &[Never])?,
-    );
-    let no_path = Err((SignatureFault::NotAPath, true));
-    assert!(&rt; [of_struct, of_plain] == [no_path, no_path]);
+    assert!(&rt; [of_parameter, of_nothing, of_field] == [no_id, no_id, no_id]);
+    assert!(&rt; of_never == Err((SignatureFault::NotAPath, true)));
     Ok(())
 }
 
 #[test]
 fn what_is_named_is_in_the_store(rt: HostRuntime) -> Result<(), Fail> {
     let a = rt.alloc();
-    let of_function = ask::<FunctionSignature, _>(function(a, &[Never])?, function(a, &[Never])?);
-    let of_struct = ask::<StructSignature, _>(structure(a, &T, &[])?, structure(a, &T, &[])?);
-    let of_plain = ask::<PlainSignature, _>(plain(a, &T, &[])?, plain(a, &T, &[])?);
-    let of_fields = ask::<VariantFields, _>(fields(a, &[Never])?, fields(a, &[Never])?);
-    assert!(&rt; [of_function, of_struct, of_plain, of_fields] == [Ok(true); 4]);
+    let of_function = function(a, &[Never])?;
+    let of_fields = fields(a, &[Never])?;
+    assert!(&rt; [of_function, of_fields] == [Ok(true), Ok(true)]);
     Ok(())
 }

@@ -27,11 +27,6 @@ impl<'a> FailingReader<'a> {
             has_failed: false,
         }
     }
-
-    /// What was read, where these are the bytes that it was made of.
-    pub fn read_of<'b>(&self, bytes: &'b [u8]) -> &'b [u8] {
-        &bytes[..bytes.len().saturating_sub(self.left.len())]
-    }
 }
 
 impl Source for FailingReader<'_> {
