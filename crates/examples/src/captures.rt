@@ -4,7 +4,7 @@ ghost use Rattle.std.specs.Prelude.{◌↔◌, ℕ, IsSome};
 ghost use Rattle.std.specs.FinMap as map;
 ghost use Rattle.hir_node.specs.declared.node_id.NodeId.TheVariants as node;
 ghost use Rattle.hir_items.specs.Bodies.{BodyReaches};
-ghost use Rattle.hir_scope.specs.BodyScopes.{ChainsAreFrames, tops_of_body};
+ghost use Rattle.hir_scope.specs.BodyScopes.{ChainsAreFrames, entry_nodes_of_body};
 
 use crate::bodies::closures;
 use hir_captures::{CapturesFault, captures};
@@ -30,7 +30,7 @@ fn captures_by_closure(
 ) -> Result<Vec<ClosureCaptures>, HirError>
     requires reached { (expr : ℕ) → IsSome (map.get scopes.now.scope_by_expr expr)
         ↔ BodyReaches body.now (node.Expr expr) }
-    requires chains { ChainsAreFrames body.now.store.nodes (tops_of_body body.now) scopes.now }
+    requires chains { ChainsAreFrames body.now.store.nodes (entry_nodes_of_body body.now) scopes.now }
 {
     let mut found = Vec::new(alloc);
     for (closure, _) in body.store().exprs() {

@@ -5,7 +5,7 @@ use crate::bodies::names;
 use hir_error::HirError;
 use hir_items::Body;
 use hir_node::{Expr, ExprOrPatId, Pat};
-use hir_scope::{ExprScopes, asked_name};
+use hir_scope::{ExprScopes, local_name};
 use std::alloc::Global;
 
 /// The paths that may mean a local variable and mean none: expressions, and variables that are assigned to. What is defined outside the
@@ -22,7 +22,7 @@ fn unresolved(
             continue;
         }
         if let Expr::Path(path) = expr
-            && asked_name(path).is_some()
+            && local_name(path).is_some()
             && scopes.binding_at(store, id).is_none()
         {
             found.push(ExprOrPatId::ExprId(id))?;
@@ -30,7 +30,7 @@ fn unresolved(
         for &pat in &targets(alloc, store, expr)? {
             if store.has_pat(pat)
                 && let Pat::Path(path) = &store[pat]
-                && asked_name(path).is_some()
+                && local_name(path).is_some()
                 && scopes.target_binding_at(store, id, pat).is_none()
             {
                 found.push(ExprOrPatId::PatId(pat))?;

@@ -64,10 +64,10 @@ pub use Rattle.hir_forest.specs.Faults
 pub use Rattle.hir_forest.specs.Forest
 pub use Rattle.hir_forest.specs.declared.roots.Root
 -- faults of nodes
-pub use Rattle.hir_faults.specs.Down
+pub use Rattle.hir_faults.specs.Recursion
 pub use Rattle.hir_faults.specs.Faults as NodeFaults
 pub use Rattle.hir_faults.specs.Fits
-pub use Rattle.hir_faults.specs.Holds
+pub use Rattle.hir_faults.specs.TypeParts
 pub use Rattle.hir_faults.specs.Nodes
 pub use Rattle.hir_faults.specs.Sizes
 pub use Rattle.hir_faults.specs.Sound
@@ -111,17 +111,17 @@ pub use Rattle.hir_defs.specs.Tables
 -- scopes and resolution
 pub use Rattle.hir_scope.specs.BodyScopes
 pub use Rattle.hir_scope.specs.Chains
-pub use Rattle.hir_scope.specs.Forms
+pub use Rattle.hir_scope.specs.ScopingForms
 pub use Rattle.hir_scope.specs.Frames
-pub use Rattle.hir_scope.specs.Leak
+pub use Rattle.hir_scope.specs.OpenFrames
 pub use Rattle.hir_scope.specs.Lookups as ScopeLookups
 pub use Rattle.hir_scope.specs.Macros
-pub use Rattle.hir_scope.specs.Meanings
+pub use Rattle.hir_scope.specs.PathResolution
 pub use Rattle.hir_scope.specs.Order
 pub use Rattle.hir_scope.specs.Paths as ScopePaths
 pub use Rattle.hir_scope.specs.Resolution
 pub use Rattle.hir_scope.specs.Scopes
-pub use Rattle.hir_scope.specs.Slots
+pub use Rattle.hir_scope.specs.ChildContexts
 pub use Rattle.hir_scope.specs.declared.macros.Expansion
 -- captures
 pub use Rattle.hir_captures.specs.Captures

@@ -257,7 +257,7 @@ pub use hir_scope::ScopeIds;
 pub use hir_scope::ScopeKind;
 pub use hir_scope::ScopeMarker;
 pub use hir_scope::ScopesFault;
-pub use hir_scope::asked_name;
+pub use hir_scope::local_name;
 pub use hir_scope::visit_in_scope_order;
 pub use hir_source::Definitions;
 pub use hir_source::Expansions;

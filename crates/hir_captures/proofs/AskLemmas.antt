@@ -11,13 +11,13 @@ use Rattle.hir_scope.specs.Resolution.{resolve, IsFound}
 use Rattle.hir_scope.specs.Scopes.{Scope, ParentsStandEarlier, frame_of}
 use Rattle.hir_scope.specs.declared.scope.ScopeEntry.{ScopeEntry}
 use Rattle.hir_scope.proofs.{PathLemmas.path_step, ResolveLemmas.resolve_append, ResolveLemmas.found_resolves}
-use Rattle.hir_captures.specs.Captures.{unless_within, meaning_behind}
+use Rattle.hir_captures.specs.Captures.{outer_entry, resolve_outside}
 
 -- 1. Scopes of a chain
 
 -- each of these scopes is there
-abbrev pub AllThere : List Scope → List ℕ → Type 0
-AllThere scopes ids = AllByRecursion (λ (s : ℕ). s < length scopes) ids
+abbrev pub AllInRange : List Scope → List ℕ → Type 0
+AllInRange scopes ids = AllByRecursion (λ (s : ℕ). s < length scopes) ids
 
 abbrev frames : List Scope → List ℕ → Chain
 frames scopes ids = flat_map (frame_at scopes) ids
@@ -25,7 +25,7 @@ frames scopes ids = flat_map (frame_at scopes) ids
 one_frame : (scopes : List Scope) (s : ℕ) (x : Scope) (ids : List ℕ) → slice_get scopes s ≡ Some x → frames scopes (s ∷ ids) ≡ frame_of x ∷ frames scopes ids
 one_frame scopes s x ids e = ap (λ (o : Option Scope). all_of (λ (y : Scope). frame_of y ∷ []) o ++ frames scopes ids) e
 
-pub as_many : (scopes : List Scope) (ids : List ℕ) → AllThere scopes ids → length (frames scopes ids) ≡ length ids
+pub as_many : (scopes : List Scope) (ids : List ℕ) → AllInRange scopes ids → length (frames scopes ids) ≡ length ids
 as_many scopes [] h = refl
 as_many scopes (s ∷ ids) h =
     let x = item_at scopes s h.0 in
@@ -41,8 +41,8 @@ module _ (n : List ℕ) (h : SyntaxContext) where
     at (Some x) q = absurd cc
 
   -- what means nothing captures nothing
-  pub none_captured : (m : ℕ) (xs : Chain) → resolve xs n h ≡ None → meaning_behind m xs n h ≡ None
-  none_captured m xs e = λ i. unless_within (none_in_front m xs e i) (e i)
+  pub none_captured : (m : ℕ) (xs : Chain) → resolve xs n h ≡ None → resolve_outside m xs n h ≡ None
+  none_captured m xs e = λ i. outer_entry (none_in_front m xs e i) (e i)
 
   -- an entry of the first frame is in front
   found_in_front : (f : Frame) (entry : ScopeEntry) → resolve (f ∷ []) n h ≡ Some entry → (k : ℕ) (fs : Chain) → resolve (take (suc k) (f ∷ fs)) n h ≡ Some entry
@@ -70,19 +70,19 @@ module _ (scopes : List Scope) (earlier : ParentsStandEarlier scopes) (from : �
   means = found_resolves scopes earlier from n h s entry f
 
   -- among the outermost scopes
-  pub found_behind : length outer ≤ outermost → meaning_behind (length whole - outermost) whole n h ≡ Some entry.binding
+  pub found_behind : length outer ≤ outermost → resolve_outside (length whole - outermost) whole n h ≡ Some entry.binding
   found_behind l =
       let m = length whole - outermost in
       let few : m ≤ length inner = omega (arith, long, l) in
       let front : resolve (take m whole) n h ≡ None =
       ap (λ (c : Chain). resolve (take m c) n h) parts ∙ (ap (λ (c : Chain). resolve c n h) (take-append-le m inner outer few) ∙ none_in_front n h m inner f.none_before) in
-      λ i. unless_within (front i) (means i)
+      λ i. outer_entry (front i) (means i)
 
   -- further in
-  pub found_within : outermost < length outer → meaning_behind (length whole - outermost) whole n h ≡ None
+  pub found_within : outermost < length outer → resolve_outside (length whole - outermost) whole n h ≡ None
   found_within l =
       let k = length outer - outermost - 1 in
-      let x = item_at scopes s f.there in
+      let x = item_at scopes s f.in_range in
       let fs = frames scopes (path scopes x.0.parent) in
       let first : resolve (frame_of x.0 ∷ []) n h ≡ Some entry = sym (ap (λ (c : Chain). resolve c n h) (ap (all_of (λ (y : Scope). frame_of y ∷ [])) x.1)) ∙ f.is_first in
       let out : outer ≡ frame_of x.0 ∷ fs = ap (frames scopes) (path_step scopes s x.0 earlier x.1) ∙ one_frame scopes s x.0 (path scopes x.0.parent) x.1 in
@@ -95,4 +95,4 @@ module _ (scopes : List Scope) (earlier : ParentsStandEarlier scopes) (from : �
       ∙ (ap (λ (o : Option ScopeEntry). option_or o (resolve (take (suc k) outer) n h)) f.none_before
       ∙ (ap (λ (c : Chain). resolve (take (suc k) c) n h) out
       ∙ found_in_front n h (frame_of x.0) entry first k fs))))) in
-      λ i. unless_within (front i) (means i)
+      λ i. outer_entry (front i) (means i)

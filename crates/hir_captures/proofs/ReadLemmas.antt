@@ -7,35 +7,35 @@ use Rattle.std.specs.List.{flat_map, filter_map, slice_get}
 use Rattle.std.specs.Prelude.{IsSome, ◌↔◌, ◌-◌}
 use Rattle.hir_node.specs.{ChildCalls.Call, ChildCalls.pat_calls, Runs.Runs, Runs.no_call, Runs.a_call}
 use Rattle.hir_node.specs.declared.{expr.Expr.Expr, node_id.NodeId.NodeId, pat.Pat.Pat}
-use Rattle.hir_faults.specs.{Down.KidsFall, Nodes.Nodes}
+use Rattle.hir_faults.specs.{Recursion.RankDecreases, Nodes.Nodes}
 use Rattle.hir_expr_store.specs.Contents.{Contents}
 use Rattle.hir_items.specs.Bodies.{BodyContents, BodyReaches}
-use Rattle.hir_stack.specs.Stacks.{Puts}
-use Rattle.hir_stack.proofs.TurnLemmas.{puts_none, puts_two}
-use Rattle.hir_scope.specs.{BodyScopes.ChainsAreFrames, BodyScopes.tops_of_body, Chains.HasChain}
-use Rattle.hir_scope.specs.Forms.{form_of, form_at, expr_form, pat_form}
+use Rattle.hir_stack.specs.Stacks.{Defers}
+use Rattle.hir_stack.proofs.DeferredLemmas.{defers_none, defers_two}
+use Rattle.hir_scope.specs.{BodyScopes.ChainsAreFrames, BodyScopes.entry_nodes_of_body, Chains.HasChain}
+use Rattle.hir_scope.specs.ScopingForms.{form_of, form_at, expr_form, pat_form}
 use Rattle.hir_scope.specs.{Order.met_in_form, Paths.chain, Scopes.Scopes}
-use Rattle.hir_captures.specs.Captures.{meaning_behind, with_new, AreChains, AreCaptures}
+use Rattle.hir_captures.specs.Captures.{resolve_outside, with_new, AreChains, AreCaptures}
 use Rattle.hir_captures.specs.Uses.{Spot, Use, uses_in, spot, if_assignment, assignment_at, uses_at, spot_uses, code_under}
-use Rattle.hir_captures.specs.declared.{code.Code.Code, to_read.Task.Task, to_read.ToRead.ToRead}
-use Rattle.hir_captures.specs.walk.Pending.{task_of, tasks_of, pat_task, task_node, task_target, code_of, AreThere}
-use Rattle.hir_captures.specs.walk.Reading.{chain_in, captured_binding_in, with_uses, with_code, Reads}
-use Rattle.hir_captures.proofs.CodeLemmas.{code_read, kids_there}
+use Rattle.hir_captures.specs.declared.{code.Code.Code, tasks.Task.Task, tasks.Tasks.Tasks}
+use Rattle.hir_captures.specs.walk.Pending.{task_of, tasks_of, pat_task, task_node, task_target, code_of, AreInRange}
+use Rattle.hir_captures.specs.walk.Reading.{chain_in, captured_binding_in, with_uses, with_code, ReadsTask}
+use Rattle.hir_captures.proofs.CodeLemmas.{code_read, children_in_range}
 
 -- 1. What a run of child calls leaves to be read.
 
-abbrev pub PutsCalls : ToRead → List Call → ToRead → Type 0
-PutsCalls v cs w = (w.assignment ≡ v.assignment) × Puts v.stack (tasks_of v.assignment cs) w.stack
+abbrev pub DefersCalls : Tasks → List Call → Tasks → Type 0
+DefersCalls v cs w = (w.assignment ≡ v.assignment) × Defers v.stack (tasks_of v.assignment cs) w.stack
 
-abbrev pub PutsCall : ToRead → Call → ToRead → Type 0
-PutsCall v c w = (w.assignment ≡ v.assignment) × Puts v.stack (task_of v.assignment c) w.stack
+abbrev pub DefersCall : Tasks → Call → Tasks → Type 0
+DefersCall v c w = (w.assignment ≡ v.assignment) × Defers v.stack (task_of v.assignment c) w.stack
 
-pub puts_all : {v w : ToRead} {cs : List Call} → Runs PutsCall v cs w → PutsCalls v cs w
-puts_all {v} no_call = (refl, puts_none v.stack)
-puts_all {v} {w} (a_call {v = u} {c = c} {cs = cs} step rest) =
-    let later = puts_all rest in
-    let same = subst (λ (a : Option ℕ). Puts u.stack (tasks_of a cs) w.stack) step.0 later.1 in
-    (later.0 ∙ step.0, puts_two v.stack u.stack w.stack (task_of v.assignment c) (tasks_of v.assignment cs) step.1 same)
+pub defers_all : {v w : Tasks} {cs : List Call} → Runs DefersCall v cs w → DefersCalls v cs w
+defers_all {v} no_call = (refl, defers_none v.stack)
+defers_all {v} {w} (a_call {v = u} {c = c} {cs = cs} step rest) =
+    let later = defers_all rest in
+    let same = subst (λ (a : Option ℕ). Defers u.stack (tasks_of a cs) w.stack) step.0 later.1 in
+    (later.0 ∙ step.0, defers_two v.stack u.stack w.stack (task_of v.assignment c) (tasks_of v.assignment cs) step.1 same)
 
 -- 2. Reading a node leaves what is to be found as it was.
 
@@ -44,9 +44,9 @@ no_assignment id (Expr.Assignment target value) h = absurd (h target value refl)
 no_assignment id _ h = refl
 
 -- the pattern of a task is there
-pub pat_there : (s : Nodes) (a : Option ℕ) (id : ℕ) (rest : List Task) → AreThere s (pat_task a id ∷ rest) → id < length s.pats
-pat_there s None id rest h = h.0
-pat_there s (Some a) id rest h = h.0
+pub pat_in_range : (s : Nodes) (a : Option ℕ) (id : ℕ) (rest : List Task) → AreInRange s (pat_task a id ∷ rest) → id < length s.pats
+pat_in_range s None id rest h = h.0
+pat_in_range s (Some a) id rest h = h.0
 
 module _ (code : Code) where
   abbrev c : Contents
@@ -57,62 +57,62 @@ module _ (code : Code) where
       ap (fold with_new found) (filter_map-append (captured_binding_in code) us vs)
       ∙ fold-append with_new found (filter_map (captured_binding_in code) us) (filter_map (captured_binding_in code) vs)
 
-  module _ (fall : KidsFall c.nodes) (t : Task) (rest new : List Task) (before after : List ℕ) where
-    abbrev put : List Task
-    put = tasks_of (assignment_at c.nodes (task_node t) (task_target t)) (met_in_form (form_of c.nodes (task_node t))) ++ rest
+  module _ (fall : RankDecreases c.nodes) (t : Task) (rest new : List Task) (before after : List ℕ) where
+    abbrev defer : List Task
+    defer = tasks_of (assignment_at c.nodes (task_node t) (task_target t)) (met_in_form (form_of c.nodes (task_node t))) ++ rest
 
-    code_now : code_of c.nodes (t ∷ rest) ≡ spot (task_node t) (task_target t) ∷ code_of c.nodes put
+    code_now : code_of c.nodes (t ∷ rest) ≡ spot (task_node t) (task_target t) ∷ code_of c.nodes defer
     code_now =
-        let kids = tasks_of (assignment_at c.nodes (task_node t) (task_target t)) (met_in_form (form_of c.nodes (task_node t))) in
+        let children = tasks_of (assignment_at c.nodes (task_node t) (task_target t)) (met_in_form (form_of c.nodes (task_node t))) in
         ap (λ (xs : List Spot). xs ++ code_of c.nodes rest) (code_read c.nodes fall (task_node t) (task_target t))
-        ∙ ap (λ (xs : List Spot). spot (task_node t) (task_target t) ∷ xs) (sym (flat_map-append (λ (x : Task). code_under c.nodes (task_node x) (task_target x)) kids rest))
+        ∙ ap (λ (xs : List Spot). spot (task_node t) (task_target t) ∷ xs) (sym (flat_map-append (λ (x : Task). code_under c.nodes (task_node x) (task_target x)) children rest))
 
     -- one node is read
-    read_one : AreThere c.nodes (t ∷ rest) → after ≡ with_uses code before (uses_at c (task_node t) (task_target t)) → new ≡ put → Reads code before (t ∷ rest) after new
-    read_one there found is = record {
-      there = subst (AreThere c.nodes) (sym is) (kids_there c.nodes fall (task_node t) (assignment_at c.nodes (task_node t) (task_target t)) rest there.0 there.1);
+    read_one : AreInRange c.nodes (t ∷ rest) → after ≡ with_uses code before (uses_at c (task_node t) (task_target t)) → new ≡ defer → ReadsTask code before (t ∷ rest) after new
+    read_one in_range found is = record {
+      in_range = subst (AreInRange c.nodes) (sym is) (children_in_range c.nodes fall (task_node t) (assignment_at c.nodes (task_node t) (task_target t)) rest in_range.0 in_range.1);
       finds =
           ap (λ (spots : List Spot). with_uses code before (flat_map (spot_uses c) spots)) code_now
-          ∙ (uses_two before (uses_at c (task_node t) (task_target t)) (flat_map (spot_uses c) (code_of c.nodes put))
-          ∙ (ap (λ (xs : List ℕ). with_code code xs put) (sym found)
+          ∙ (uses_two before (uses_at c (task_node t) (task_target t)) (flat_map (spot_uses c) (code_of c.nodes defer))
+          ∙ (ap (λ (xs : List ℕ). with_code code xs defer) (sym found)
           ∙ ap (with_code code after) (sym is)));
       shorter = omega (arith, ap (length {A = Spot}) code_now, ap (λ (ts : List Task). length (code_of c.nodes ts)) is);
     }
 
-  pub read_expr : KidsFall c.nodes → (id : ℕ) (x : Expr) (rest new : List Task) (before after : List ℕ) → slice_get c.nodes.exprs id ≡ Some x → AreThere c.nodes (Task.Expr id ∷ rest) →
+  pub read_expr : RankDecreases c.nodes → (id : ℕ) (x : Expr) (rest new : List Task) (before after : List ℕ) → slice_get c.nodes.exprs id ≡ Some x → AreInRange c.nodes (Task.Expr id ∷ rest) →
       after ≡ with_uses code before (uses_at c (NodeId.Expr id) None) →
-      new ≡ tasks_of (if_assignment id (Some x)) (met_in_form (expr_form x)) ++ rest → Reads code before (Task.Expr id ∷ rest) after new
-  read_expr fall id x rest new before after is there found put =
-      read_one fall (Task.Expr id) rest new before after there found
-      (put ∙ ap (λ (o : Option Expr). tasks_of (if_assignment id o) (met_in_form (form_at expr_form o)) ++ rest) (sym is))
+      new ≡ tasks_of (if_assignment id (Some x)) (met_in_form (expr_form x)) ++ rest → ReadsTask code before (Task.Expr id ∷ rest) after new
+  read_expr fall id x rest new before after is in_range found defer =
+      read_one fall (Task.Expr id) rest new before after in_range found
+      (defer ∙ ap (λ (o : Option Expr). tasks_of (if_assignment id o) (met_in_form (form_at expr_form o)) ++ rest) (sym is))
 
-  pub read_pat : KidsFall c.nodes → (id : ℕ) (x : Pat) (a : Option ℕ) (rest new : List Task) (before after : List ℕ) → slice_get c.nodes.pats id ≡ Some x → AreThere c.nodes (pat_task a id ∷ rest) →
+  pub read_pat : RankDecreases c.nodes → (id : ℕ) (x : Pat) (a : Option ℕ) (rest new : List Task) (before after : List ℕ) → slice_get c.nodes.pats id ≡ Some x → AreInRange c.nodes (pat_task a id ∷ rest) →
       after ≡ with_uses code before (uses_at c (NodeId.Pat id) a) →
-      new ≡ tasks_of a (pat_calls x) ++ rest → Reads code before (pat_task a id ∷ rest) after new
-  read_pat fall id x None rest new before after is there found put =
-      read_one fall (Task.Pat id) rest new before after there found
-      (put ∙ ap (λ (o : Option Pat). tasks_of None (met_in_form (form_at pat_form o)) ++ rest) (sym is))
-  read_pat fall id x (Some a) rest new before after is there found put =
-      read_one fall (Task.Target id a) rest new before after there found
-      (put ∙ ap (λ (o : Option Pat). tasks_of (Some a) (met_in_form (form_at pat_form o)) ++ rest) (sym is))
+      new ≡ tasks_of a (pat_calls x) ++ rest → ReadsTask code before (pat_task a id ∷ rest) after new
+  read_pat fall id x None rest new before after is in_range found defer =
+      read_one fall (Task.Pat id) rest new before after in_range found
+      (defer ∙ ap (λ (o : Option Pat). tasks_of None (met_in_form (form_at pat_form o)) ++ rest) (sym is))
+  read_pat fall id x (Some a) rest new before after is in_range found defer =
+      read_one fall (Task.Target id a) rest new before after in_range found
+      (defer ∙ ap (λ (o : Option Pat). tasks_of (Some a) (met_in_form (form_at pat_form o)) ++ rest) (sym is))
 
 -- The whole
 
 -- each reached expression has a scope, along which its frames stand
-chains_are : (b : BodyContents) (scopes : Scopes) → ((x : ℕ) → IsSome (map.get scopes.scope_by_expr x) ↔ BodyReaches b (NodeId.Expr x)) → ChainsAreFrames b.store.nodes (tops_of_body b) scopes → AreChains b (chain_in scopes)
+chains_are : (b : BodyContents) (scopes : Scopes) → ((x : ℕ) → IsSome (map.get scopes.scope_by_expr x) ↔ BodyReaches b (NodeId.Expr x)) → ChainsAreFrames b.store.nodes (entry_nodes_of_body b) scopes → AreChains b (chain_in scopes)
 chains_are b scopes reached chains x r = at (map.get scopes.scope_by_expr x) refl ((reached x).1 r) where
-  at : (o : Option ℕ) → map.get scopes.scope_by_expr x ≡ o → IsSome o → HasChain b.store.nodes (tops_of_body b) x (chain scopes.scopes (map.get scopes.scope_by_expr x))
+  at : (o : Option ℕ) → map.get scopes.scope_by_expr x ≡ o → IsSome o → HasChain b.store.nodes (entry_nodes_of_body b) x (chain scopes.scopes (map.get scopes.scope_by_expr x))
   at None e h = absurd cc
-  at (Some scope) e h = subst (λ (o : Option ℕ). HasChain b.store.nodes (tops_of_body b) x (chain scopes.scopes o)) (sym e) (chains x scope e)
+  at (Some scope) e h = subst (λ (o : Option ℕ). HasChain b.store.nodes (entry_nodes_of_body b) x (chain scopes.scopes o)) (sym e) (chains x scope e)
 
 pub are_captures : (b : BodyContents) (code : Code) (closure scope : ℕ) (found : List ℕ) → code.store.now ≡ b.store → code.outermost ≡ length (chain code.scopes.now.scopes (Some scope)) →
-    ((x : ℕ) → IsSome (map.get code.scopes.now.scope_by_expr x) ↔ BodyReaches b (NodeId.Expr x)) → ChainsAreFrames b.store.nodes (tops_of_body b) code.scopes.now →
+    ((x : ℕ) → IsSome (map.get code.scopes.now.scope_by_expr x) ↔ BodyReaches b (NodeId.Expr x)) → ChainsAreFrames b.store.nodes (entry_nodes_of_body b) code.scopes.now →
     map.get code.scopes.now.scope_by_expr closure ≡ Some scope → found ≡ with_code code [] (Task.Expr closure ∷ []) → AreCaptures b closure found
 unfolding uses_in
 are_captures b code closure scope found same out reached chains is e =
     let scopes = code.scopes.now in
     let own : code.outermost ≡ length (chain_in scopes closure) = out ∙ ap (λ (o : Option ℕ). length (chain scopes.scopes o)) (sym is) in
-    let by : ℕ → Use → Option ℕ = λ n u. meaning_behind (length (chain_in scopes u.expr) - n) (chain_in scopes u.expr) u.name u.hygiene in
+    let by : ℕ → Use → Option ℕ = λ n u. resolve_outside (length (chain_in scopes u.expr) - n) (chain_in scopes u.expr) u.name u.hygiene in
     record {
       chain = chain_in scopes;
       are_chains = chains_are b scopes reached chains;

@@ -5,26 +5,26 @@ use Rattle.hir_base.specs.declared.hygiene.SyntaxContext.{SyntaxContext}
 use Rattle.hir_node.specs.declared.{expr.Expr.Expr, node_id.NodeId.NodeId}
 use Rattle.hir_expr_store.specs.Contents.{Contents}
 use Rattle.hir_items.specs.Bodies.{BodyContents, BodyReaches}
-use Rattle.hir_scope.specs.{BodyScopes.tops_of_body, Chains.HasChain, Frames.Chain, Resolution.resolve}
+use Rattle.hir_scope.specs.{BodyScopes.entry_nodes_of_body, Chains.HasChain, Frames.Chain, Resolution.resolve}
 use Rattle.hir_scope.specs.declared.scope.ScopeEntry.{ScopeEntry}
 use Rattle.hir_captures.specs.Uses.{Use, uses_in}
 
 -- the binding that a name means, unless it means one further in
-abbrev pub unless_within : Option ScopeEntry → Option ScopeEntry → Option ℕ
-unless_within None found = option_map (λ (entry : ScopeEntry). entry.binding) found
-unless_within (Some entry) found = None
+abbrev pub outer_entry : Option ScopeEntry → Option ScopeEntry → Option ℕ
+outer_entry None found = option_map (λ (entry : ScopeEntry). entry.binding) found
+outer_entry (Some entry) found = None
 
 -- the binding that a name means along a chain, unless the entry is in its innermost frames, of which there are this many
-abbrev pub meaning_behind : ℕ → Chain → List ℕ → SyntaxContext → Option ℕ
-meaning_behind innermost chain name hygiene =
-    unless_within (resolve (take innermost chain) name hygiene) (resolve chain name hygiene)
+abbrev pub resolve_outside : ℕ → Chain → List ℕ → SyntaxContext → Option ℕ
+resolve_outside innermost chain name hygiene =
+    outer_entry (resolve (take innermost chain) name hygiene) (resolve chain name hygiene)
 
 -- What a use captures: the binding that it resolves to, where the entry is in the closure's part of the chain. The closure's own chain
 -- is the outermost frames; those within them are between the use and the closure.
 abbrev pub captured_binding : (ℕ → Chain) → ℕ → Use → Option ℕ
 captured_binding chain closure use_ =
     let at = chain use_.expr in
-    meaning_behind (length at - length (chain closure)) at use_.name use_.hygiene
+    resolve_outside (length at - length (chain closure)) at use_.name use_.hygiene
 
 -- each number of a list once, where it comes first
 abbrev pub with_new : List ℕ → ℕ → List ℕ
@@ -40,7 +40,7 @@ captures_by chain c closure = each_once (filter_map (captured_binding chain clos
 -- each expression that the body reaches has this chain
 abbrev pub AreChains : BodyContents → (ℕ → Chain) → Type 0
 AreChains b chain =
-    (expr : ℕ) → BodyReaches b (NodeId.Expr expr) → HasChain b.store.nodes (tops_of_body b) expr (chain expr)
+    (expr : ℕ) → BodyReaches b (NodeId.Expr expr) → HasChain b.store.nodes (entry_nodes_of_body b) expr (chain expr)
 
 pub record AreCaptures (b : BodyContents) (closure : ℕ) (captures : List ℕ) : Type 0 where
   pub chain : ℕ → Chain

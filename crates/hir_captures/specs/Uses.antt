@@ -4,9 +4,9 @@ use Rattle.std.specs.Prelude.{ℕ, List, [], ◌∷◌, Option, Some, None, slic
 use Rattle.hir_base.specs.declared.hygiene.SyntaxContext.{SyntaxContext}
 use Rattle.hir_path.specs.declared.ids.ExprOrPatId.TheVariants.{ExprId, PatId}
 use Rattle.hir_node.specs.declared.{expr.Expr.Expr, node_id.NodeId.NodeId, pat.Pat.Pat}
-use Rattle.hir_faults.specs.{Down.value, Nodes.Nodes}
+use Rattle.hir_faults.specs.{Recursion.fold_down, Nodes.Nodes}
 use Rattle.hir_expr_store.specs.{Contents.Contents, SideTables.hygiene_of}
-use Rattle.hir_scope.specs.{Meanings.asked_name, Slots.Base, Slots.Here, Slots.Const, Slots.Slot, Slots.slots}
+use Rattle.hir_scope.specs.{PathResolution.local_name, ChildContexts.Base, ChildContexts.Scope, ChildContexts.ConstScope, ChildContexts.ChildContext, ChildContexts.child_contexts}
 
 -- 1. The code of a closure
 
@@ -37,21 +37,21 @@ spot n assignment = record { node = n; assignment = assignment }
 
 -- what is among the constants isn't code of the closure
 abbrev pub in_code : Base → List Spot → List Spot
-in_code Here spots = spots
-in_code Const spots = []
+in_code Scope spots = spots
+in_code ConstScope spots = []
 
--- the code of a kid, by its slot
-abbrev pub kid_code : (NodeId → Option ℕ → List Spot) → Option ℕ → Slot → List Spot
-kid_code self assignment slot = in_code slot.base (self slot.kid (of_pattern slot.kid assignment))
+-- the code of a child, by its child context
+abbrev pub child_code : (NodeId → Option ℕ → List Spot) → Option ℕ → ChildContext → List Spot
+child_code self assignment child_context = in_code child_context.base (self child_context.child (of_pattern child_context.child assignment))
 
--- a node, and the code of its kids in the order in which scopes are made
+-- a node, and the code of its children in the order in which scopes are made
 abbrev pub code_step : Nodes → (NodeId → Option ℕ → List Spot) → NodeId → Option ℕ → List Spot
 code_step s self n assignment =
-    spot n assignment ∷ flat_map (kid_code self (assignment_at s n assignment)) (slots s n)
+    spot n assignment ∷ flat_map (child_code self (assignment_at s n assignment)) (child_contexts s n)
 
 -- the code under a node, itself first
 unfoldable pub code_under : Nodes → NodeId → Option ℕ → List Spot
-code_under s n assignment = value s (code_step s) (λ assignment. []) n assignment
+code_under s n assignment = fold_down s (code_step s) (λ assignment. []) n assignment
 
 -- 2. What is used in it
 
@@ -67,12 +67,12 @@ use_of hygiene expr (Some name) = record { name = name; hygiene = hygiene; expr 
 
 -- an expression that is a path asks in its own chain
 abbrev pub expr_uses : SyntaxContext → ℕ → Option Expr → List Use
-expr_uses hygiene id (Some (Expr.Path path)) = use_of hygiene id (asked_name path)
+expr_uses hygiene id (Some (Expr.Path path)) = use_of hygiene id (local_name path)
 expr_uses hygiene id found = []
 
 -- a pattern that is a path asks where it is in the target of an assignment, in the chain of the assignment
 abbrev pub pat_uses : SyntaxContext → Option ℕ → Option Pat → List Use
-pat_uses hygiene (Some assignment) (Some (Pat.Path path)) = use_of hygiene assignment (asked_name path)
+pat_uses hygiene (Some assignment) (Some (Pat.Path path)) = use_of hygiene assignment (local_name path)
 pat_uses hygiene assignment found = []
 
 abbrev pub uses_at : Contents → NodeId → Option ℕ → List Use

@@ -3,14 +3,14 @@ ghost use Rattle.std.specs.Prelude.{◌≡◌, ◌↔◌, ◌<◌, ℕ, length, 
 ghost use Rattle.std.specs.FinMap as map;
 ghost use Rattle.hir_node.specs.declared.node_id.NodeId.TheVariants as node;
 ghost use Rattle.hir_items.specs.Bodies.{BodyReaches};
-ghost use Rattle.hir_scope.specs.BodyScopes.{ChainsAreFrames, tops_of_body};
+ghost use Rattle.hir_scope.specs.BodyScopes.{ChainsAreFrames, entry_nodes_of_body};
 ghost use Rattle.hir_captures.specs.Captures.{AreCaptures, IsClosure, IsReachedClosure};
 
-use crate::asks::depth;
+use crate::captured_binding::depth;
 use crate::binding_list::BindingList;
 use crate::code::Code;
 use crate::fault::CapturesFault;
-use crate::to_read::{Task, ToRead};
+use crate::tasks::{Task, Tasks};
 use hir_expr_store::ExpressionStore;
 use hir_items::Body;
 use hir_node::{BindingId, Expr, ExprId};
@@ -25,7 +25,7 @@ fn scope_of_closure(
 ) -> Option<ScopeId>
     ensures some { IfSome result (λ scope. map.get scopes.now.scope_by_expr closure ≡ Some scope) }
     ensures closure { IfSome result (λ scope. IsClosure (slice_get store.now.nodes.exprs closure)) }
-    ensures there { IfSome result (λ scope. scope < length scopes.now.scopes) }
+    ensures in_range { IfSome result (λ scope. scope < length scopes.now.scopes) }
     ensures has { IfSome result (λ scope. closure < length store.now.nodes.exprs) }
     ensures none { IsSome (map.get scopes.now.scope_by_expr closure)
         → IsClosure (slice_get store.now.nodes.exprs closure) → IsSome result }
@@ -54,7 +54,7 @@ pub fn captures(
 ) -> Result<Vec<BindingId>, CapturesFault>
     requires reached { (expr : ℕ) → IsSome (map.get scopes.now.scope_by_expr expr)
         ↔ BodyReaches body.now (node.Expr expr) }
-    requires chains { ChainsAreFrames body.now.store.nodes (tops_of_body body.now) scopes.now }
+    requires chains { ChainsAreFrames body.now.store.nodes (entry_nodes_of_body body.now) scopes.now }
     ensures captures { IfOk result (λ found. AreCaptures body.now closure found.items) }
     ensures closure { IfOk result (λ found. IsReachedClosure body.now closure) }
     ensures no_closure { result ≡ Err CapturesFault.NotAClosure ↔ (IsReachedClosure body.now closure → ⊥) }
@@ -69,7 +69,7 @@ pub fn captures(
         outermost: depth(scopes, scope),
     };
     let mut found = BindingList::new(alloc, store.bindings().len())?;
-    let mut unread = ToRead::new(alloc);
+    let mut unread = Tasks::new(alloc);
     unread.stack.push(Task::Expr(closure))?;
     code.read_all(&mut unread, &mut found)?;
     Ok(found.into_bindings())

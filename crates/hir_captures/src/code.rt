@@ -3,20 +3,20 @@
 
 ghost use Rattle.std.specs.Prelude.{◌≡◌, ◌<◌, ◌∷◌, length, None, Some, Err, OnOk, OnErr};
 ghost use Rattle.hir_node.specs.declared.node_id.NodeId.TheVariants as node;
-ghost use Rattle.hir_scope.specs.Meanings.{asked_name};
+ghost use Rattle.hir_scope.specs.PathResolution.{local_name};
 ghost use Rattle.hir_captures.specs.Uses.{if_assignment, use_of, uses_at};
-ghost use Rattle.hir_captures.specs.walk.Pending.{AreThere, pat_task};
-ghost use Rattle.hir_captures.specs.walk.Reading.{with_uses, with_code, Reads};
+ghost use Rattle.hir_captures.specs.walk.Pending.{AreInRange, pat_task};
+ghost use Rattle.hir_captures.specs.walk.Reading.{with_uses, with_code, ReadsTask};
 
-use crate::asks::captured_binding;
+use crate::captured_binding::captured_binding;
 use crate::binding_list::BindingList;
 use crate::fault::CapturesFault;
-use crate::to_read::{Task, ToRead};
+use crate::tasks::{Task, Tasks};
 use hir_base::HygieneId;
 use hir_expr_store::ExpressionStore;
-use hir_expr_store::laws::kids_fall;
+use hir_expr_store::laws::rank_decreases;
 use hir_node::{Expr, ExprId, Pat, PatId, Path};
-use hir_scope::{ExprScopes, asked_name};
+use hir_scope::{ExprScopes, local_name};
 
 /// Where a closure's code is read: in this store and these scopes, which are those of its body.
 #[derive(Drop)]
@@ -47,10 +47,10 @@ impl<'a> Code<'a> {
         hygiene: HygieneId,
     ) -> Result<(), CapturesFault>
         ensures found { OnOk result (found.new ≡ with_uses self.now found.old
-            (use_of hygiene expr (asked_name path.now))) }
+            (use_of hygiene expr (local_name path.now))) }
         ensures memory { OnErr result (result ≡ Err CapturesFault.Memory) }
     {
-        let Some(name) = asked_name(path) else {
+        let Some(name) = local_name(path) else {
             return Ok(());
         };
         let Some(scope) = self.scopes.scope_for(expr) else {
@@ -64,7 +64,7 @@ impl<'a> Code<'a> {
 
     /// Adds what an expression itself captures: where it is a path, it asks in its own chain.
     fn ask_expr(&self, found: &mut BindingList, id: ExprId) -> Result<(), CapturesFault>
-        requires there { id < length self.now.store.now.nodes.exprs }
+        requires in_range { id < length self.now.store.now.nodes.exprs }
         ensures found { OnOk result (found.new ≡ with_uses self.now found.old
             (uses_at self.now.store.now (node.Expr id) None)) }
         ensures memory { OnErr result (result ≡ Err CapturesFault.Memory) }
@@ -82,7 +82,7 @@ impl<'a> Code<'a> {
         id: PatId,
         assignment: Option<ExprId>,
     ) -> Result<(), CapturesFault>
-        requires there { id < length self.now.store.now.nodes.pats }
+        requires in_range { id < length self.now.store.now.nodes.pats }
         ensures found { OnOk result (found.new ≡ with_uses self.now found.old
             (uses_at self.now.store.now (node.Pat id) assignment)) }
         ensures memory { OnErr result (result ≡ Err CapturesFault.Memory) }
@@ -99,17 +99,17 @@ impl<'a> Code<'a> {
     /// Reads an expression: what is in it comes next.
     fn read_expr(
         &self,
-        unread: &mut ToRead,
+        unread: &mut Tasks,
         found: &mut BindingList,
         id: ExprId,
     ) -> Result<(), CapturesFault>
-        requires there { AreThere self.now.store.now.nodes (Task.Expr id ∷ unread.old.stack.items) }
-        ensures reads { OnOk result (Reads self.now found.old (Task.Expr id ∷ unread.old.stack.items)
+        requires in_range { AreInRange self.now.store.now.nodes (Task.Expr id ∷ unread.old.stack.items) }
+        ensures reads { OnOk result (ReadsTask self.now found.old (Task.Expr id ∷ unread.old.stack.items)
             found.new unread.new.stack.items) }
         ensures memory { OnErr result (result ≡ Err CapturesFault.Memory) }
     {
         self.store.has_no_fault();
-        kids_fall();
+        rank_decreases();
         self.ask_expr(found, id)?;
         let expr = &self.store[id];
         unread.push_expr(expr, if_assignment(id, expr))?;
@@ -119,18 +119,18 @@ impl<'a> Code<'a> {
     /// Reads a pattern, which is in the target of this assignment, or in none: what is in it comes next.
     fn read_pat(
         &self,
-        unread: &mut ToRead,
+        unread: &mut Tasks,
         found: &mut BindingList,
         id: PatId,
         assignment: Option<ExprId>,
     ) -> Result<(), CapturesFault>
-        requires there { AreThere self.now.store.now.nodes (pat_task assignment id ∷ unread.old.stack.items) }
-        ensures reads { OnOk result (Reads self.now found.old
+        requires in_range { AreInRange self.now.store.now.nodes (pat_task assignment id ∷ unread.old.stack.items) }
+        ensures reads { OnOk result (ReadsTask self.now found.old
             (pat_task assignment id ∷ unread.old.stack.items) found.new unread.new.stack.items) }
         ensures memory { OnErr result (result ≡ Err CapturesFault.Memory) }
     {
         self.store.has_no_fault();
-        kids_fall();
+        rank_decreases();
         // (a copy: the prover's borrow checker takes an option that was handed on for one without a value)
         let target = assignment;
         self.ask_pat(found, id, assignment)?;
@@ -141,12 +141,12 @@ impl<'a> Code<'a> {
     /// Reads the node of one task.
     fn read(
         &self,
-        unread: &mut ToRead,
+        unread: &mut Tasks,
         found: &mut BindingList,
         task: Task,
     ) -> Result<(), CapturesFault>
-        requires there { AreThere self.now.store.now.nodes (task ∷ unread.old.stack.items) }
-        ensures reads { OnOk result (Reads self.now found.old (task ∷ unread.old.stack.items)
+        requires in_range { AreInRange self.now.store.now.nodes (task ∷ unread.old.stack.items) }
+        ensures reads { OnOk result (ReadsTask self.now found.old (task ∷ unread.old.stack.items)
             found.new unread.new.stack.items) }
         ensures memory { OnErr result (result ≡ Err CapturesFault.Memory) }
     {
@@ -160,10 +160,10 @@ impl<'a> Code<'a> {
     /// Reads all that is still to be read, and adds what it captures.
     pub(crate) fn read_all(
         &self,
-        unread: &mut ToRead,
+        unread: &mut Tasks,
         found: &mut BindingList,
     ) -> Result<(), CapturesFault>
-        requires there { AreThere self.now.store.now.nodes unread.old.stack.items }
+        requires in_range { AreInRange self.now.store.now.nodes unread.old.stack.items }
         ensures found { OnOk result (found.new ≡ with_code self.now found.old unread.old.stack.items) }
         ensures memory { OnErr result (result ≡ Err CapturesFault.Memory) }
     {

@@ -8,15 +8,15 @@ ghost use Rattle.hir_scope.specs.Frames.{Chain};
 ghost use Rattle.hir_captures.specs.Captures.{AreCaptures, AreChains, IsOn, IsReachedClosure};
 ghost use Rattle.hir_captures.specs.Uses.{code_step, code_under, uses_in};
 
-use hir_expr_store::laws::{kids_fall, kids_of_reached_are_reached};
+use hir_expr_store::laws::{rank_decreases, children_of_reached_are_reached};
 use hir_scope::laws::a_reached_node_has_one_chain;
 
-/// The code under a node is the node, and then the code under its kids, in the order in which scopes are made.
-pub fn code_is_its_step()
+/// The code under a node is the node, and then the code under its children, in the order in which scopes are made.
+pub fn code_under_unfold()
     ensures { (c : Contents) → contents_fault c None → (n : NodeId) (assignment : Option ℕ)
         → code_under c.nodes n assignment ≡ code_step c.nodes (code_under c.nodes) n assignment }
 {
-    kids_fall();
+    rank_decreases();
 }
 
 /// The chain of each use in a closure of a body is some frames put on the closure's own.
@@ -25,18 +25,18 @@ pub fn uses_stand_on_their_closure()
         → (closure : ℕ) → IsReachedClosure b closure → (chain : ℕ → Chain) → AreChains b chain
         → All (λ one. IsOn (chain closure) (chain one.expr)) (uses_in b.store closure) }
 {
-    kids_fall();
-    kids_of_reached_are_reached();
+    rank_decreases();
+    children_of_reached_are_reached();
     a_reached_node_has_one_chain();
 }
 
 /// A closure of a body has one list of captures.
-pub fn captures_are_one()
+pub fn captures_unique()
     ensures { (b : BodyContents) → contents_fault b.store None → body_fault b None
         → (closure : ℕ) → IsReachedClosure b closure → (xs ys : List ℕ)
         → AreCaptures b closure xs → AreCaptures b closure ys → xs ≡ ys }
 {
-    kids_fall();
-    kids_of_reached_are_reached();
+    rank_decreases();
+    children_of_reached_are_reached();
     a_reached_node_has_one_chain();
 }

@@ -1,13 +1,13 @@
 //! Captured variables: the bindings from outside that a closure's code uses.
 #![tactic(auto)]
 
-mod asks;
+mod captured_binding;
 mod binding_list;
 mod closures;
 mod code;
 mod fault;
 pub mod laws;
-mod to_read;
+mod tasks;
 
 pub use closures::captures;
 pub use fault::CapturesFault;

@@ -16,6 +16,6 @@ id_given view n (x ∷ es) s t rest (a ∷ xs) item is (j, step, y) e =
     let h = id_given view (n + 1) es j t rest xs item next y e in
     omega arith
 
-pub id_is_there : {A X : Type 0} (view : A → ℕ × X) (es : List X) (s t rest : List (ℕ × X)) (xs : List A) (id : ℕ) (x : X)
+pub id_is_in_range : {A X : Type 0} (view : A → ℕ × X) (es : List X) (s t rest : List (ℕ × X)) (xs : List A) (id : ℕ) (x : X)
     → t ≡ (id, x) ∷ rest → Yields (YieldsFirstBy view (λ left. left)) s xs t → s ≡ enumerate_from 0 es → id < length es
-id_is_there view es s t rest xs id x e y is = let h = id_given view 0 es s t rest xs (id, x) is y e in omega arith
+id_is_in_range view es s t rest xs id x e y is = let h = id_given view 0 es s t rest xs (id, x) is y e in omega arith

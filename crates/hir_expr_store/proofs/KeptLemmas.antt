@@ -16,7 +16,7 @@ clash : (p : ℕ) → None ≡ Some p → ⊥
 clash p e = cc
 
 pub no_parents : HasParents [] []
-no_parents = record { nodes = refl; kids = λ c p. (λ e. absurd (clash p e), λ k. absurd (omega (arith, k.1))) }
+no_parents = record { nodes = refl; children = λ c p. (λ e. absurd (clash p e), λ k. absurd (omega (arith, k.1))) }
 
 pub no_links : HasPatLinks [] []
 no_links = record { each = refl; children = λ m h. absurd (omega arith) }

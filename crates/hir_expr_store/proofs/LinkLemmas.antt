@@ -7,17 +7,17 @@ use Rattle.std.proofs.lemmas.List.Elements.{Contains-get_or}
 use Rattle.std.proofs.lemmas.Option.{slice_get-get_or}
 use Rattle.hir_node.specs.declared.pat.Pat.{Pat}
 use Rattle.hir_node.specs.declared.node_id.NodeId.TheVariants as node
-use Rattle.hir_node.specs.ChildCalls.{Call, OnExpr, OnAnonConst, OnPat, OnType, OnLifetime, kids, pat_of_call, pat_calls, child_pats, opt}
-use Rattle.hir_faults.specs.Nodes.{calls_of, kids_of}
+use Rattle.hir_node.specs.ChildCalls.{Call, OnExpr, OnAnonConst, OnPat, OnType, OnLifetime, children, pat_of_call, pat_calls, child_pats, opt}
+use Rattle.hir_faults.specs.Nodes.{calls_of, children_of}
 use Rattle.hir_faults.specs.Faults.{RootedNodes, rooted_fault}
-use Rattle.hir_faults.specs.Down.{KidsFall}
+use Rattle.hir_faults.specs.Recursion.{RankDecreases}
 use Rattle.hir_faults.proofs.SoundLemmas.{sound_falls}
-use Rattle.hir_faults.proofs.DownLemmas.{parent_there}
+use Rattle.hir_faults.proofs.RecursionLemmas.{parent_in_range}
 use Rattle.hir_expr_store.specs.declared.pat_links.PatLink.{PatLink}
 use Rattle.hir_expr_store.specs.declared.pat_links.PatLink.TheVariants.{Next, Last, Alone}
-use Rattle.hir_expr_store.specs.PatLinks.{kids_at, IsOnce, EachHasOnePlace, link_at, link_children, AreLinked}
+use Rattle.hir_expr_store.specs.PatLinks.{children_at, IsOnce, EachHasOnePlace, link_at, link_children, AreLinked}
 use Rattle.hir_expr_store.specs.Under.{itself}
-use Rattle.hir_expr_store.proofs.ApartLemmas.{one_parent, kids_apart, contains_read}
+use Rattle.hir_expr_store.proofs.ApartLemmas.{one_parent, children_apart, contains_read}
 
 contains_first : {X : Type 0} (x : X) (xs : List X) → Contains (x ∷ xs) x
 contains_first x xs = (0, omega arith, refl)
@@ -60,51 +60,51 @@ linked-kept old new m (k ∷ q ∷ more) same h =
 
 -- the children of the patterns before this one are linked
 abbrev pub LinkedBefore : List Pat → List PatLink → ℕ → Type 0
-LinkedBefore pats links i = (m : ℕ) → m < i → AreLinked links m (kids_at pats m)
+LinkedBefore pats links i = (m : ℕ) → m < i → AreLinked links m (children_at pats m)
 
 pub all_from_contains : {X : Type 0} (P : X → Type 0) (xs : List X) → ((x : X) → Contains xs x → P x) → AllByRecursion P xs
 all_from_contains P [] f = tt
 all_from_contains P (x ∷ xs) f = (f x (contains_first x xs), all_from_contains P xs (λ y c. f y (contains_behind x xs y c)))
 
-pub linked-next : (pats : List Pat) → EachHasOnePlace pats → (links : List PatLink) (i : ℕ) → length links ≡ length pats → LinkedBefore pats links i → LinkedBefore pats (link_children i (kids_at pats i) links) (suc i)
+pub linked-next : (pats : List Pat) → EachHasOnePlace pats → (links : List PatLink) (i : ℕ) → length links ≡ length pats → LinkedBefore pats links i → LinkedBefore pats (link_children i (children_at pats i) links) (suc i)
 linked-next pats place links i len before m lt =
     elim (cases_lt m i) [
       | inl h ↦
-          linked-kept links (link_children i (kids_at pats i) links) m (kids_at pats m)
-          (λ k c. linked-other i (kids_at pats i) links k (λ d. let same = place.one_parent m i k c d in omega arith)) (before m h)
+          linked-kept links (link_children i (children_at pats i) links) m (children_at pats m)
+          (λ k c. linked-other i (children_at pats i) links k (λ d. let same = place.one_parent m i k c d in omega arith)) (before m h)
       | inr h ↦
           let e : i ≡ m = omega arith in
-          subst (λ (n : ℕ). AreLinked (link_children i (kids_at pats i) links) n (kids_at pats n)) e
-          (linked-here i (kids_at pats i) links (place.once i) (all_from_contains (λ x. x < length links) (kids_at pats i) (λ x c. let t = place.there i x c in omega arith)))
+          subst (λ (n : ℕ). AreLinked (link_children i (children_at pats i) links) n (children_at pats n)) e
+          (linked-here i (children_at pats i) links (place.once i) (all_from_contains (λ x. x < length links) (children_at pats i) (λ x c. let t = place.in_range i x c in omega arith)))
     ]
 
 -- the children of a pattern that was read
-pub kids_here : (pats : List Pat) (i : ℕ) (x : Pat) → i < length pats → x ≡ get_or pats i x → kids_at pats i ≡ child_pats x
-kids_here pats i x lt is =
+pub children_here : (pats : List Pat) (i : ℕ) (x : Pat) → i < length pats → x ≡ get_or pats i x → children_at pats i ≡ child_pats x
+children_here pats i x lt is =
     let read : slice_get pats i ≡ Some x = slice_get-get_or pats i x lt ∙ ap Some (sym is) in
     ap (λ (o : Option Pat). flat_map pat_of_call (opt pat_calls o)) read
 
-pub kids_low : (pats : List Pat) → EachHasOnePlace pats → (i : ℕ) (x : Pat) → i < length pats → x ≡ get_or pats i x → (n : ℕ) → n ≡ length pats → All (λ c. c < n) (child_pats x)
-kids_low pats place i x lt is n e k d h =
-    let kid = get_or (child_pats x) k d in
-    let there = place.there i kid (subst (λ (ks : List ℕ). Contains ks kid) (sym (kids_here pats i x lt is)) (Contains-get_or (child_pats x) k d h)) in
+pub children_low : (pats : List Pat) → EachHasOnePlace pats → (i : ℕ) (x : Pat) → i < length pats → x ≡ get_or pats i x → (n : ℕ) → n ≡ length pats → All (λ c. c < n) (child_pats x)
+children_low pats place i x lt is n e k d h =
+    let child = get_or (child_pats x) k d in
+    let in_range = place.in_range i child (subst (λ (ks : List ℕ). Contains ks child) (sym (children_here pats i x lt is)) (Contains-get_or (child_pats x) k d h)) in
     omega arith
 
--- a pattern among calls is a kid
-pat_kid : (calls : List Call) (k : ℕ) → Contains (flat_map pat_of_call calls) k → Contains (kids calls) (node.Pat k)
-pat_kid [] k c = absurd (omega (arith, c.1))
-pat_kid (OnExpr id ∷ calls) k c = contains_behind (node.Expr id) (kids calls) (node.Pat k) (pat_kid calls k c)
-pat_kid (OnAnonConst id ∷ calls) k c = contains_behind (node.Expr id) (kids calls) (node.Pat k) (pat_kid calls k c)
-pat_kid (OnPat id ∷ calls) k (zero, h, e) = (0, omega arith, ap node.Pat e)
-pat_kid (OnPat id ∷ calls) k (suc i, h, e) = contains_behind (node.Pat id) (kids calls) (node.Pat k) (pat_kid calls k (i, omega arith, e))
-pat_kid (OnType id ∷ calls) k c = contains_behind (node.TypeRef id) (kids calls) (node.Pat k) (pat_kid calls k c)
-pat_kid (OnLifetime id ∷ calls) k c = pat_kid calls k c
+-- a pattern among calls is a child
+pat_child : (calls : List Call) (k : ℕ) → Contains (flat_map pat_of_call calls) k → Contains (children calls) (node.Pat k)
+pat_child [] k c = absurd (omega (arith, c.1))
+pat_child (OnExpr id ∷ calls) k c = contains_behind (node.Expr id) (children calls) (node.Pat k) (pat_child calls k c)
+pat_child (OnAnonConst id ∷ calls) k c = contains_behind (node.Expr id) (children calls) (node.Pat k) (pat_child calls k c)
+pat_child (OnPat id ∷ calls) k (zero, h, e) = (0, omega arith, ap node.Pat e)
+pat_child (OnPat id ∷ calls) k (suc i, h, e) = contains_behind (node.Pat id) (children calls) (node.Pat k) (pat_child calls k (i, omega arith, e))
+pat_child (OnType id ∷ calls) k c = contains_behind (node.TypeRef id) (children calls) (node.Pat k) (pat_child calls k c)
+pat_child (OnLifetime id ∷ calls) k c = pat_child calls k c
 
-pats_once : (calls : List Call) → IsOnce (kids calls) → IsOnce (flat_map pat_of_call calls)
+pats_once : (calls : List Call) → IsOnce (children calls) → IsOnce (flat_map pat_of_call calls)
 pats_once [] h = tt
 pats_once (OnExpr id ∷ calls) h = pats_once calls h.1
 pats_once (OnAnonConst id ∷ calls) h = pats_once calls h.1
-pats_once (OnPat id ∷ calls) h = (λ c. h.0 (pat_kid calls id c), pats_once calls h.1)
+pats_once (OnPat id ∷ calls) h = (λ c. h.0 (pat_child calls id c), pats_once calls h.1)
 pats_once (OnType id ∷ calls) h = pats_once calls h.1
 pats_once (OnLifetime id ∷ calls) h = pats_once calls h
 
@@ -118,18 +118,18 @@ once_from (x ∷ xs) f = (
 -- each pattern of a store is a child of one pattern at most, once
 pub patterns_have_one_place : (c : RootedNodes) → rooted_fault c None → EachHasOnePlace c.nodes.pats
 patterns_have_one_place c sound = record {
-  there = λ m k d. let n = kid m k d in fall.there (node.Pat m) (parent_there c.nodes (node.Pat m) (node.Pat k) n) (node.Pat k) n;
-  one_parent = λ m n k a b. same m n (one_parent c sound (node.Pat m) (node.Pat n) (node.Pat k) (kid m k a) (kid n k b));
-  once = λ m. pats_once (calls_of c.nodes (node.Pat m)) (once_from (kids_of c.nodes (node.Pat m)) (λ i j x h u v.
-      let there = parent_there c.nodes (node.Pat m) x (contains_read (kids_of c.nodes (node.Pat m)) i x u) in
-      kids_apart c sound (node.Pat m) there i j x x x h u v itself itself));
+  in_range = λ m k d. let n = child m k d in fall.in_range (node.Pat m) (parent_in_range c.nodes (node.Pat m) (node.Pat k) n) (node.Pat k) n;
+  one_parent = λ m n k a b. same m n (one_parent c sound (node.Pat m) (node.Pat n) (node.Pat k) (child m k a) (child n k b));
+  once = λ m. pats_once (calls_of c.nodes (node.Pat m)) (once_from (children_of c.nodes (node.Pat m)) (λ i j x h u v.
+      let in_range = parent_in_range c.nodes (node.Pat m) x (contains_read (children_of c.nodes (node.Pat m)) i x u) in
+      children_apart c sound (node.Pat m) in_range i j x x x h u v itself itself));
 }
   where
-    fall : KidsFall c.nodes
+    fall : RankDecreases c.nodes
     fall = sound_falls c sound
 
-    kid : (m k : ℕ) → Contains (kids_at c.nodes.pats m) k → Contains (kids_of c.nodes (node.Pat m)) (node.Pat k)
-    kid m k d = pat_kid (calls_of c.nodes (node.Pat m)) k d
+    child : (m k : ℕ) → Contains (children_at c.nodes.pats m) k → Contains (children_of c.nodes (node.Pat m)) (node.Pat k)
+    child m k d = pat_child (calls_of c.nodes (node.Pat m)) k d
 
     same : (m n : ℕ) → node.Pat m ≡ node.Pat n → m ≡ n
     same m n e = cc

@@ -4,17 +4,17 @@ use Rattle.std.specs.List.{flat_map}
 use Rattle.std.proofs.lemmas.List.Concat.{flat_map-append}
 use Rattle.hir_node.specs.declared.pat.Pat.{Pat}
 use Rattle.hir_node.specs.declared.pat.Pat.TheVariants as pat
-use Rattle.hir_node.specs.ChildCalls.{Call, OnExpr, OnAnonConst, OnPat, OnType, OnLifetime, p, e, opt, pat_calls, path_calls, kids, pat_of_call}
+use Rattle.hir_node.specs.ChildCalls.{Call, OnExpr, OnAnonConst, OnPat, OnType, OnLifetime, p, e, opt, pat_calls, path_calls, children, pat_of_call}
 use Rattle.hir_node.specs.declared.node_id.NodeId.{NodeId}
 use Rattle.hir_node.specs.declared.node_id.NodeId.TheVariants as node
 use Rattle.hir_node.proofs.ChildPatLemmas.{none-path}
 use Rattle.hir_faults.specs.Nodes.{Nodes, calls_of}
-use Rattle.hir_faults.specs.Down.{KidsFall, AgreeOn, AsksKids}
+use Rattle.hir_faults.specs.Recursion.{RankDecreases, AgreeOn, DependsOnChildren}
 use Rattle.hir_expr_store.specs.PatLists.{child_pats_of, pats_step, pats, bindings_at, bindings_in, exprs_from, own_exprs, exprs_in_step, exprs_in}
-use Rattle.hir_faults.proofs.DownLemmas.{value_at}
+use Rattle.hir_faults.proofs.RecursionLemmas.{fold_down_at}
 use Rattle.hir_faults.proofs.SoundLemmas.{item_at}
 
-pub pats_agree : {A : Type 0} (f g : NodeId → List A) (calls : List Call) → AgreeOn f g (kids calls) → flat_map (λ q. f (node.Pat q)) (flat_map pat_of_call calls) ≡ flat_map (λ q. g (node.Pat q)) (flat_map pat_of_call calls)
+pub pats_agree : {A : Type 0} (f g : NodeId → List A) (calls : List Call) → AgreeOn f g (children calls) → flat_map (λ q. f (node.Pat q)) (flat_map pat_of_call calls) ≡ flat_map (λ q. g (node.Pat q)) (flat_map pat_of_call calls)
 pats_agree f g [] h = refl
 pats_agree f g (OnExpr id ∷ calls) h = pats_agree f g calls h.1
 pats_agree f g (OnAnonConst id ∷ calls) h = pats_agree f g calls h.1
@@ -22,7 +22,7 @@ pats_agree f g (OnPat id ∷ calls) h = rw (h.0, pats_agree f g calls h.1) refl
 pats_agree f g (OnType id ∷ calls) h = pats_agree f g calls h.1
 pats_agree f g (OnLifetime id ∷ calls) h = pats_agree f g calls h
 
-exprs_agree : (f g : NodeId → List ℕ) (calls : List Call) → AgreeOn f g (kids calls) → flat_map (exprs_from (λ q. f (node.Pat q))) calls ≡ flat_map (exprs_from (λ q. g (node.Pat q))) calls
+exprs_agree : (f g : NodeId → List ℕ) (calls : List Call) → AgreeOn f g (children calls) → flat_map (exprs_from (λ q. f (node.Pat q))) calls ≡ flat_map (exprs_from (λ q. g (node.Pat q))) calls
 exprs_agree f g [] h = refl
 exprs_agree f g (OnExpr id ∷ calls) h = ap (λ rest. id ∷ rest) (exprs_agree f g calls h.1)
 exprs_agree f g (OnAnonConst id ∷ calls) h = ap (λ rest. id ∷ rest) (exprs_agree f g calls h.1)
@@ -30,12 +30,12 @@ exprs_agree f g (OnPat id ∷ calls) h = rw (h.0, exprs_agree f g calls h.1) ref
 exprs_agree f g (OnType id ∷ calls) h = exprs_agree f g calls h.1
 exprs_agree f g (OnLifetime id ∷ calls) h = exprs_agree f g calls h
 
-pats_asks : (s : Nodes) → AsksKids s (pats_step s)
+pats_asks : (s : Nodes) → DependsOnChildren s (pats_step s)
 pats_asks s f g (node.Pat id) h = ap (λ rest. id ∷ rest) (pats_agree f g (calls_of s (node.Pat id)) h)
 pats_asks s f g (node.Expr id) h = refl
 pats_asks s f g (node.TypeRef id) h = refl
 
-exprs_in_asks : (s : Nodes) → AsksKids s (exprs_in_step s)
+exprs_in_asks : (s : Nodes) → DependsOnChildren s (exprs_in_step s)
 exprs_in_asks s f g (node.Pat id) h = exprs_agree f g (calls_of s (node.Pat id)) h
 exprs_in_asks s f g (node.Expr id) h = refl
 exprs_in_asks s f g (node.TypeRef id) h = refl
@@ -44,17 +44,17 @@ pub flat_map-twice : {X Y Z : Type 0} (f : Y → List Z) (g : X → List Y) (xs 
 flat_map-twice f g [] = refl
 flat_map-twice f g (x ∷ xs) = flat_map-append f (g x) (flat_map g xs) ∙ ap (λ rest. flat_map f (g x) ++ rest) (flat_map-twice f g xs)
 
-module _ (s : Nodes) (fall : KidsFall s) where
-  pub pats_is : (id : ℕ) → id < length s.pats → pats s id ≡ id ∷ flat_map (pats s) (child_pats_of s id)
+module _ (s : Nodes) (fall : RankDecreases s) where
+  pub pats_unfold : (id : ℕ) → id < length s.pats → pats s id ≡ id ∷ flat_map (pats s) (child_pats_of s id)
   unfolding pats
-  pats_is id h = value_at s fall (pats_step s) [] (pats_asks s) (node.Pat id)
+  pats_unfold id h = fold_down_at s fall (pats_step s) [] (pats_asks s) (node.Pat id)
 
-  pub exprs_in_is : (id : ℕ) → id < length s.pats → exprs_in s id ≡ flat_map (exprs_from (exprs_in s)) (calls_of s (node.Pat id))
+  pub exprs_in_unfold : (id : ℕ) → id < length s.pats → exprs_in s id ≡ flat_map (exprs_from (exprs_in s)) (calls_of s (node.Pat id))
   unfolding exprs_in
-  exprs_in_is id h = value_at s fall (exprs_in_step s) [] (exprs_in_asks s) (node.Pat id)
+  exprs_in_unfold id h = fold_down_at s fall (exprs_in_step s) [] (exprs_in_asks s) (node.Pat id)
 
-  pub bindings_in_is : (id : ℕ) → id < length s.pats → bindings_in s id ≡ bindings_at s id ++ flat_map (bindings_in s) (child_pats_of s id)
-  bindings_in_is id h = ap (flat_map (bindings_at s)) (pats_is id h) ∙ ap (λ rest. bindings_at s id ++ rest) (flat_map-twice (bindings_at s) (pats s) (child_pats_of s id))
+  pub bindings_in_unfold : (id : ℕ) → id < length s.pats → bindings_in s id ≡ bindings_at s id ++ flat_map (bindings_in s) (child_pats_of s id)
+  bindings_in_unfold id h = ap (flat_map (bindings_at s)) (pats_unfold id h) ∙ ap (λ rest. bindings_at s id ++ rest) (flat_map-twice (bindings_at s) (pats s) (child_pats_of s id))
 
 -- among calls the patterns come first: their expressions are those of the patterns, and then those of the others
 module _ (inside : ℕ → List ℕ) where
@@ -120,6 +120,6 @@ module _ (inside : ℕ → List ℕ) where
   pats_first (pat.Deref sub) = parted-one sub
 
 -- the expressions of a pattern are those of its child patterns, and then its own
-pub exprs_in_parted : (s : Nodes) → KidsFall s → (id : ℕ) → id < length s.pats
+pub exprs_in_parted : (s : Nodes) → RankDecreases s → (id : ℕ) → id < length s.pats
     → exprs_in s id ≡ flat_map (exprs_in s) (child_pats_of s id) ++ flat_map own_exprs (calls_of s (node.Pat id))
-exprs_in_parted s fall id h = let x = item_at s.pats id h in exprs_in_is s fall id h ∙ (rw x.1 (pats_first (exprs_in s) x.0))
+exprs_in_parted s fall id h = let x = item_at s.pats id h in exprs_in_unfold s fall id h ∙ (rw x.1 (pats_first (exprs_in s) x.0))

@@ -1,4 +1,4 @@
--- The list of the reached nodes: it has each of them, and once where nothing lies under two tops.
+-- The list of the reached nodes: it has each of them, and once where nothing lies under two entry nodes.
 use Rattle.std.proofs.Common.{◌≡◌, ◌≢◌, ℕ, zero, suc, ◌<◌, ◌≤◌, ◌⊎◌, ◌↔◌, List, [], ◌∷◌, ◌++◌, Some, inl, inr, ⊎_elim, refl, ap, sym, ◌∙◌, subst, arith, get_or, slice_get, All, Contains}
 use Rattle.std.proofs.lemmas.Bool.{cases_eq}
 use Rattle.std.proofs.lemmas.Option.{slice_get-get_or}
@@ -7,10 +7,10 @@ use Rattle.std.proofs.lemmas.List.Kept.{AllPairs-cons}
 use Rattle.std.specs.List.{flat_map, AllPairs}
 use Rattle.hir_node.specs.declared.node_id.NodeId.{NodeId}
 use Rattle.hir_node.specs.declared.node_id.NodeId.TheVariants as node
-use Rattle.hir_faults.specs.Nodes.{Nodes, Has, kids_of}
-use Rattle.hir_faults.specs.Down.{rank, KidsFall, AgreeOn, AsksKids}
-use Rattle.hir_expr_store.specs.Under.{Under, itself, below, LieApart, IsReached, nodes_step, nodes_under, reached_nodes}
-use Rattle.hir_faults.proofs.DownLemmas.{parent_there, value_at}
+use Rattle.hir_faults.specs.Nodes.{Nodes, Has, children_of}
+use Rattle.hir_faults.specs.Recursion.{rank, RankDecreases, AgreeOn, DependsOnChildren}
+use Rattle.hir_expr_store.specs.Under.{Under, itself, below, AreDisjoint, IsReached, nodes_step, nodes_under, reached_nodes}
+use Rattle.hir_faults.proofs.RecursionLemmas.{parent_in_range, fold_down_at}
 use Rattle.hir_expr_store.proofs.ApartLemmas.{contains_read}
 use Rattle.hir_expr_store.proofs.UnderLemmas.{under_more}
 
@@ -70,78 +70,78 @@ is_listed_or_not (x ∷ xs) n =
     (λ ne. ⊎_elim (λ c. inl (contains_behind x xs n c)) (λ no. inr (λ h. ⊎_elim ne no (contains_cons x xs n h))) (is_listed_or_not xs n))
     (same_node x n)
 
-kids_agree : (f g : NodeId → List NodeId) (ks : List NodeId) → AgreeOn f g ks → flat_map f ks ≡ flat_map g ks
-kids_agree f g [] h = refl
-kids_agree f g (k ∷ ks) h = rw (h.0, kids_agree f g ks h.1) refl
+children_agree : (f g : NodeId → List NodeId) (ks : List NodeId) → AgreeOn f g ks → flat_map f ks ≡ flat_map g ks
+children_agree f g [] h = refl
+children_agree f g (k ∷ ks) h = rw (h.0, children_agree f g ks h.1) refl
 
-asks : (s : Nodes) → AsksKids s (nodes_step s)
-asks s f g n h = ap (λ rest. n ∷ rest) (kids_agree f g (kids_of s n) h)
+asks : (s : Nodes) → DependsOnChildren s (nodes_step s)
+asks s f g n h = ap (λ rest. n ∷ rest) (children_agree f g (children_of s n) h)
 
--- a kid of what is reached is reached
-pub kid_reached : (s : Nodes) (tops : List NodeId) (n k : NodeId) → IsReached s tops n → Contains (kids_of s n) k → IsReached s tops k
-kid_reached s tops n k r c = (r.0, r.1, under_more s k n r.2 c)
+-- a child of what is reached is reached
+pub child_reached : (s : Nodes) (entry_nodes : List NodeId) (n k : NodeId) → IsReached s entry_nodes n → Contains (children_of s n) k → IsReached s entry_nodes k
+child_reached s entry_nodes n k r c = (r.0, r.1, under_more s k n r.2 c)
 
-module _ (s : Nodes) (fall : KidsFall s) where
-  abbrev kids_nodes : NodeId → List NodeId
-  kids_nodes n = flat_map (nodes_under s) (kids_of s n)
+module _ (s : Nodes) (fall : RankDecreases s) where
+  abbrev children_nodes : NodeId → List NodeId
+  children_nodes n = flat_map (nodes_under s) (children_of s n)
 
-  pub nodes_under_is : (n : NodeId) → nodes_under s n ≡ n ∷ flat_map (nodes_under s) (kids_of s n)
+  pub nodes_under_unfold : (n : NodeId) → nodes_under s n ≡ n ∷ flat_map (nodes_under s) (children_of s n)
   unfolding nodes_under
-  nodes_under_is n = value_at s fall (nodes_step s) [] (asks s) n
+  nodes_under_unfold n = fold_down_at s fall (nodes_step s) [] (asks s) n
 
   under_from_listed : (d : ℕ) (r n : NodeId) → rank s r < d → Contains (nodes_under s r) n → Under s n r
   under_from_listed zero r n lt h = absurd (omega arith)
   under_from_listed (suc d) r n lt h =
       ⊎_elim (λ e. subst (λ m. Under s m r) e itself)
-      (λ c. let k = flat_map_from (nodes_under s) (kids_of s r) n c in
-      let low = fall.lower r (parent_there s r k.0 k.1) k.0 k.1 in
+      (λ c. let k = flat_map_from (nodes_under s) (children_of s r) n c in
+      let low = fall.lower r (parent_in_range s r k.0 k.1) k.0 k.1 in
       below k.1 (under_from_listed d k.0 n (omega arith) k.2))
-      (contains_cons r (kids_nodes r) n (subst (λ (xs : List NodeId). Contains xs n) (nodes_under_is r) h))
+      (contains_cons r (children_nodes r) n (subst (λ (xs : List NodeId). Contains xs n) (nodes_under_unfold r) h))
 
   listed_from_under : (n : NodeId) {r : NodeId} → Under s n r → Contains (nodes_under s r) n
-  listed_from_under n itself = subst (λ (xs : List NodeId). Contains xs n) (sym (nodes_under_is n)) (0, omega arith, refl)
+  listed_from_under n itself = subst (λ (xs : List NodeId). Contains xs n) (sym (nodes_under_unfold n)) (0, omega arith, refl)
   listed_from_under n (below {k} {r} d u) =
-      subst (λ (xs : List NodeId). Contains xs n) (sym (nodes_under_is r))
-      (contains_behind r (kids_nodes r) n (flat_map_has (nodes_under s) (kids_of s r) k n d (listed_from_under n u)))
+      subst (λ (xs : List NodeId). Contains xs n) (sym (nodes_under_unfold r))
+      (contains_behind r (children_nodes r) n (flat_map_has (nodes_under s) (children_of s r) k n d (listed_from_under n u)))
 
   -- exactly the reached nodes are listed
-  pub reached_is : (tops : List NodeId) (n : NodeId) → Contains (reached_nodes s tops) n ↔ IsReached s tops n
-  reached_is tops n = (
-    λ h. let t = flat_map_from (nodes_under s) tops n h in (t.0, t.1, under_from_listed (suc (rank s t.0)) t.0 n (omega arith) t.2),
-    λ r. flat_map_has (nodes_under s) tops r.0 n r.1 (listed_from_under n r.2),
+  pub reached_is : (entry_nodes : List NodeId) (n : NodeId) → Contains (reached_nodes s entry_nodes) n ↔ IsReached s entry_nodes n
+  reached_is entry_nodes n = (
+    λ h. let t = flat_map_from (nodes_under s) entry_nodes n h in (t.0, t.1, under_from_listed (suc (rank s t.0)) t.0 n (omega arith) t.2),
+    λ r. flat_map_has (nodes_under s) entry_nodes r.0 n r.1 (listed_from_under n r.2),
   )
 
-  pub reached_decided : (tops : List NodeId) (n : NodeId) → IsReached s tops n ⊎ (IsReached s tops n → ⊥)
-  reached_decided tops n = let same = reached_is tops n in ⊎_elim (λ c. inl (same.0 c)) (λ no. inr (λ r. no (same.1 r))) (is_listed_or_not (reached_nodes s tops) n)
+  pub reached_decided : (entry_nodes : List NodeId) (n : NodeId) → IsReached s entry_nodes n ⊎ (IsReached s entry_nodes n → ⊥)
+  reached_decided entry_nodes n = let same = reached_is entry_nodes n in ⊎_elim (λ c. inl (same.0 c)) (λ no. inr (λ r. no (same.1 r))) (is_listed_or_not (reached_nodes s entry_nodes) n)
 
   under_low : (n : NodeId) {r : NodeId} → Under s n r → rank s n ≤ rank s r
   under_low n itself = omega arith
-  under_low n (below {k} {r} d u) = let a = under_low n u in let b = fall.lower r (parent_there s r k d) k d in omega arith
+  under_low n (below {k} {r} d u) = let a = under_low n u in let b = fall.lower r (parent_in_range s r k d) k d in omega arith
 
-  module _ (apart : (n : NodeId) → Has s n → LieApart s (kids_of s n)) where
-    not_below_itself : (r : NodeId) → All (λ n. r ≢ n) (kids_nodes r)
+  module _ (apart : (n : NodeId) → Has s n → AreDisjoint s (children_of s n)) where
+    not_below_itself : (r : NodeId) → All (λ n. r ≢ n) (children_nodes r)
     not_below_itself r i other l e =
-        let n = get_or (kids_nodes r) i other in
-        let k = flat_map_from (nodes_under s) (kids_of s r) n (Contains-get_or (kids_nodes r) i other l) in
+        let n = get_or (children_nodes r) i other in
+        let k = flat_map_from (nodes_under s) (children_of s r) n (Contains-get_or (children_nodes r) i other l) in
         let u = under_from_listed (suc (rank s k.0)) k.0 n (omega arith) k.2 in
         let v = under_low r (subst (λ (m : NodeId). Under s m k.0) (sym e) u) in
-        let low = fall.lower r (parent_there s r k.0 k.1) k.0 k.1 in
+        let low = fall.lower r (parent_in_range s r k.0 k.1) k.0 k.1 in
         omega arith
 
-    kids_once : (r : NodeId) → ((k : NodeId) → Contains (kids_of s r) k → AllPairs (λ a b. a ≢ b) (nodes_under s k)) → AllPairs (λ a b. a ≢ b) (kids_nodes r)
-    kids_once r each =
-        once_in_all (nodes_under s) (kids_of s r) each (λ i j a b n h x y u v.
-        apart r (parent_there s r a (contains_read (kids_of s r) i a x)) i j a b n h x y
+    children_once : (r : NodeId) → ((k : NodeId) → Contains (children_of s r) k → AllPairs (λ a b. a ≢ b) (nodes_under s k)) → AllPairs (λ a b. a ≢ b) (children_nodes r)
+    children_once r each =
+        once_in_all (nodes_under s) (children_of s r) each (λ i j a b n h x y u v.
+        apart r (parent_in_range s r a (contains_read (children_of s r) i a x)) i j a b n h x y
         (under_from_listed (suc (rank s a)) a n (omega arith) u) (under_from_listed (suc (rank s b)) b n (omega arith) v))
 
     once_under : (d : ℕ) (r : NodeId) → rank s r < d → AllPairs (λ a b. a ≢ b) (nodes_under s r)
     once_under zero r lt = absurd (omega arith)
     once_under (suc d) r lt =
-        let rest = kids_once r (λ k c. let low = fall.lower r (parent_there s r k c) k c in once_under d k (omega arith)) in
-        subst (λ (xs : List NodeId). AllPairs (λ a b. a ≢ b) xs) (sym (nodes_under_is r)) (AllPairs-cons (λ a b. a ≢ b) r (kids_nodes r) (not_below_itself r) rest)
+        let rest = children_once r (λ k c. let low = fall.lower r (parent_in_range s r k c) k c in once_under d k (omega arith)) in
+        subst (λ (xs : List NodeId). AllPairs (λ a b. a ≢ b) xs) (sym (nodes_under_unfold r)) (AllPairs-cons (λ a b. a ≢ b) r (children_nodes r) (not_below_itself r) rest)
 
     -- none is listed twice
-    pub reached_once : (tops : List NodeId) → LieApart s tops → AllPairs (λ a b. a ≢ b) (reached_nodes s tops)
-    reached_once tops lie =
-        once_in_all (nodes_under s) tops (λ t c. once_under (suc (rank s t)) t (omega arith))
+    pub reached_once : (entry_nodes : List NodeId) → AreDisjoint s entry_nodes → AllPairs (λ a b. a ≢ b) (reached_nodes s entry_nodes)
+    reached_once entry_nodes lie =
+        once_in_all (nodes_under s) entry_nodes (λ t c. once_under (suc (rank s t)) t (omega arith))
         (λ i j a b n h x y u v. lie i j a b n h x y (under_from_listed (suc (rank s a)) a n (omega arith) u) (under_from_listed (suc (rank s b)) b n (omega arith) v))

@@ -5,15 +5,15 @@ use Rattle.std.proofs.lemmas.Bool.{eqb-true, eq-eqb, false_from_ne_true}
 use Rattle.std.proofs.lemmas.List.Concat.{flat_map-append}
 use Rattle.hir_node.specs.declared.node_id.NodeId.TheVariants as node
 use Rattle.hir_faults.specs.Nodes.{Nodes, calls_of}
-use Rattle.hir_faults.specs.Down.{rank, KidsFall, AsksKids}
-use Rattle.hir_faults.proofs.DownLemmas.{value_at}
+use Rattle.hir_faults.specs.Recursion.{rank, RankDecreases, DependsOnChildren}
+use Rattle.hir_faults.proofs.RecursionLemmas.{fold_down_at}
 use Rattle.hir_expr_store.specs.declared.pat_links.PatLink.{PatLink}
-use Rattle.hir_expr_store.specs.declared.turns.Turn.{Turn}
-use Rattle.hir_expr_store.specs.declared.turns.Turn.TheVariants.{Enter, Leave}
+use Rattle.hir_expr_store.specs.declared.pat_turns.Turn.{Turn}
+use Rattle.hir_expr_store.specs.declared.pat_turns.Turn.TheVariants.{Enter, Leave}
 use Rattle.hir_expr_store.specs.PatLists.{child_pats_of, pats, bindings_at, bindings_in, exprs_in}
 use Rattle.hir_expr_store.specs.PatLinks.{link_at, AreLinked, HasPatLinks}
-use Rattle.hir_expr_store.specs.Turns.{pat_of, turns_step, turns, entered_pat, exprs_left, turn_within, turn_by, turn_after}
-use Rattle.hir_expr_store.proofs.PatLemmas.{pats_agree, flat_map-twice, pats_is, exprs_in_parted}
+use Rattle.hir_expr_store.specs.PatTurns.{pat_of, turns_step, turns, entered_pat, exprs_left, turn_within, turn_by, turn_after}
+use Rattle.hir_expr_store.proofs.PatLemmas.{pats_agree, flat_map-twice, pats_unfold, exprs_in_parted}
 use Rattle.hir_expr_store.proofs.WalkLemmas.{IsBelow, pats_below}
 
 -- these turns come behind the leaving of a pattern, in the turns of the top
@@ -41,7 +41,7 @@ abbrev pub steps : Nodes → List PatLink → ℕ → ℕ → Turn → ℕ
 steps s links top zero t = 0
 steps s links top (suc d) t = steps_step (steps s links top d) (turn_after s links top t)
 
-turns_asks : (s : Nodes) → AsksKids s (turns_step s)
+turns_asks : (s : Nodes) → DependsOnChildren s (turns_step s)
 turns_asks s f g (node.Pat id) h = ap (λ inner. Enter id ∷ inner ++ Leave id ∷ []) (pats_agree f g (calls_of s (node.Pat id)) h)
 turns_asks s f g (node.Expr id) h = refl
 turns_asks s f g (node.TypeRef id) h = refl
@@ -68,34 +68,34 @@ linked_on links m k [] more h = h
 linked_on links m k (x ∷ []) more h = h.1
 linked_on links m k (x ∷ y ∷ front) more h = linked_on links m k (y ∷ front) more h.1
 
-module _ (s : Nodes) (fall : KidsFall s) where
+module _ (s : Nodes) (fall : RankDecreases s) where
   pub turns_is : (p : ℕ) → turns s p ≡ Enter p ∷ flat_map (turns s) (child_pats_of s p) ++ Leave p ∷ []
   unfolding turns
-  turns_is p = value_at s fall (turns_step s) [] (turns_asks s) (node.Pat p)
+  turns_is p = fold_down_at s fall (turns_step s) [] (turns_asks s) (node.Pat p)
 
   -- each turn is one of a pattern that is there
-  there_in : (d p : ℕ) → p < length s.pats → rank s (node.Pat p) < d → AllByRecursion (λ t. pat_of t < length s.pats) (turns s p)
-  there_in zero p h lt = absurd (omega arith)
-  there_in (suc d) p h lt =
-      let inner = all_flat (λ (t : Turn). pat_of t < length s.pats) (IsBelow s p) (turns s) (child_pats_of s p) (pats_below s fall p h) (λ q b. let low = b.lower in there_in d q b.there (omega arith)) in
+  in_range_in : (d p : ℕ) → p < length s.pats → rank s (node.Pat p) < d → AllByRecursion (λ t. pat_of t < length s.pats) (turns s p)
+  in_range_in zero p h lt = absurd (omega arith)
+  in_range_in (suc d) p h lt =
+      let inner = all_flat (λ (t : Turn). pat_of t < length s.pats) (IsBelow s p) (turns s) (child_pats_of s p) (pats_below s fall p h) (λ q b. let low = b.lower in in_range_in d q b.in_range (omega arith)) in
       rw (turns_is p) (h, all_append (λ (t : Turn). pat_of t < length s.pats) (flat_map (turns s) (child_pats_of s p)) (Leave p ∷ []) inner (h, tt))
 
-  pub turns_there : (p : ℕ) → p < length s.pats → AllByRecursion (λ t. pat_of t < length s.pats) (turns s p)
-  turns_there p h = there_in (suc (rank s (node.Pat p))) p h (omega arith)
+  pub turns_in_range : (p : ℕ) → p < length s.pats → AllByRecursion (λ t. pat_of t < length s.pats) (turns s p)
+  turns_in_range p h = in_range_in (suc (rank s (node.Pat p))) p h (omega arith)
 
   -- what the turns of a pattern give: what its entering gives, what the turns of its children give, what its leaving gives
   gives : {A : Type 0} (g : Turn → List A) (p : ℕ) → flat_map g (turns s p) ≡ g (Enter p) ++ (flat_map (λ q. flat_map g (turns s q)) (child_pats_of s p) ++ g (Leave p))
   gives {A} g p =
       let inner = flat_map-append g (flat_map (turns s) (child_pats_of s p)) (Leave p ∷ []) in
-      let kids = ap (λ (t : List A). t ++ (g (Leave p) ++ [])) (flat_map-twice g (turns s) (child_pats_of s p)) in
+      let children = ap (λ (t : List A). t ++ (g (Leave p) ++ [])) (flat_map-twice g (turns s) (child_pats_of s p)) in
       let own = ap (λ (t : List A). flat_map (λ q. flat_map g (turns s q)) (child_pats_of s p) ++ t) (append-nil (g (Leave p))) in
-      ap (flat_map g) (turns_is p) ∙ ap (λ (t : List A). g (Enter p) ++ t) (inner ∙ kids ∙ own)
+      ap (flat_map g) (turns_is p) ∙ ap (λ (t : List A). g (Enter p) ++ t) (inner ∙ children ∙ own)
 
   pats_given : (d p : ℕ) → p < length s.pats → rank s (node.Pat p) < d → flat_map entered_pat (turns s p) ≡ pats s p
   pats_given zero p h lt = absurd (omega arith)
   pats_given (suc d) p h lt =
-      let kids = same_each (IsBelow s p) (λ q. flat_map entered_pat (turns s q)) (pats s) (child_pats_of s p) (pats_below s fall p h) (λ q b. let low = b.lower in pats_given d q b.there (omega arith)) in
-      gives entered_pat p ∙ ap (λ t. p ∷ t ++ []) kids ∙ ap (λ t. p ∷ t) (append-nil (flat_map (pats s) (child_pats_of s p))) ∙ sym (pats_is s fall p h)
+      let children = same_each (IsBelow s p) (λ q. flat_map entered_pat (turns s q)) (pats s) (child_pats_of s p) (pats_below s fall p h) (λ q b. let low = b.lower in pats_given d q b.in_range (omega arith)) in
+      gives entered_pat p ∙ ap (λ t. p ∷ t ++ []) children ∙ ap (λ t. p ∷ t) (append-nil (flat_map (pats s) (child_pats_of s p))) ∙ sym (pats_unfold s fall p h)
 
   pub pats_of_turns : (p : ℕ) → p < length s.pats → flat_map entered_pat (turns s p) ≡ pats s p
   pats_of_turns p h = pats_given (suc (rank s (node.Pat p))) p h (omega arith)
@@ -106,27 +106,27 @@ module _ (s : Nodes) (fall : KidsFall s) where
   exprs_given : (d p : ℕ) → p < length s.pats → rank s (node.Pat p) < d → flat_map (exprs_left s) (turns s p) ≡ exprs_in s p
   exprs_given zero p h lt = absurd (omega arith)
   exprs_given (suc d) p h lt =
-      let kids = same_each (IsBelow s p) (λ q. flat_map (exprs_left s) (turns s q)) (exprs_in s) (child_pats_of s p) (pats_below s fall p h) (λ q b. let low = b.lower in exprs_given d q b.there (omega arith)) in
-      gives (exprs_left s) p ∙ ap (λ t. t ++ exprs_left s (Leave p)) kids ∙ sym (exprs_in_parted s fall p h)
+      let children = same_each (IsBelow s p) (λ q. flat_map (exprs_left s) (turns s q)) (exprs_in s) (child_pats_of s p) (pats_below s fall p h) (λ q b. let low = b.lower in exprs_given d q b.in_range (omega arith)) in
+      gives (exprs_left s) p ∙ ap (λ t. t ++ exprs_left s (Leave p)) children ∙ sym (exprs_in_parted s fall p h)
 
   pub exprs_of_turns : (p : ℕ) → p < length s.pats → flat_map (exprs_left s) (turns s p) ≡ exprs_in s p
   exprs_of_turns p h = exprs_given (suc (rank s (node.Pat p))) p h (omega arith)
 
   module _ (top : ℕ) (here : top < length s.pats) where
-    kid_below : (m k : ℕ) (front more : List ℕ) → m < length s.pats → child_pats_of s m ≡ front ++ k ∷ more → IsBelow s m k
-    kid_below m k front more h is = at_split (IsBelow s m) front k more (subst (λ (ks : List ℕ). AllByRecursion (IsBelow s m) ks) is (pats_below s fall m h))
+    child_below : (m k : ℕ) (front more : List ℕ) → m < length s.pats → child_pats_of s m ≡ front ++ k ∷ more → IsBelow s m k
+    child_below m k front more h is = at_split (IsBelow s m) front k more (subst (λ (ks : List ℕ). AllByRecursion (IsBelow s m) ks) is (pats_below s fall m h))
 
-    after_there : {p : ℕ} {rest : List Turn} → AfterLeave s top p rest → p < length s.pats
-    after_there at_top = here
-    after_there (below m k front more rest h is a) = (kid_below m k front more h is).there
+    after_in_range : {p : ℕ} {rest : List Turn} → AfterLeave s top p rest → p < length s.pats
+    after_in_range at_top = here
+    after_in_range (below m k front more rest h is a) = (child_below m k front more h is).in_range
 
     after_low : {p : ℕ} {rest : List Turn} → AfterLeave s top p rest → rank s (node.Pat p) ≤ rank s (node.Pat top)
     after_low at_top = omega arith
-    after_low (below m k front more rest h is a) = let low = (kid_below m k front more h is).lower in let up = after_low a in omega arith
+    after_low (below m k front more rest h is a) = let low = (child_below m k front more h is).lower in let up = after_low a in omega arith
 
-    pub behind_there : (t : Turn) (rest : List Turn) → Behind s top t rest → pat_of t < length s.pats
-    behind_there (Enter p) rest b = after_there b.1
-    behind_there (Leave p) rest b = after_there b
+    pub behind_in_range : (t : Turn) (rest : List Turn) → Behind s top t rest → pat_of t < length s.pats
+    behind_in_range (Enter p) rest b = after_in_range b.1
+    behind_in_range (Leave p) rest b = after_in_range b
 
     -- the turns of a pattern and those behind it begin with its entering
     enters : (q : ℕ) (after : List Turn) → AfterLeave s top q after → Follows s top (turns s q ++ after) (Some (Enter q))
@@ -136,12 +136,12 @@ module _ (s : Nodes) (fall : KidsFall s) where
       (after, a, refl),
     )
 
-    within : (p : ℕ) (kids : List ℕ) → child_pats_of s p ≡ kids → (after : List Turn) → AfterLeave s top p after
-        → Follows s top (flat_map (turns s) kids ++ Leave p ∷ after) (Some (turn_within p kids))
+    within : (p : ℕ) (children : List ℕ) → child_pats_of s p ≡ children → (after : List Turn) → AfterLeave s top p after
+        → Follows s top (flat_map (turns s) children ++ Leave p ∷ after) (Some (turn_within p children))
     within p [] is after a = (after, refl, a)
     within p (k ∷ more) is after a =
         subst (λ (r : List Turn). Follows s top r (Some (Enter k))) (sym (append_assoc (turns s k) (flat_map (turns s) more) (Leave p ∷ after)))
-        (enters k (flat_map (turns s) more ++ Leave p ∷ after) (below p k [] more after (after_there a) is a))
+        (enters k (flat_map (turns s) more ++ Leave p ∷ after) (below p k [] more after (after_in_range a) is a))
 
     module _ (links : List PatLink) (known : HasPatLinks s.pats links) where
       by_link : (m k : ℕ) (front more : List ℕ) (rest : List Turn) → m < length s.pats → child_pats_of s m ≡ front ++ k ∷ more → AfterLeave s top m rest → AreLinked links m (k ∷ more)
@@ -155,7 +155,7 @@ module _ (s : Nodes) (fall : KidsFall s) where
       leaves : {p : ℕ} {rest : List Turn} → AfterLeave s top p rest → Follows s top rest (cond (eqb p top) None (turn_by (link_at links p)))
       leaves at_top = rw (eq-eqb top top refl) refl
       leaves (below m k front more rest h is a) =
-          let low = (kid_below m k front more h is).lower in
+          let low = (child_below m k front more h is).lower in
           let up = after_low a in
           let other : eqb k top ≡ false = false_from_ne_true (eqb k top) (λ e. let same = ap (λ (n : ℕ). rank s (node.Pat n)) (eqb-true k top e) in omega arith) in
           rw other (by_link m k front more rest h is a (linked_on links m k front more (subst (λ (ks : List ℕ). AreLinked links m ks) is (known.children m h))))

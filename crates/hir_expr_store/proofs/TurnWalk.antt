@@ -5,23 +5,23 @@ use Rattle.std.specs.Prelude.{Result, Ok, Err}
 use Rattle.hir_node.specs.Runs.{MayRun}
 use Rattle.hir_node.proofs.RunLemmas.{may_here}
 use Rattle.hir_faults.specs.Nodes.{Nodes}
-use Rattle.hir_faults.specs.Down.{KidsFall}
+use Rattle.hir_faults.specs.Recursion.{RankDecreases}
 use Rattle.hir_expr_store.specs.declared.pat_links.PatLink.{PatLink}
-use Rattle.hir_expr_store.specs.declared.turns.Turn.{Turn}
-use Rattle.hir_expr_store.specs.declared.turns.Turn.TheVariants.{Enter, Leave}
+use Rattle.hir_expr_store.specs.declared.pat_turns.Turn.{Turn}
+use Rattle.hir_expr_store.specs.declared.pat_turns.Turn.TheVariants.{Enter, Leave}
 use Rattle.hir_expr_store.specs.PatLists.{child_pats_of}
 use Rattle.hir_expr_store.specs.PatLinks.{HasPatLinks}
 use Rattle.hir_expr_store.specs.Tries.{Tries}
-use Rattle.hir_expr_store.specs.Turns.{pat_of, turns, turn_after}
+use Rattle.hir_expr_store.specs.PatTurns.{pat_of, turns, turn_after}
 use Rattle.hir_expr_store.proofs.TryLemmas.{goes, Trying, trying_from, trying_on, trying_refused, trying_ended}
-use Rattle.hir_expr_store.proofs.TurnLemmas.{Follows, at_top, turns_is, behind_there, follows, steps_step, steps, steps_is}
+use Rattle.hir_expr_store.proofs.TurnLemmas.{Follows, at_top, turns_is, behind_in_range, follows, steps_step, steps, steps_is}
 
 module _ {V E : Type 0} (may : V → Turn → Type 0) (step : V → Turn → Result (Unit {0}) E → V → Type 0) (s : Nodes) (top : ℕ) where
   -- the turns so far were taken, and this one and those that come behind it are still to come; none where there is no turn
   abbrev pub WalksOn : V → V → Option Turn → Type 0
   WalksOn start now o = (rest : List Turn) × Follows s top rest o × (length rest ≤ length (turns s top)) × Trying may step start (turns s top) now rest
 
-  pub walk_begins : KidsFall s → {start : V} → MayRun may (goes step) start (turns s top) → WalksOn start start (Some (Enter top))
+  pub walk_begins : RankDecreases s → {start : V} → MayRun may (goes step) start (turns s top) → WalksOn start start (Some (Enter top))
   walk_begins fall {start} can = (
     turns s top,
     (flat_map (turns s) (child_pats_of s top) ++ Leave top ∷ [], turns_is s fall top, ([], at_top, refl)),
@@ -42,9 +42,9 @@ module _ {V E : Type 0} (may : V → Turn → Type 0) (step : V → Turn → Res
     pub walk_refused : {last : V} {e : E} → step now t (Err e) last → Tries step start (turns s top) (Err e) last
     walk_refused {last} {e} st = trying_refused may step start (turns s top) now t w.1.0 to_come last e st
 
-    module _ (fall : KidsFall s) (here : top < length s.pats) where
-      pub walk_there : pat_of t < length s.pats
-      walk_there = behind_there s fall top here t w.1.0 w.1.2
+    module _ (fall : RankDecreases s) (here : top < length s.pats) where
+      pub walk_in_range : pat_of t < length s.pats
+      walk_in_range = behind_in_range s fall top here t w.1.0 w.1.2
 
       module _ (links : List PatLink) (known : HasPatLinks s.pats links) where
         pub walk_next : {then : V} → step now t (Ok tt) then → WalksOn start then (turn_after s links top t)

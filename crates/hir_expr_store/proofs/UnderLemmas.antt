@@ -1,10 +1,10 @@
--- Going down from kid to kid and climbing from child to parent lead between the same nodes.
+-- Going down from child to child and climbing from child to parent lead between the same nodes.
 use Rattle.std.proofs.Common.{◌≡◌, ℕ, zero, suc, ◌+◌, ◌-◌, ◌<◌, ◌≤◌, ◌⊎◌, ◌↔◌, Bool, true, List, [], Option, None, inl, inr, ⊎_elim, refl, ap, sym, ◌∙◌, subst, arith, length, map, get_or, set, Contains}
 use Rattle.std.specs.Prelude.{IsTrue}
 use Rattle.std.proofs.lemmas.Bool.{cases_lt}
 use Rattle.std.proofs.lemmas.List.{length-map, get_or-map}
 use Rattle.std.proofs.lemmas.List.Elements.{Contains-get_or}
-use Rattle.hir_forest.specs.Forest.{IsKid, Climbs, HasOneParent, IsForest, Marks, LiesUnderMarked}
+use Rattle.hir_forest.specs.Forest.{IsChild, Climbs, HasOneParent, IsForest, Marks, LiesUnderMarked}
 use Rattle.hir_forest.specs.Height.{height}
 use Rattle.hir_forest.proofs.ForestLemmas.{parent_in}
 use Rattle.hir_forest.proofs.HeightLemmas.{height_falls}
@@ -14,13 +14,13 @@ use Rattle.hir_node.specs.declared.node_id.NodeId.TheVariants as node
 use Rattle.hir_faults.specs.declared.sizes.Sizes.{Sizes}
 use Rattle.hir_faults.specs.Sizes.{HasNode, place}
 use Rattle.hir_forest.specs.Parents.{HasParent, HasParents}
-use Rattle.hir_faults.specs.Nodes.{Nodes, sizes_of, Has, kids_of, graph}
+use Rattle.hir_faults.specs.Nodes.{Nodes, sizes_of, Has, children_of, graph}
 use Rattle.hir_faults.specs.Faults.{RootedNodes, rooted_fault}
-use Rattle.hir_faults.specs.Down.{KidsFall}
+use Rattle.hir_faults.specs.Recursion.{RankDecreases}
 use Rattle.hir_expr_store.specs.Under.{Under, itself, below, LiesUnderOther}
-use Rattle.hir_expr_store.specs.NodeSets.{MarkedNodes, Gains, NoKidIn}
+use Rattle.hir_expr_store.specs.NodeSets.{MarkedNodes, Gains, NoChildIn}
 use Rattle.hir_faults.proofs.FaultLemmas.{accepted_forest, graph-length}
-use Rattle.hir_faults.proofs.SoundLemmas.{place_within, row_at_place, kid_in_graph, sound_falls}
+use Rattle.hir_faults.proofs.SoundLemmas.{place_within, row_at_place, child_in_graph, sound_falls}
 
 -- no two nodes stand in one place
 pub same_place : (z : Sizes) (n m : NodeId) → HasNode z n → HasNode z m → place z n ≡ place z m → n ≡ m
@@ -60,9 +60,9 @@ gains old n at is h len = record {
     within = let w = place_within old.sizes n h in omega arith
 
 -- one step more at the upper end
-climbs_more : (g : List (List ℕ)) (k c p q : ℕ) → Climbs g k c p → IsKid g q p → Climbs g (suc k) c q
-climbs_more g zero c p q e kid = (q, subst (IsKid g q) (sym e) kid, refl)
-climbs_more g (suc k) c p q x kid = (x.0, x.1, climbs_more g k x.0 p q x.2 kid)
+climbs_more : (g : List (List ℕ)) (k c p q : ℕ) → Climbs g k c p → IsChild g q p → Climbs g (suc k) c q
+climbs_more g zero c p q e child = (q, subst (IsChild g q) (sym e) child, refl)
+climbs_more g (suc k) c p q x child = (x.0, x.1, climbs_more g k x.0 p q x.2 child)
 
 -- of two ways up from one node, one goes on where the other ends
 climbs_meet : (g : List (List ℕ)) → HasOneParent g → (i j c a b : ℕ) → Climbs g i c a → Climbs g j c b → ((k : ℕ) × Climbs g k a b) ⊎ ((k : ℕ) × Climbs g k b a)
@@ -78,37 +78,37 @@ climb_rises g f zero c p x = let e = ap (height g) x in omega arith
 climb_rises g f (suc k) c p x = let l = height_falls g f x.0 c x.1 in let m = climb_rises g f k x.0 p x.2 in omega arith
 
 -- one step more at the lower end
-pub under_more : (s : Nodes) (n k : NodeId) {r : NodeId} → Under s k r → Contains (kids_of s k) n → Under s n r
+pub under_more : (s : Nodes) (n k : NodeId) {r : NodeId} → Under s k r → Contains (children_of s k) n → Under s n r
 under_more s n k itself c = below c itself
 under_more s n k (below d u) c = below d (under_more s n k u c)
 
 -- the nodes that an edge of the graph leads between
-edge_told : (s : Nodes) (p c : ℕ) → IsKid (graph s) p c → (m n : NodeId) × Has s m × Contains (kids_of s m) n × (place (sizes_of s) n ≡ c)
-edge_told s p c kid =
-    let lt = parent_in (graph s) p c kid in
+edge_told : (s : Nodes) (p c : ℕ) → IsChild (graph s) p c → (m n : NodeId) × Has s m × Contains (children_of s m) n × (place (sizes_of s) n ≡ c)
+edge_told s p c child =
+    let lt = parent_in (graph s) p c child in
     let m = node_here (sizes_of s) p (omega (arith, graph-length s)) in
-    let row : get_or (graph s) p [] ≡ map (place (sizes_of s)) (kids_of s m.0) =
-    subst (λ (q : ℕ). get_or (graph s) q [] ≡ map (place (sizes_of s)) (kids_of s m.0)) m.2 (row_at_place s m.0 m.1) in
-    let k : Contains (map (place (sizes_of s)) (kids_of s m.0)) c = subst (λ (r : List ℕ). Contains r c) row kid in
-    let lk : k.0 < length (kids_of s m.0) = omega (arith, k.1, length-map (kids_of s m.0) (place (sizes_of s))) in
-    let n : NodeId = get_or (kids_of s m.0) k.0 m.0 in
-    let is : get_or (map (place (sizes_of s)) (kids_of s m.0)) k.0 c ≡ place (sizes_of s) n = get_or-map (place (sizes_of s)) (kids_of s m.0) k.0 m.0 c lk in
+    let row : get_or (graph s) p [] ≡ map (place (sizes_of s)) (children_of s m.0) =
+    subst (λ (q : ℕ). get_or (graph s) q [] ≡ map (place (sizes_of s)) (children_of s m.0)) m.2 (row_at_place s m.0 m.1) in
+    let k : Contains (map (place (sizes_of s)) (children_of s m.0)) c = subst (λ (r : List ℕ). Contains r c) row child in
+    let lk : k.0 < length (children_of s m.0) = omega (arith, k.1, length-map (children_of s m.0) (place (sizes_of s))) in
+    let n : NodeId = get_or (children_of s m.0) k.0 m.0 in
+    let is : get_or (map (place (sizes_of s)) (children_of s m.0)) k.0 c ≡ place (sizes_of s) n = get_or-map (place (sizes_of s)) (children_of s m.0) k.0 m.0 c lk in
     let at : place (sizes_of s) n ≡ c = subst (λ (q : ℕ). q ≡ c) is k.2 in
-    (m.0, n, m.1, Contains-get_or (kids_of s m.0) k.0 m.0 lk, at)
+    (m.0, n, m.1, Contains-get_or (children_of s m.0) k.0 m.0 lk, at)
 
--- no marked place has a parent exactly where no place of a kid has a mark
-no_kid_right : (s : Nodes) (marks : List Bool) (parents : List (Option ℕ)) → HasParents (graph s) parents
-    → ((c p : ℕ) → Marks marks c → HasParent parents c p → ⊥) ↔ ((m n : NodeId) → Has s m → Contains (kids_of s m) n → Marks marks (place (sizes_of s) n) → ⊥)
-no_kid_right s marks parents known = (
-  λ none m n h k i. none (place (sizes_of s) n) (place (sizes_of s) m) i ((known.kids (place (sizes_of s) n) (place (sizes_of s) m)).1 (kid_in_graph s m n h k)),
-  λ no c p i has. let e = edge_told s p c ((known.kids c p).0 has) in no e.0 e.1 e.2 e.3 (subst (Marks marks) (sym e.4) i),
+-- no marked place has a parent exactly where no place of a child has a mark
+no_child_right : (s : Nodes) (marks : List Bool) (parents : List (Option ℕ)) → HasParents (graph s) parents
+    → ((c p : ℕ) → Marks marks c → HasParent parents c p → ⊥) ↔ ((m n : NodeId) → Has s m → Contains (children_of s m) n → Marks marks (place (sizes_of s) n) → ⊥)
+no_child_right s marks parents known = (
+  λ none m n h k i. none (place (sizes_of s) n) (place (sizes_of s) m) i ((known.children (place (sizes_of s) n) (place (sizes_of s) m)).1 (child_in_graph s m n h k)),
+  λ no c p i has. let e = edge_told s p c ((known.children c p).0 has) in no e.0 e.1 e.2 e.3 (subst (Marks marks) (sym e.4) i),
 )
 
 -- the answer of the test
-pub no_kid_told : (s : Nodes) (set : MarkedNodes) (marks : List Bool) (parents : List (Option ℕ)) (none : Bool) → marks ≡ set.marks → set.sizes ≡ sizes_of s → HasParents (graph s) parents
-    → IsTrue none ↔ ((c p : ℕ) → Marks marks c → HasParent parents c p → ⊥) → IsTrue none ↔ NoKidIn s set
-no_kid_told s set marks parents none same sizes known is =
-    let right : ((c p : ℕ) → Marks marks c → HasParent parents c p → ⊥) ↔ NoKidIn s set = rw (same, sizes) (no_kid_right s set.marks parents known) in
+pub no_child_told : (s : Nodes) (set : MarkedNodes) (marks : List Bool) (parents : List (Option ℕ)) (none : Bool) → marks ≡ set.marks → set.sizes ≡ sizes_of s → HasParents (graph s) parents
+    → IsTrue none ↔ ((c p : ℕ) → Marks marks c → HasParent parents c p → ⊥) → IsTrue none ↔ NoChildIn s set
+no_child_told s set marks parents none same sizes known is =
+    let right : ((c p : ℕ) → Marks marks c → HasParent parents c p → ⊥) ↔ NoChildIn s set = rw (same, sizes) (no_child_right s set.marks parents known) in
     (λ t. right.0 (is.0 t), λ no. is.1 (right.1 no))
 
 module _ (c : RootedNodes) (sound : rooted_fault c None) where
@@ -121,34 +121,34 @@ module _ (c : RootedNodes) (sound : rooted_fault c None) where
   abbrev g : List (List ℕ)
   g = graph c.nodes
 
-  falls : KidsFall s
+  falls : RankDecreases s
   falls = sound_falls c sound
 
   -- what is under a node is there
-  pub under_there : (n : NodeId) {r : NodeId} → Under s n r → Has s r → Has s n
-  under_there n itself h = h
-  under_there n (below {k} {r} d u) h = under_there n u (falls.there r h k d)
+  pub under_in_range : (n : NodeId) {r : NodeId} → Under s n r → Has s r → Has s n
+  under_in_range n itself h = h
+  under_in_range n (below {k} {r} d u) h = under_in_range n u (falls.in_range r h k d)
 
-  kid_back : (m n : NodeId) → Has s m → Has s n → IsKid g (place z m) (place z n) → Contains (kids_of s m) n
-  kid_back m n h k kid =
-      let row = rw (row_at_place s m h) at kid in
-      let lt : row.0 < length (kids_of s m) = omega (arith, row.1, length-map (kids_of s m) (place z)) in
-      let there = falls.there m h (get_or (kids_of s m) row.0 n) (Contains-get_or (kids_of s m) row.0 n lt) in
-      (row.0, lt, same_place z (get_or (kids_of s m) row.0 n) n there k (sym (get_or-map (place z) (kids_of s m) row.0 n (place z n) lt) ∙ row.2))
+  child_back : (m n : NodeId) → Has s m → Has s n → IsChild g (place z m) (place z n) → Contains (children_of s m) n
+  child_back m n h k child =
+      let row = rw (row_at_place s m h) at child in
+      let lt : row.0 < length (children_of s m) = omega (arith, row.1, length-map (children_of s m) (place z)) in
+      let in_range = falls.in_range m h (get_or (children_of s m) row.0 n) (Contains-get_or (children_of s m) row.0 n lt) in
+      (row.0, lt, same_place z (get_or (children_of s m) row.0 n) n in_range k (sym (get_or-map (place z) (children_of s m) row.0 n (place z n) lt) ∙ row.2))
 
   pub climb_from_under : (n : NodeId) {r : NodeId} → Under s n r → Has s r → (k : ℕ) × Climbs g k (place z n) (place z r)
   climb_from_under n itself h = (zero, refl)
   climb_from_under n (below {k} {r} d u) h =
-      let up = climb_from_under n u (falls.there r h k d) in
-      (suc up.0, climbs_more g up.0 (place z n) (place z k) (place z r) up.1 (kid_in_graph s r k h d))
+      let up = climb_from_under n u (falls.in_range r h k d) in
+      (suc up.0, climbs_more g up.0 (place z n) (place z k) (place z r) up.1 (child_in_graph s r k h d))
 
   under_from_climb : (k : ℕ) (n r : NodeId) → Has s n → Has s r → Climbs g k (place z n) (place z r) → Under s n r
   under_from_climb zero n r h l x = subst (Under s n) (same_place z n r h l x) itself
   under_from_climb (suc k) n r h l x =
       let m = node_here z x.0 (let p = parent_in g x.0 (place z n) x.1 in omega (arith, graph-length s)) in
-      let kid = subst (λ (q : ℕ). IsKid g q (place z n)) (sym m.2) x.1 in
+      let child = subst (λ (q : ℕ). IsChild g q (place z n)) (sym m.2) x.1 in
       let rest = subst (λ (q : ℕ). Climbs g k q (place z r)) (sym m.2) x.2 in
-      under_more s n m.0 (under_from_climb k m.0 r m.1 l rest) (kid_back m.0 n m.1 h kid)
+      under_more s n m.0 (under_from_climb k m.0 r m.1 l rest) (child_back m.0 n m.1 h child)
 
   -- where a node is under two, one of the two is under the other
   pub under_two : (n a b : NodeId) → Has s a → Has s b → Under s n a → Under s n b → Under s a b ⊎ Under s b a

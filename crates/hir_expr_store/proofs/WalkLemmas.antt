@@ -3,37 +3,37 @@ use Rattle.std.proofs.Common.{◌≡◌, ℕ, suc, ◌<◌, Bool, true, List, []
 use Rattle.std.specs.List.{flat_map, FoldsTo, AllByRecursion, list_all}
 use Rattle.std.specs.Cmp.{first_so, second_so}
 use Rattle.hir_node.specs.Runs.{Runs, no_call, a_call, MayRun, at_end, at_call}
-use Rattle.hir_node.specs.ChildCalls.{Call, OnExpr, OnAnonConst, OnPat, OnType, OnLifetime, kids, pat_of_call}
+use Rattle.hir_node.specs.ChildCalls.{Call, OnExpr, OnAnonConst, OnPat, OnType, OnLifetime, children, pat_of_call}
 use Rattle.hir_node.specs.declared.node_id.NodeId.{NodeId}
 use Rattle.hir_node.specs.declared.node_id.NodeId.TheVariants as node
 use Rattle.hir_node.proofs.ChildPatLemmas.{folds_on}
-use Rattle.hir_faults.specs.Nodes.{Nodes, Has, calls_of, kids_of}
-use Rattle.hir_faults.specs.Down.{rank, KidsFall}
+use Rattle.hir_faults.specs.Nodes.{Nodes, Has, calls_of, children_of}
+use Rattle.hir_faults.specs.Recursion.{rank, RankDecreases}
 use Rattle.hir_expr_store.specs.PatLists.{child_pats_of}
 
 -- the pattern c is there, and stands lower than p
 pub record IsBelow (s : Nodes) (p c : ℕ) : Type 0 where
-  pub there : c < length s.pats
+  pub in_range : c < length s.pats
   pub lower : rank s (node.Pat c) < rank s (node.Pat p)
 
 each_member : {X : Type 0} (P : X → Type 0) (xs : List X) → ((x : X) → Contains xs x → P x) → AllByRecursion P xs
 each_member P [] f = tt
 each_member P (x ∷ xs) f = (f x (0, omega arith, refl), each_member P xs (λ y c. f y (suc c.0, omega (arith, c.1), c.2)))
 
-pats_of_kids : (P : NodeId → Type 0) (Q : ℕ → Type 0) → ((q : ℕ) → P (node.Pat q) → Q q) → (calls : List Call) → AllByRecursion P (kids calls) → AllByRecursion Q (flat_map pat_of_call calls)
-pats_of_kids P Q f [] h = tt
-pats_of_kids P Q f (OnExpr id ∷ calls) h = pats_of_kids P Q f calls h.1
-pats_of_kids P Q f (OnAnonConst id ∷ calls) h = pats_of_kids P Q f calls h.1
-pats_of_kids P Q f (OnPat id ∷ calls) h = (f id h.0, pats_of_kids P Q f calls h.1)
-pats_of_kids P Q f (OnType id ∷ calls) h = pats_of_kids P Q f calls h.1
-pats_of_kids P Q f (OnLifetime id ∷ calls) h = pats_of_kids P Q f calls h
+pats_of_children : (P : NodeId → Type 0) (Q : ℕ → Type 0) → ((q : ℕ) → P (node.Pat q) → Q q) → (calls : List Call) → AllByRecursion P (children calls) → AllByRecursion Q (flat_map pat_of_call calls)
+pats_of_children P Q f [] h = tt
+pats_of_children P Q f (OnExpr id ∷ calls) h = pats_of_children P Q f calls h.1
+pats_of_children P Q f (OnAnonConst id ∷ calls) h = pats_of_children P Q f calls h.1
+pats_of_children P Q f (OnPat id ∷ calls) h = (f id h.0, pats_of_children P Q f calls h.1)
+pats_of_children P Q f (OnType id ∷ calls) h = pats_of_children P Q f calls h.1
+pats_of_children P Q f (OnLifetime id ∷ calls) h = pats_of_children P Q f calls h
 
 -- the child patterns of a pattern are there, and stand lower
-pub pats_below : (s : Nodes) → KidsFall s → (id : ℕ) → id < length s.pats → AllByRecursion (IsBelow s id) (child_pats_of s id)
+pub pats_below : (s : Nodes) → RankDecreases s → (id : ℕ) → id < length s.pats → AllByRecursion (IsBelow s id) (child_pats_of s id)
 pats_below s fall id h =
-    let kid : NodeId → Type 0 = λ k. Has s k × (rank s k < rank s (node.Pat id)) in
-    let all = each_member kid (kids_of s (node.Pat id)) (λ k c. (fall.there (node.Pat id) h k c, fall.lower (node.Pat id) h k c)) in
-    pats_of_kids kid (IsBelow s id) (λ q k. record { there = k.0; lower = k.1 }) (calls_of s (node.Pat id)) all
+    let child : NodeId → Type 0 = λ k. Has s k × (rank s k < rank s (node.Pat id)) in
+    let all = each_member child (children_of s (node.Pat id)) (λ k c. (fall.in_range (node.Pat id) h k c, fall.lower (node.Pat id) h k c)) in
+    pats_of_children child (IsBelow s id) (λ q k. record { in_range = k.0; lower = k.1 }) (calls_of s (node.Pat id)) all
 
 -- each call folds what is held over what it gives
 pub folds_through : {V C P A : Type 0} {step : V → C → V → Type 0} (R : P → A → P → Type 0) (held : V → P) (gives : C → List A) → ((v w : V) (c : C) → step v c w → FoldsTo R (held v) (gives c) (held w))

@@ -7,7 +7,7 @@ pub mod StoreParts
 pub mod PatLists
 pub mod PatLinks
 pub mod Tries
-pub mod Turns
+pub mod PatTurns
 pub mod RootSearch
 pub mod Bounds
 pub mod Under

@@ -4,7 +4,7 @@ use Rattle.hir_forest.specs.Forest.{Marks}
 use Rattle.hir_node.specs.declared.node_id.NodeId.{NodeId}
 use Rattle.hir_faults.specs.declared.sizes.Sizes.{Sizes}
 use Rattle.hir_faults.specs.Sizes.{HasNode, place}
-use Rattle.hir_faults.specs.Nodes.{Nodes, Has, kids_of}
+use Rattle.hir_faults.specs.Nodes.{Nodes, Has, children_of}
 
 -- how many nodes there are, and a mark for each, in the order of the row
 pub record MarkedNodes : Type 0 where
@@ -20,6 +20,6 @@ pub record Gains (old : MarkedNodes) (added : NodeId) (new : MarkedNodes) : Type
   pub sizes : new.sizes ≡ old.sizes
   pub members : (n : NodeId) → HasNode old.sizes n → IsIn new n ↔ (IsIn old n ⊎ (n ≡ added))
 
--- no kid of a node is in the set
-abbrev pub NoKidIn : Nodes → MarkedNodes → Type 0
-NoKidIn s set = (m n : NodeId) → Has s m → Contains (kids_of s m) n → IsIn set n → ⊥
+-- no child of a node is in the set
+abbrev pub NoChildIn : Nodes → MarkedNodes → Type 0
+NoChildIn s set = (m n : NodeId) → Has s m → Contains (children_of s m) n → IsIn set n → ⊥

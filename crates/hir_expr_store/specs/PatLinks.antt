@@ -8,8 +8,8 @@ use Rattle.hir_expr_store.specs.declared.pat_links.PatLink.{PatLink}
 use Rattle.hir_expr_store.specs.declared.pat_links.PatLink.TheVariants.{Next, Last, Alone}
 
 -- the children of the pattern of this number, none where it isn't there
-abbrev pub kids_at : List Pat → ℕ → List ℕ
-kids_at pats m = flat_map pat_of_call (calls_at pat_calls pats m)
+abbrev pub children_at : List Pat → ℕ → List ℕ
+children_at pats m = flat_map pat_of_call (calls_at pat_calls pats m)
 
 -- nothing stands twice in the list
 abbrev pub IsOnce : {X : Type 0} → List X → Type 0
@@ -18,9 +18,9 @@ IsOnce (x ∷ xs) = (Contains xs x → ⊥) × IsOnce xs
 
 -- each child is there, and is the child of one pattern, once
 pub record EachHasOnePlace (pats : List Pat) : Type 0 where
-  pub there : (m k : ℕ) → Contains (kids_at pats m) k → k < length pats
-  pub one_parent : (m n k : ℕ) → Contains (kids_at pats m) k → Contains (kids_at pats n) k → m ≡ n
-  pub once : (m : ℕ) → IsOnce (kids_at pats m)
+  pub in_range : (m k : ℕ) → Contains (children_at pats m) k → k < length pats
+  pub one_parent : (m n k : ℕ) → Contains (children_at pats m) k → Contains (children_at pats n) k → m ≡ n
+  pub once : (m : ℕ) → IsOnce (children_at pats m)
 
 -- the link of a pattern
 abbrev pub link_at : List PatLink → ℕ → PatLink
@@ -41,4 +41,4 @@ AreLinked links m (k ∷ q ∷ more) = (link_at links k ≡ Next q) × AreLinked
 -- there is a link for each pattern, and the children of each are linked
 pub record HasPatLinks (pats : List Pat) (links : List PatLink) : Type 0 where
   pub each : length links ≡ length pats
-  pub children : (m : ℕ) → m < length pats → AreLinked links m (kids_at pats m)
+  pub children : (m : ℕ) → m < length pats → AreLinked links m (children_at pats m)

@@ -1,4 +1,4 @@
--- The patterns, bindings and expressions of a pattern, and the children of an expression.
+-- The patterns, bindings and expressions of a pattern, and the child expressions of an expression.
 use Rattle.std.specs.Prelude.{ℕ, List, [], ◌∷◌, slice_get}
 use Rattle.std.specs.List.{flat_map}
 use Rattle.hir_node.specs.ChildCalls.{Call, OnExpr, OnAnonConst, OnPat, OnType, OnLifetime, pat_of_call}
@@ -7,7 +7,7 @@ use Rattle.hir_node.specs.declared.node_id.NodeId.TheVariants as node
 use Rattle.hir_node.specs.OtherIds.{pat_bindings}
 use Rattle.hir_faults.specs.TestedParts.{all_of}
 use Rattle.hir_faults.specs.Nodes.{Nodes, calls_of}
-use Rattle.hir_faults.specs.Down.{value}
+use Rattle.hir_faults.specs.Recursion.{fold_down}
 
 -- the patterns among the calls of a pattern
 abbrev pub child_pats_of : Nodes → ℕ → List ℕ
@@ -21,7 +21,7 @@ pats_step s self (node.TypeRef t) = []
 
 -- the patterns of a pattern, itself first
 unfoldable pub pats : Nodes → ℕ → List ℕ
-pats s p = value s (pats_step s) [] (node.Pat p)
+pats s p = fold_down s (pats_step s) [] (node.Pat p)
 
 -- the binding of a pattern that brings one into scope
 abbrev pub bindings_at : Nodes → ℕ → List ℕ
@@ -51,12 +51,12 @@ exprs_in_step s self (node.TypeRef t) = []
 
 -- the expressions of a pattern: those met by descending through patterns
 unfoldable pub exprs_in : Nodes → ℕ → List ℕ
-exprs_in s p = value s (exprs_in_step s) [] (node.Pat p)
+exprs_in s p = fold_down s (exprs_in_step s) [] (node.Pat p)
 
--- the children of an expression, where a pattern gives its expressions
-abbrev pub children : Nodes → ℕ → List ℕ
-children s e = flat_map (exprs_from (exprs_in s)) (calls_of s (node.Expr e))
+-- the child expressions of an expression, where a pattern gives its expressions
+abbrev pub child_exprs : Nodes → ℕ → List ℕ
+child_exprs s e = flat_map (exprs_from (exprs_in s)) (calls_of s (node.Expr e))
 
--- the children of an expression, where a pattern gives none
-abbrev pub children_no_pats : Nodes → ℕ → List ℕ
-children_no_pats s e = flat_map own_exprs (calls_of s (node.Expr e))
+-- the child expressions of an expression, where a pattern gives none
+abbrev pub child_exprs_without_pats : Nodes → ℕ → List ℕ
+child_exprs_without_pats s e = flat_map own_exprs (calls_of s (node.Expr e))

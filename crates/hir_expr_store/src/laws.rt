@@ -27,26 +27,26 @@ ghost use Rattle.hir_node.specs.declared.type_ref.TypeRef.{TypeRef};
 ghost use Rattle.hir_node.specs.declared.type_ref.TypeRef.TheVariants as type;
 ghost use Rattle.hir_node.specs.ChildCalls.{arg_calls};
 ghost use Rattle.hir_faults.specs.TestedParts.{tested_expr, tested_pat, tested_type, is_path_at};
-ghost use Rattle.hir_faults.specs.Sizes.{is_there};
-ghost use Rattle.hir_faults.specs.Nodes.{Nodes, Has, sizes_of, calls_of, kids_of, graph};
+ghost use Rattle.hir_faults.specs.Sizes.{is_in_range};
+ghost use Rattle.hir_faults.specs.Nodes.{Nodes, Has, sizes_of, calls_of, children_of, graph};
 ghost use Rattle.hir_path.specs.Paths.{segments_of};
 ghost use Rattle.hir_path.specs.Segments.{OneListEach};
 ghost use Rattle.hir_expr_store.specs.Contents.{Contents, rooted_of, contents_fault};
 ghost use Rattle.hir_faults.specs.Fits.{path_fits, args_fit, bound_fits};
 ghost use Rattle.hir_faults.specs.Sound.{IsSoundNode, RootsStandApart};
-ghost use Rattle.hir_faults.specs.Down.{rank, KidsFall, value, AsksKids};
-ghost use Rattle.hir_expr_store.specs.Under.{Under, LieApart, IsReached, nodes_under, reached_nodes};
+ghost use Rattle.hir_faults.specs.Recursion.{rank, RankDecreases, fold_down, DependsOnChildren};
+ghost use Rattle.hir_expr_store.specs.Under.{Under, AreDisjoint, IsReached, nodes_under, reached_nodes};
 ghost use Rattle.hir_expr_store.specs.Bounds.{BoundFits};
 ghost use Rattle.hir_expr_store.specs.PatLists.{child_pats_of, pats, bindings_at, bindings_in, exprs_from, exprs_in};
 
-/// Nodes without a fault are a forest: each has one parent at most and is its kid once, and each chain of parents ends.
+/// Nodes without a fault are a forest: each has one parent at most and is its child once, and each chain of parents ends.
 pub fn contents_are_a_forest()
     ensures { (c : Contents) → contents_fault c None → IsForest (graph c.nodes) }
 {}
 
-/// Each kid of a node is there, and has a lower rank than the node.
-pub fn kids_fall()
-    ensures { (c : Contents) → contents_fault c None → KidsFall c.nodes }
+/// Each child of a node is there, and has a lower rank than the node.
+pub fn rank_decreases()
+    ensures { (c : Contents) → contents_fault c None → RankDecreases c.nodes }
 {}
 
 /// A rank is at most the number of nodes. This holds of any nodes.
@@ -93,20 +93,20 @@ pub fn roots_stand_apart()
 {}
 
 /// The patterns of a pattern are itself, and then the patterns of each of its child patterns.
-pub fn pats_is()
+pub fn pats_unfold()
     ensures { (c : Contents) → contents_fault c None → (id : ℕ) → id < length c.nodes.pats
         → pats c.nodes id ≡ id ∷ flat_map (pats c.nodes) (child_pats_of c.nodes id) }
 {}
 
 /// The bindings of a pattern are its own, and then those of each of its child patterns.
-pub fn bindings_in_is()
+pub fn bindings_in_unfold()
     ensures { (c : Contents) → contents_fault c None → (id : ℕ) → id < length c.nodes.pats
         → bindings_in c.nodes id
         ≡ bindings_at c.nodes id ++ flat_map (bindings_in c.nodes) (child_pats_of c.nodes id) }
 {}
 
 /// The expressions of a pattern are what its calls give, in order: an expression or an anonymous constant itself, a pattern its expressions.
-pub fn exprs_in_is()
+pub fn exprs_in_unfold()
     ensures { (c : Contents) → contents_fault c None → (id : ℕ) → id < length c.nodes.pats
         → exprs_in c.nodes id ≡ flat_map (exprs_from (exprs_in c.nodes)) (calls_of c.nodes (node.Pat id)) }
 {}
@@ -118,68 +118,68 @@ pub fn under_two_is_under_one()
 {}
 
 /// What lies under a node is there.
-pub fn what_is_under_is_there()
+pub fn descendants_are_in_range()
     ensures { (c : Contents) → contents_fault c None → (n r : NodeId) → Has c.nodes r → Under c.nodes n r
         → Has c.nodes n }
 {}
 
-/// Nothing lies under two kids of a node, so no kid is listed twice.
-pub fn kids_lie_apart()
+/// Nothing lies under two children of a node, so no child is listed twice.
+pub fn children_are_disjoint()
     ensures { (c : Contents) → contents_fault c None → (n : NodeId) → Has c.nodes n
-        → LieApart c.nodes (kids_of c.nodes n) }
+        → AreDisjoint c.nodes (children_of c.nodes n) }
 {}
 
-/// Two nodes with a common kid are the same.
+/// Two nodes with a common child are the same.
 pub fn one_parent()
     ensures { (c : Contents) → contents_fault c None → (n m k : NodeId)
-        → Contains (kids_of c.nodes n) k → Contains (kids_of c.nodes m) k → n ≡ m }
+        → Contains (children_of c.nodes n) k → Contains (children_of c.nodes m) k → n ≡ m }
 {}
 
 /// Nothing lies under two of the listed roots, so none is listed twice.
-pub fn roots_lie_apart()
-    ensures { (c : Contents) → contents_fault c None → LieApart c.nodes (map node.Expr (root_nodes c.roots)) }
+pub fn roots_are_disjoint()
+    ensures { (c : Contents) → contents_fault c None → AreDisjoint c.nodes (map node.Expr (root_nodes c.roots)) }
 {}
 
-/// The nodes under a node are itself, and then those under each of its kids.
-pub fn nodes_under_is()
+/// The nodes under a node are itself, and then those under each of its children.
+pub fn nodes_under_unfold()
     ensures { (c : Contents) → contents_fault c None → (n : NodeId)
-        → nodes_under c.nodes n ≡ n ∷ flat_map (nodes_under c.nodes) (kids_of c.nodes n) }
+        → nodes_under c.nodes n ≡ n ∷ flat_map (nodes_under c.nodes) (children_of c.nodes n) }
 {}
 
 /// The reached nodes are listed, and no others. Sums and counts over what is reached are stated by this list.
 pub fn reached_is_listed()
-    ensures { (c : Contents) → contents_fault c None → (tops : List NodeId) (n : NodeId)
-        → Contains (reached_nodes c.nodes tops) n ↔ IsReached c.nodes tops n }
+    ensures { (c : Contents) → contents_fault c None → (entry_nodes : List NodeId) (n : NodeId)
+        → Contains (reached_nodes c.nodes entry_nodes) n ↔ IsReached c.nodes entry_nodes n }
 {}
 
-/// No reached node is listed twice, where nothing lies under two of the tops.
+/// No reached node is listed twice, where nothing lies under two of the entry nodes.
 pub fn reached_is_listed_once()
-    ensures { (c : Contents) → contents_fault c None → (tops : List NodeId)
-        → LieApart c.nodes tops → AllPairs (λ n m. n ≢ m) (reached_nodes c.nodes tops) }
+    ensures { (c : Contents) → contents_fault c None → (entry_nodes : List NodeId)
+        → AreDisjoint c.nodes entry_nodes → AllPairs (λ n m. n ≢ m) (reached_nodes c.nodes entry_nodes) }
 {}
 
 /// Each node is reached or it isn't.
 pub fn reached_is_decided()
-    ensures { (c : Contents) → contents_fault c None → (tops : List NodeId) (n : NodeId)
-        → IsReached c.nodes tops n ⊎ (IsReached c.nodes tops n → ⊥) }
+    ensures { (c : Contents) → contents_fault c None → (entry_nodes : List NodeId) (n : NodeId)
+        → IsReached c.nodes entry_nodes n ⊎ (IsReached c.nodes entry_nodes n → ⊥) }
 {}
 
 /// What is reached from nodes that are there is there.
-pub fn what_is_reached_is_there()
-    ensures { (c : Contents) → contents_fault c None → (tops : List NodeId)
-        → ((t : NodeId) → Contains tops t → Has c.nodes t) → (n : NodeId) → IsReached c.nodes tops n
+pub fn reached_nodes_are_in_range()
+    ensures { (c : Contents) → contents_fault c None → (entry_nodes : List NodeId)
+        → ((t : NodeId) → Contains entry_nodes t → Has c.nodes t) → (n : NodeId) → IsReached c.nodes entry_nodes n
         → Has c.nodes n }
 {}
 
-/// A kid of what is reached is reached. This holds of any nodes.
-pub fn kids_of_reached_are_reached()
-    ensures { (s : Nodes) (tops : List NodeId) (n k : NodeId) → IsReached s tops n → Contains (kids_of s n) k
-        → IsReached s tops k }
+/// A child of what is reached is reached. This holds of any nodes.
+pub fn children_of_reached_are_reached()
+    ensures { (s : Nodes) (entry_nodes : List NodeId) (n k : NodeId) → IsReached s entry_nodes n → Contains (children_of s n) k
+        → IsReached s entry_nodes k }
 {}
 
-/// Only a node that is there has kids. This holds of any nodes.
-pub fn who_has_kids_is_there()
-    ensures { (s : Nodes) (n k : NodeId) → Contains (kids_of s n) k → Has s n }
+/// Only a node that is there has children. This holds of any nodes.
+pub fn parents_are_in_range()
+    ensures { (s : Nodes) (n k : NodeId) → Contains (children_of s n) k → Has s n }
 {}
 
 /// The bounds and the generic arguments that a node holds fit the store. Those that a path holds fit by `paths_of_nodes_fit` and
@@ -218,7 +218,7 @@ pub fn parts_of_paths_fit()
 /// there and each bound fits. This holds of any nodes.
 pub fn parts_of_args_fit()
     ensures args { (s : Nodes) (x : GenericArgs) → IsTrue (args_fit s x) → (arg : GenericArg)
-        → Contains (out-GenericArgs x).args arg → IsTrue (list_all (is_there (sizes_of s)) (arg_calls arg)) }
+        → Contains (out-GenericArgs x).args arg → IsTrue (list_all (is_in_range (sizes_of s)) (arg_calls arg)) }
     ensures binding_args { (s : Nodes) (x : GenericArgs) → IsTrue (args_fit s x) → (b : AssociatedTypeBinding)
         → Contains (out-GenericArgs x).bindings b → (args : GenericArgs)
         → (out-AssociatedTypeBinding b).args ≡ Some args → IsTrue (args_fit s args) }
@@ -233,7 +233,7 @@ pub fn parts_of_args_fit()
 {}
 
 /// What a bound that fits names as a path is there and is one, so the bound may be asked for it. This holds of any nodes.
-pub fn paths_of_bounds_are_there()
+pub fn paths_of_bounds_are_in_range()
     ensures paths { (s : Nodes) (id : ℕ) (before : TraitBoundModifier)
         → IsTrue (bound_fits s (bound.Path id before)) → IsTrue (is_path_at s.types id) }
     ensures for_lifetimes { (s : Nodes) (names : List (List ℕ)) (id : ℕ)
@@ -241,9 +241,9 @@ pub fn paths_of_bounds_are_there()
     ensures asked { (s : Nodes) (x : TypeBound) → IsTrue (bound_fits s x) → BoundFits x s }
 {}
 
-/// Values of nodes that are computed from the values of their kids, as a list that a node begins and its kids go on. An `impl` for a
-/// type of its own names the values and the step, and proves that the step asks only for the kids.
-pub trait ToldByKids {
+/// Values of nodes that are computed from the values of their children, as a list that a node begins and its children go on. An `impl` for a
+/// type of its own names the values and the step, and proves that the step asks only for the children.
+pub trait ByChildren {
     // the type of the values
     ghost Told: { Type 0 };
 
@@ -251,14 +251,14 @@ pub trait ToldByKids {
     ghost step: { Nodes → (NodeId → Told) → NodeId → Told };
 
     // the value below the lowest node; no value of a store's nodes depends on it
-    ghost nothing: { Told };
+    ghost default: { Told };
 
-    ghost asks_kids: { (s : Nodes) → AsksKids s (step s) };
+    ghost depends_on_children: { (s : Nodes) → DependsOnChildren s (step s) };
 }
 
-/// The value of a node is what the step computes from the values of its kids.
-pub fn value_is<V: ToldByKids>()
+/// The value of a node is what the step computes from the values of its children.
+pub fn fold_down_unfold<V: ByChildren>()
     ensures { (c : Contents) → contents_fault c None → (n : NodeId)
-        → value c.nodes (V.step c.nodes) V.nothing n
-        ≡ V.step c.nodes (value c.nodes (V.step c.nodes) V.nothing) n }
+        → fold_down c.nodes (V.step c.nodes) V.default n
+        ≡ V.step c.nodes (fold_down c.nodes (V.step c.nodes) V.default) n }
 {}

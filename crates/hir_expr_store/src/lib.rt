@@ -21,7 +21,7 @@ mod store;
 mod store_iter;
 mod stored;
 mod try_walks;
-mod turns;
+mod pat_turns;
 mod under;
 mod visits;
 mod walks;

@@ -8,11 +8,11 @@ ghost use Rattle.hir_node.specs.declared.node_id.NodeId.TheVariants as node;
 ghost use Rattle.hir_faults.specs.Nodes.{calls_of};
 ghost use Rattle.hir_expr_store.specs.PatLists.{bindings_at, own_exprs};
 ghost use Rattle.hir_expr_store.specs.Tries.{Tries};
-ghost use Rattle.hir_expr_store.specs.Turns.{pat_of, entered_pat, exprs_left};
+ghost use Rattle.hir_expr_store.specs.PatTurns.{pat_of, entered_pat, exprs_left};
 
 use crate::own_exprs::OwnExprs;
 use crate::store::ExpressionStore;
-use crate::turns::TurnVisitor;
+use crate::pat_turns::TurnVisitor;
 use hir_node::{BindingId, ExprId, Pat, PatId};
 
 /// Runs a closure on each pattern that is entered.
@@ -105,7 +105,7 @@ fn try_own_exprs<E: Drop, F: FnMut(ExprId) -> Result<(), E>>(
     id: PatId,
     f: &mut F,
 ) -> Result<(), E>
-    requires there { id < length store.now.nodes.pats }
+    requires in_range { id < length store.now.nodes.pats }
     requires callable { F.IsAlwaysCallable f.old }
     ensures runs { Tries F.step f.old (flat_map own_exprs (calls_of store.now.nodes (node.Pat id)))
         result f.new }

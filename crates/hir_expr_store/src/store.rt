@@ -4,7 +4,7 @@ ghost use Rattle.std.specs.Prelude.{◌≡◌, ◌<◌, ◌↔◌, None, Some, I
 ghost use Rattle.std.specs.List.{enumerate_from, list_all};
 ghost use Rattle.hir_forest.specs.Faults.{root_nodes};
 ghost use Rattle.hir_faults.specs.TestedParts.{bound_paths, is_path_at, path_at};
-ghost use Rattle.hir_faults.specs.Sizes.{is_there};
+ghost use Rattle.hir_faults.specs.Sizes.{is_in_range};
 ghost use Rattle.hir_node.specs.ChildCalls.{bound_calls};
 ghost use Rattle.hir_faults.specs.Fits.{path_fits};
 
@@ -279,7 +279,7 @@ impl ExpressionStore {
 
     /// Whether each type and each lifetime that the bound names is there.
     pub fn has_bound(&self, bound: &TypeBound) -> bool
-        ensures { result ≡ list_all (is_there (sizes_of self.now.nodes)) (bound_calls bound.now) }
+        ensures { result ≡ list_all (is_in_range (sizes_of self.now.nodes)) (bound_calls bound.now) }
     {
         self.nodes().has_bound(bound)
     }

@@ -3,9 +3,9 @@
 #![tactic(auto, using(crate::proofs::TryLemmas::tries))]
 
 ghost use Rattle.std.specs.Prelude.{◌≡◌, ◌<◌, IsTrue, length};
-ghost use Rattle.hir_faults.specs.Sizes.{is_there};
+ghost use Rattle.hir_faults.specs.Sizes.{is_in_range};
 ghost use Rattle.hir_faults.specs.Nodes.{sizes_of};
-ghost use Rattle.hir_expr_store.specs.PatLists.{pats, bindings_in, exprs_from, exprs_in, children, children_no_pats};
+ghost use Rattle.hir_expr_store.specs.PatLists.{pats, bindings_in, exprs_from, exprs_in, child_exprs, child_exprs_without_pats};
 ghost use Rattle.hir_expr_store.specs.Tries.{Tries, TriesAfter};
 
 use crate::own_exprs::OwnExprs;
@@ -20,7 +20,7 @@ impl ExpressionStore {
         id: PatId,
         f: &mut F,
     ) -> Result<(), E>
-        requires there { id < length self.now.nodes.pats }
+        requires in_range { id < length self.now.nodes.pats }
         requires callable { F.IsAlwaysCallable f.old }
         ensures runs { Tries F.step f.old (pats self.now.nodes id) result f.new }
         ensures callable { F.IsAlwaysCallable f.new }
@@ -36,7 +36,7 @@ impl ExpressionStore {
         id: PatId,
         f: &mut F,
     ) -> Result<(), E>
-        requires there { id < length self.now.nodes.pats }
+        requires in_range { id < length self.now.nodes.pats }
         requires callable { F.IsAlwaysCallable f.old }
         ensures runs { Tries F.step f.old (bindings_in self.now.nodes id) result f.new }
         ensures callable { F.IsAlwaysCallable f.new }
@@ -55,7 +55,7 @@ impl ExpressionStore {
         id: PatId,
         f: &mut F,
     ) -> Result<(), E>
-        requires there { id < length self.now.nodes.pats }
+        requires in_range { id < length self.now.nodes.pats }
         requires callable { F.IsAlwaysCallable f.old }
         ensures runs { Tries F.step f.old (exprs_in self.now.nodes id) result f.new }
         ensures callable { F.IsAlwaysCallable f.new }
@@ -74,9 +74,9 @@ impl ExpressionStore {
         id: ExprId,
         f: &mut F,
     ) -> Result<(), E>
-        requires there { id < length self.now.nodes.exprs }
+        requires in_range { id < length self.now.nodes.exprs }
         requires callable { F.IsAlwaysCallable f.old }
-        ensures runs { Tries F.step f.old (children self.now.nodes id) result f.new }
+        ensures runs { Tries F.step f.old (child_exprs self.now.nodes id) result f.new }
         ensures callable { F.IsAlwaysCallable f.new }
     {
         self.has_no_fault();
@@ -97,9 +97,9 @@ impl ExpressionStore {
         id: ExprId,
         f: &mut F,
     ) -> Result<(), E>
-        requires there { id < length self.now.nodes.exprs }
+        requires in_range { id < length self.now.nodes.exprs }
         requires callable { F.IsAlwaysCallable f.old }
-        ensures runs { Tries F.step f.old (children_no_pats self.now.nodes id) result f.new }
+        ensures runs { Tries F.step f.old (child_exprs_without_pats self.now.nodes id) result f.new }
         ensures callable { F.IsAlwaysCallable f.new }
     {
         let mut answer = Ok(());
@@ -121,7 +121,7 @@ struct ChildExprs<'s, 'f, 'a, F, E> {
 }
 
 impl<E: Drop, F: FnMut(ExprId) -> Result<(), E>> StoreVisitor for ChildExprs<'_, '_, '_, F, E> {
-    ghost may = { λ v c. F.IsAlwaysCallable v.f.now × IsTrue (is_there (sizes_of v.store.now.nodes) c) };
+    ghost may = { λ v c. F.IsAlwaysCallable v.f.now × IsTrue (is_in_range (sizes_of v.store.now.nodes) c) };
 
     ghost step = { λ v c w. TriesAfter F.step v.answer.now v.f.now
         (exprs_from (exprs_in v.store.now.nodes) c) w.answer.now w.f.now

@@ -4,7 +4,7 @@ ghost use Rattle.std.specs.Prelude.{◌≡◌, ◌↔◌, ◌<◌, length, IfOk,
 ghost use Rattle.hir_node.specs.declared.node_id.NodeId.{NodeId};
 ghost use Rattle.hir_node.specs.declared.node_id.NodeId.TheVariants as node;
 ghost use Rattle.hir_faults.specs.Nodes.{Has, sizes_of};
-ghost use Rattle.hir_expr_store.specs.NodeSets.{IsIn, Gains, NoKidIn};
+ghost use Rattle.hir_expr_store.specs.NodeSets.{IsIn, Gains, NoChildIn};
 ghost use Rattle.hir_expr_store.specs.Under.{LiesUnderOther};
 
 use crate::store::ExpressionStore;
@@ -82,12 +82,12 @@ impl ExpressionStore {
         })
     }
 
-    /// Whether no kid of a node is in the set, which is of nodes of this store. Then no node in it lies under another node.
+    /// Whether no child of a node is in the set, which is of nodes of this store. Then no node in it lies under another node.
     ///
     /// It takes time in the number of nodes and no memory: the parents of nodes are kept.
-    pub fn no_kid_is_in(&self, set: &NodeSet) -> bool
+    pub fn no_child_is_in(&self, set: &NodeSet) -> bool
         requires { set.now.sizes ≡ sizes_of self.now.nodes }
-        ensures { IsTrue result ↔ NoKidIn self.now.nodes set.now }
+        ensures { IsTrue result ↔ NoChildIn self.now.nodes set.now }
     {
         self.has_no_fault();
         match self.kept_parts() {
@@ -100,17 +100,17 @@ impl ExpressionStore {
     ///
     /// It takes time in the number of nodes and doesn't recurse: it goes from node to parent, which is kept. It fails only when memory for
     /// two marks a node is refused.
-    pub fn under(&self, alloc: Global, tops: &NodeSet) -> Result<NodeSet, AllocError>
-        requires { tops.now.sizes ≡ sizes_of self.now.nodes }
+    pub fn under(&self, alloc: Global, entry_nodes: &NodeSet) -> Result<NodeSet, AllocError>
+        requires { entry_nodes.now.sizes ≡ sizes_of self.now.nodes }
         ensures sizes { IfOk result (λ found. found.sizes ≡ sizes_of self.now.nodes) }
         ensures under { IfOk result (λ found. (n : NodeId) → Has self.now.nodes n
-            → IsIn found n ↔ LiesUnderOther self.now.nodes (IsIn tops.now) n) }
+            → IsIn found n ↔ LiesUnderOther self.now.nodes (IsIn entry_nodes.now) n) }
     {
         self.has_no_fault();
         let Some(kept) = self.kept_parts() else {
             return self.no_nodes(alloc);
         };
-        let marks = kept.parents.under_marked(alloc, tops.marks.as_slice())?;
+        let marks = kept.parents.under_marked(alloc, entry_nodes.marks.as_slice())?;
         Ok(NodeSet {
             sizes: self.sizes(),
             marks,

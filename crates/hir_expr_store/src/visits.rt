@@ -11,7 +11,7 @@ use hir_node::{ExprId, PatId, StoreVisitor, TypeRefId};
 impl ExpressionStore {
     /// Calls the visitor with each child of an expression, in the order of the child calls.
     pub fn visit_expr_children<V: StoreVisitor>(&self, id: ExprId, visitor: &mut V)
-        requires there { id < length self.now.nodes.exprs }
+        requires in_range { id < length self.now.nodes.exprs }
         requires may { MayRun V.may V.step visitor.old (calls_of self.now.nodes (node.Expr id)) }
         ensures { Runs V.step visitor.old (calls_of self.now.nodes (node.Expr id)) visitor.new }
     {
@@ -21,7 +21,7 @@ impl ExpressionStore {
 
     /// Calls the visitor with each child of a pattern, in the order of the child calls.
     pub fn visit_pat_children<V: StoreVisitor>(&self, id: PatId, visitor: &mut V)
-        requires there { id < length self.now.nodes.pats }
+        requires in_range { id < length self.now.nodes.pats }
         requires may { MayRun V.may V.step visitor.old (calls_of self.now.nodes (node.Pat id)) }
         ensures { Runs V.step visitor.old (calls_of self.now.nodes (node.Pat id)) visitor.new }
     {
@@ -31,7 +31,7 @@ impl ExpressionStore {
 
     /// Calls the visitor with each child of a type, in the order of the child calls.
     pub fn visit_type_ref_children<V: StoreVisitor>(&self, id: TypeRefId, visitor: &mut V)
-        requires there { id < length self.now.nodes.types }
+        requires in_range { id < length self.now.nodes.types }
         requires may { MayRun V.may V.step visitor.old (calls_of self.now.nodes (node.TypeRef id)) }
         ensures { Runs V.step visitor.old (calls_of self.now.nodes (node.TypeRef id)) visitor.new }
     {

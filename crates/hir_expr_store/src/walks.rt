@@ -3,7 +3,7 @@
 
 ghost use Rattle.std.specs.Prelude.{◌≡◌, ◌<◌, Ok, length};
 ghost use Rattle.std.specs.List.{FoldsTo};
-ghost use Rattle.hir_expr_store.specs.PatLists.{child_pats_of, pats, bindings_in, exprs_in, children, children_no_pats};
+ghost use Rattle.hir_expr_store.specs.PatLists.{child_pats_of, pats, bindings_in, exprs_in, child_exprs, child_exprs_without_pats};
 
 use crate::store::ExpressionStore;
 use hir_node::{BindingId, ExprId, PatId};
@@ -12,7 +12,7 @@ use std::convert::Infallible;
 impl ExpressionStore {
     /// Runs the closure on each child pattern of a pattern, in order.
     pub fn walk_pats_shallow<F: FnMut(PatId)>(&self, id: PatId, f: &mut F)
-        requires there { id < length self.now.nodes.pats }
+        requires in_range { id < length self.now.nodes.pats }
         requires callable { F.IsAlwaysCallable f.old }
         ensures runs { FoldsTo (λ p x q. F.step p x tt q) f.old (child_pats_of self.now.nodes id) f.new }
         ensures callable { F.IsAlwaysCallable f.new }
@@ -22,7 +22,7 @@ impl ExpressionStore {
 
     /// Runs the closure on a pattern, and then on the patterns of each of its child patterns.
     pub fn walk_pats<F: FnMut(PatId)>(&self, id: PatId, f: &mut F)
-        requires there { id < length self.now.nodes.pats }
+        requires in_range { id < length self.now.nodes.pats }
         requires callable { F.IsAlwaysCallable f.old }
         ensures runs { FoldsTo (λ p x q. F.step p x tt q) f.old (pats self.now.nodes id) f.new }
         ensures callable { F.IsAlwaysCallable f.new }
@@ -41,7 +41,7 @@ impl ExpressionStore {
 
     /// Runs the closure on the binding of each pattern of a pattern that brings one into scope, in the order of `walk_pats`.
     pub fn walk_bindings_in_pat<F: FnMut(BindingId)>(&self, id: PatId, f: &mut F)
-        requires there { id < length self.now.nodes.pats }
+        requires in_range { id < length self.now.nodes.pats }
         requires callable { F.IsAlwaysCallable f.old }
         ensures runs { FoldsTo (λ p x q. F.step p x tt q) f.old (bindings_in self.now.nodes id) f.new }
         ensures callable { F.IsAlwaysCallable f.new }
@@ -60,7 +60,7 @@ impl ExpressionStore {
 
     /// Runs the closure on each expression of a pattern: those met by descending through patterns, the constants in their paths included.
     pub fn walk_exprs_in_pat<F: FnMut(ExprId)>(&self, id: PatId, f: &mut F)
-        requires there { id < length self.now.nodes.pats }
+        requires in_range { id < length self.now.nodes.pats }
         requires callable { F.IsAlwaysCallable f.old }
         ensures runs { FoldsTo (λ p x q. F.step p x tt q) f.old (exprs_in self.now.nodes id) f.new }
         ensures callable { F.IsAlwaysCallable f.new }
@@ -79,9 +79,9 @@ impl ExpressionStore {
 
     /// Runs the closure on each child expression of an expression, anonymous constants included; a child pattern gives its expressions.
     pub fn walk_child_exprs<F: FnMut(ExprId)>(&self, id: ExprId, f: &mut F)
-        requires there { id < length self.now.nodes.exprs }
+        requires in_range { id < length self.now.nodes.exprs }
         requires callable { F.IsAlwaysCallable f.old }
-        ensures runs { FoldsTo (λ p x q. F.step p x tt q) f.old (children self.now.nodes id) f.new }
+        ensures runs { FoldsTo (λ p x q. F.step p x tt q) f.old (child_exprs self.now.nodes id) f.new }
         ensures callable { F.IsAlwaysCallable f.new }
     {
         let _ = self.try_walk_child_exprs(
@@ -98,9 +98,9 @@ impl ExpressionStore {
 
     /// Runs the closure on each child expression of an expression, anonymous constants included; a child pattern gives none.
     pub fn walk_child_exprs_without_pats<F: FnMut(ExprId)>(&self, id: ExprId, f: &mut F)
-        requires there { id < length self.now.nodes.exprs }
+        requires in_range { id < length self.now.nodes.exprs }
         requires callable { F.IsAlwaysCallable f.old }
-        ensures runs { FoldsTo (λ p x q. F.step p x tt q) f.old (children_no_pats self.now.nodes id) f.new }
+        ensures runs { FoldsTo (λ p x q. F.step p x tt q) f.old (child_exprs_without_pats self.now.nodes id) f.new }
         ensures callable { F.IsAlwaysCallable f.new }
     {
         let _ = self.try_walk_child_exprs_without_pats(

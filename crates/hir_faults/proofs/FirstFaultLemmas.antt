@@ -12,7 +12,7 @@ use Rattle.hir_node.specs.declared.node_id.NodeId.{NodeId}
 use Rattle.hir_node.specs.declared.node_id.NodeId.TheVariants as node
 use Rattle.hir_faults.specs.declared.fault.FinishFault.{FinishFault}
 use Rattle.hir_faults.specs.declared.fault.FinishFault.TheVariants.{IdOutOfRange, NotAPath, NoReturnType, NoSelfArgument, ArgumentLists}
-use Rattle.hir_faults.specs.TestedParts.{TestedParts, tested_expr, tested_pat, tested_type, names_there, names_paths, gives_self, lists_fit}
+use Rattle.hir_faults.specs.TestedParts.{TestedParts, tested_expr, tested_pat, tested_type, ids_in_range, names_paths, gives_self, lists_fit}
 use Rattle.hir_faults.specs.Nodes.{Nodes, sizes_of, graph}
 use Rattle.hir_faults.specs.Faults.{RootedNodes, node_fault, first_of, first_bad_node, fault_of_graph, graph_fault, rooted_fault, ends_of}
 
@@ -21,27 +21,27 @@ fails b f t = false≢true (sym f ∙ t)
 
 -- the fault of one node, where the tests before hold and one fails, and none where all hold
 module _ (sizes : Sizes) (types : List TypeRef) (id : NodeId) (x : TestedParts) where
-  pub fault-ids : names_there sizes x ≡ false → node_fault sizes types id x (Some (IdOutOfRange id))
+  pub fault-ids : ids_in_range sizes x ≡ false → node_fault sizes types id x (Some (IdOutOfRange id))
   unfolding node_fault
-  fault-ids h = inl (refl, fails (names_there sizes x) h)
+  fault-ids h = inl (refl, fails (ids_in_range sizes x) h)
 
-  pub fault-paths : names_there sizes x ≡ true → names_paths types x.held ≡ false → node_fault sizes types id x (Some (NotAPath id))
+  pub fault-paths : ids_in_range sizes x ≡ true → names_paths types x.held ≡ false → node_fault sizes types id x (Some (NotAPath id))
   unfolding node_fault
   fault-paths t h = inr (t, inl (refl, fails (names_paths types x.held) h))
 
-  pub fault-return : names_there sizes x ≡ true → names_paths types x.held ≡ true → x.returns ≡ false → node_fault sizes types id x (Some (NoReturnType id))
+  pub fault-return : ids_in_range sizes x ≡ true → names_paths types x.held ≡ true → x.returns ≡ false → node_fault sizes types id x (Some (NoReturnType id))
   unfolding node_fault
   fault-return t p h = inr (t, inr (p, inl (refl, fails x.returns h)))
 
-  pub fault-self : names_there sizes x ≡ true → names_paths types x.held ≡ true → x.returns ≡ true → gives_self x.held ≡ false → node_fault sizes types id x (Some (NoSelfArgument id))
+  pub fault-self : ids_in_range sizes x ≡ true → names_paths types x.held ≡ true → x.returns ≡ true → gives_self x.held ≡ false → node_fault sizes types id x (Some (NoSelfArgument id))
   unfolding node_fault
   fault-self t p r h = inr (t, inr (p, inr (r, inl (refl, fails (gives_self x.held) h))))
 
-  pub fault-lists : names_there sizes x ≡ true → names_paths types x.held ≡ true → x.returns ≡ true → gives_self x.held ≡ true → lists_fit x.held ≡ false → node_fault sizes types id x (Some (ArgumentLists id))
+  pub fault-lists : ids_in_range sizes x ≡ true → names_paths types x.held ≡ true → x.returns ≡ true → gives_self x.held ≡ true → lists_fit x.held ≡ false → node_fault sizes types id x (Some (ArgumentLists id))
   unfolding node_fault
   fault-lists t p r s h = inr (t, inr (p, inr (r, inr (s, (refl, fails (lists_fit x.held) h)))))
 
-  pub fault-none : names_there sizes x ≡ true → names_paths types x.held ≡ true → x.returns ≡ true → gives_self x.held ≡ true → lists_fit x.held ≡ true → node_fault sizes types id x None
+  pub fault-none : ids_in_range sizes x ≡ true → names_paths types x.held ≡ true → x.returns ≡ true → gives_self x.held ≡ true → lists_fit x.held ≡ true → node_fault sizes types id x None
   unfolding node_fault
   fault-none t p r s l = (t, (p, (r, (s, l))))
 

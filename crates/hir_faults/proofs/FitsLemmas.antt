@@ -17,11 +17,11 @@ use Rattle.hir_node.specs.declared.expr.Expr.TheVariants as expr
 use Rattle.hir_node.specs.declared.type_ref.TypeRef.TheVariants as type
 use Rattle.hir_node.specs.ChildCalls.{Call, e, t, opt, arg_calls, args_calls, binding_calls, bound_calls}
 use Rattle.hir_node.proofs.ArgsCalls.{args_calls_is, binding_calls_is}
-use Rattle.hir_faults.specs.Sizes.{is_there}
+use Rattle.hir_faults.specs.Sizes.{is_in_range}
 use Rattle.hir_faults.specs.TestedParts.{is_path_at, all_of, option_all, bound_paths, args_paths, binding_paths, args_give_self, binding_gives_self}
 use Rattle.hir_faults.specs.Nodes.{Nodes, sizes_of}
 use Rattle.hir_faults.specs.Faults.{RootedNodes, rooted_fault}
-use Rattle.hir_faults.proofs.HeldLemmas.{args_paths_is, binding_paths_is, args_give_self_is, binding_gives_self_is}
+use Rattle.hir_faults.proofs.TypePartsLemmas.{args_paths_is, binding_paths_is, args_give_self_is, binding_gives_self_is}
 use Rattle.hir_faults.proofs.SoundLemmas.{exprs_sound, types_sound}
 use Rattle.hir_faults.specs.Fits.{path_fits, args_fit, bound_fits}
 
@@ -44,8 +44,8 @@ all_piece test f (y ∷ ys) x h (zero, lt, e) = subst (λ z. list_all test (f z)
 all_piece test f (y ∷ ys) x h (suc i, lt, e) = all_piece test f ys x (all_right test (f y) (flat_map f ys) h) (i, omega arith, e)
 
 module _ (s : Nodes) where
-  abbrev there : Call → Bool
-  there = is_there (sizes_of s)
+  abbrev in_range : Call → Bool
+  in_range = is_in_range (sizes_of s)
 
   abbrev is_path : ℕ → Bool
   is_path = is_path_at s.types
@@ -56,30 +56,30 @@ module _ (s : Nodes) where
   -- a list of arguments of a path
   pub path_args_fit : (normal : NormalPath) (args : GenericArgs) → IsTrue (path_fits s (path.Normal normal)) → Contains normal.generic_args (Some args) → IsTrue (args_fit s args)
   path_args_fit normal args h c =
-      let calls = all_piece there (opt args_calls) normal.generic_args (Some args) (all_left there (flat_map (opt args_calls) normal.generic_args) (opt t normal.type_anchor) (first_so _ _ (first_so _ _ (first_so _ _ h)))) c in
+      let calls = all_piece in_range (opt args_calls) normal.generic_args (Some args) (all_left in_range (flat_map (opt args_calls) normal.generic_args) (opt t normal.type_anchor) (first_so _ _ (first_so _ _ (first_so _ _ h)))) c in
       let paths = all_piece is_path (all_of args_paths) normal.generic_args (Some args) (second_so _ _ (first_so _ _ (first_so _ _ h))) c in
       let selfs = all_member (option_all args_give_self) normal.generic_args (Some args) (second_so _ _ (first_so _ _ h)) c in
       both _ _ (both _ _ calls paths) selfs
 
   -- the anchor of a path
-  pub path_anchor_there : (normal : NormalPath) (id : ℕ) → IsTrue (path_fits s (path.Normal normal)) → normal.type_anchor ≡ Some id → id < length s.types
-  path_anchor_there normal id h is =
-      let calls = all_right there (flat_map (opt args_calls) normal.generic_args) (opt t normal.type_anchor) (first_so _ _ (first_so _ _ (first_so _ _ h))) in
+  pub path_anchor_in_range : (normal : NormalPath) (id : ℕ) → IsTrue (path_fits s (path.Normal normal)) → normal.type_anchor ≡ Some id → id < length s.types
+  path_anchor_in_range normal id h is =
+      let calls = all_right in_range (flat_map (opt args_calls) normal.generic_args) (opt t normal.type_anchor) (first_so _ _ (first_so _ _ (first_so _ _ h))) in
       ltb-true _ _ (first_so _ _ (rw is at calls))
 
   module _ (x : GenericArgs) (fits : IsTrue (args_fit s x)) where
-    calls_right : list_all there (flat_map arg_calls (out-GenericArgs x).args ++ flat_map binding_calls (out-GenericArgs x).bindings) ≡ true
-    calls_right = sym (ap (list_all there) (args_calls_is x)) ∙ first_so _ _ (first_so _ _ fits)
+    calls_right : list_all in_range (flat_map arg_calls (out-GenericArgs x).args ++ flat_map binding_calls (out-GenericArgs x).bindings) ≡ true
+    calls_right = sym (ap (list_all in_range) (args_calls_is x)) ∙ first_so _ _ (first_so _ _ fits)
 
     -- what one argument names
-    pub arg_there : (arg : GenericArg) → Contains (out-GenericArgs x).args arg → IsTrue (list_all there (arg_calls arg))
-    arg_there arg c = all_piece there arg_calls (out-GenericArgs x).args arg (all_left there (flat_map arg_calls (out-GenericArgs x).args) (flat_map binding_calls (out-GenericArgs x).bindings) calls_right) c
+    pub arg_in_range : (arg : GenericArg) → Contains (out-GenericArgs x).args arg → IsTrue (list_all in_range (arg_calls arg))
+    arg_in_range arg c = all_piece in_range arg_calls (out-GenericArgs x).args arg (all_left in_range (flat_map arg_calls (out-GenericArgs x).args) (flat_map binding_calls (out-GenericArgs x).bindings) calls_right) c
 
     module _ (b : AssociatedTypeBinding) (in_it : Contains (out-GenericArgs x).bindings b) where
-      binding_there : list_all there (opt args_calls (out-AssociatedTypeBinding b).args ++ opt t (out-AssociatedTypeBinding b).type_ref ++ flat_map bound_calls (out-AssociatedTypeBinding b).bounds) ≡ true
-      binding_there =
-          sym (ap (list_all there) (binding_calls_is b))
-          ∙ all_piece there binding_calls (out-GenericArgs x).bindings b (all_right there (flat_map arg_calls (out-GenericArgs x).args) (flat_map binding_calls (out-GenericArgs x).bindings) calls_right) in_it
+      binding_in_range : list_all in_range (opt args_calls (out-AssociatedTypeBinding b).args ++ opt t (out-AssociatedTypeBinding b).type_ref ++ flat_map bound_calls (out-AssociatedTypeBinding b).bounds) ≡ true
+      binding_in_range =
+          sym (ap (list_all in_range) (binding_calls_is b))
+          ∙ all_piece in_range binding_calls (out-GenericArgs x).bindings b (all_right in_range (flat_map arg_calls (out-GenericArgs x).args) (flat_map binding_calls (out-GenericArgs x).bindings) calls_right) in_it
 
       binding_paths_right : list_all is_path (all_of args_paths (out-AssociatedTypeBinding b).args ++ flat_map bound_paths (out-AssociatedTypeBinding b).bounds) ≡ true
       binding_paths_right =
@@ -95,52 +95,52 @@ module _ (s : Nodes) where
       pub binding_args_fit : (args : GenericArgs) → (out-AssociatedTypeBinding b).args ≡ Some args → IsTrue (args_fit s args)
       binding_args_fit args is =
           let o = out-AssociatedTypeBinding b in
-          let calls = rw is at (all_left there (opt args_calls o.args) (opt t o.type_ref) (all_left there (opt args_calls o.args ++ opt t o.type_ref) (flat_map bound_calls o.bounds) binding_there)) in
+          let calls = rw is at (all_left in_range (opt args_calls o.args) (opt t o.type_ref) (all_left in_range (opt args_calls o.args ++ opt t o.type_ref) (flat_map bound_calls o.bounds) binding_in_range)) in
           let paths = rw is at (all_left is_path (all_of args_paths o.args) (flat_map bound_paths o.bounds) binding_paths_right) in
           let selfs = rw is at binding_self in
           both _ _ (both _ _ calls paths) selfs
 
       -- the type of a binding
-      pub binding_type_there : (id : ℕ) → (out-AssociatedTypeBinding b).type_ref ≡ Some id → id < length s.types
-      binding_type_there id is =
+      pub binding_type_in_range : (id : ℕ) → (out-AssociatedTypeBinding b).type_ref ≡ Some id → id < length s.types
+      binding_type_in_range id is =
           let o = out-AssociatedTypeBinding b in
-          let calls = all_right there (opt args_calls o.args) (opt t o.type_ref) (all_left there (opt args_calls o.args ++ opt t o.type_ref) (flat_map bound_calls o.bounds) binding_there) in
+          let calls = all_right in_range (opt args_calls o.args) (opt t o.type_ref) (all_left in_range (opt args_calls o.args ++ opt t o.type_ref) (flat_map bound_calls o.bounds) binding_in_range) in
           ltb-true _ _ (first_so _ _ (rw is at calls))
 
       -- each bound of a binding
       pub binding_bounds_fit : (bound : TypeBound) → Contains (out-AssociatedTypeBinding b).bounds bound → IsTrue (bound_fits s bound)
       binding_bounds_fit bound c =
           let o = out-AssociatedTypeBinding b in
-          let calls = all_piece there bound_calls o.bounds bound (all_right there (opt args_calls o.args ++ opt t o.type_ref) (flat_map bound_calls o.bounds) binding_there) c in
+          let calls = all_piece in_range bound_calls o.bounds bound (all_right in_range (opt args_calls o.args ++ opt t o.type_ref) (flat_map bound_calls o.bounds) binding_in_range) c in
           let paths = all_piece is_path bound_paths o.bounds bound (all_right is_path (all_of args_paths o.args) (flat_map bound_paths o.bounds) binding_paths_right) c in
           both _ _ calls paths
 
   -- the path that a bound names
-  pub bound_path_there : (id : ℕ) (before : TraitBoundModifier) → IsTrue (bound_fits s (bound.Path id before)) → IsTrue (is_path_at s.types id)
-  bound_path_there id before h = first_so _ _ (second_so _ _ h)
+  pub bound_path_in_range : (id : ℕ) (before : TraitBoundModifier) → IsTrue (bound_fits s (bound.Path id before)) → IsTrue (is_path_at s.types id)
+  bound_path_in_range id before h = first_so _ _ (second_so _ _ h)
 
-  pub for_bound_path_there : (names : List (List ℕ)) (id : ℕ) → IsTrue (bound_fits s (bound.ForLifetime names id)) → IsTrue (is_path_at s.types id)
-  for_bound_path_there names id h = first_so _ _ (second_so _ _ h)
+  pub for_bound_path_in_range : (names : List (List ℕ)) (id : ℕ) → IsTrue (bound_fits s (bound.ForLifetime names id)) → IsTrue (is_path_at s.types id)
+  for_bound_path_in_range names id h = first_so _ _ (second_so _ _ h)
 
 module _ (c : RootedNodes) (sound : rooted_fault c None) (id : ℕ) where
-  bounds_fit : (bounds : List TypeBound) (x : TypeBound) → list_all (is_there (sizes_of c.nodes)) (flat_map bound_calls bounds) ≡ true → list_all (is_path_at c.nodes.types) (flat_map bound_paths bounds) ≡ true → Contains bounds x → IsTrue (bound_fits c.nodes x)
+  bounds_fit : (bounds : List TypeBound) (x : TypeBound) → list_all (is_in_range (sizes_of c.nodes)) (flat_map bound_calls bounds) ≡ true → list_all (is_path_at c.nodes.types) (flat_map bound_paths bounds) ≡ true → Contains bounds x → IsTrue (bound_fits c.nodes x)
   bounds_fit bounds x calls paths at =
-      both c.nodes _ _ (all_piece (is_there (sizes_of c.nodes)) bound_calls bounds x calls at) (all_piece (is_path_at c.nodes.types) bound_paths bounds x paths at)
+      both c.nodes _ _ (all_piece (is_in_range (sizes_of c.nodes)) bound_calls bounds x calls at) (all_piece (is_path_at c.nodes.types) bound_paths bounds x paths at)
 
   pub impl_bounds_fit : (bounds : List TypeBound) (x : TypeBound) → slice_get c.nodes.types id ≡ Some (type.ImplTrait bounds) → Contains bounds x → IsTrue (bound_fits c.nodes x)
   impl_bounds_fit bounds x is at =
       let h = types_sound c sound id (type.ImplTrait bounds) is in
-      bounds_fit bounds x (first_so _ _ (first_so _ _ h.there)) h.paths at
+      bounds_fit bounds x (first_so _ _ (first_so _ _ h.in_range)) h.paths at
 
   pub dyn_bounds_fit : (bounds : List TypeBound) (x : TypeBound) → slice_get c.nodes.types id ≡ Some (type.DynTrait bounds) → Contains bounds x → IsTrue (bound_fits c.nodes x)
   dyn_bounds_fit bounds x is at =
       let h = types_sound c sound id (type.DynTrait bounds) is in
-      bounds_fit bounds x (first_so _ _ (first_so _ _ h.there)) h.paths at
+      bounds_fit bounds x (first_so _ _ (first_so _ _ h.in_range)) h.paths at
 
   pub method_args_fit : (receiver : ℕ) (name : List ℕ) (args : List ℕ) (x : GenericArgs) → slice_get c.nodes.exprs id ≡ Some (expr.MethodCall receiver name args (Some x)) → IsTrue (args_fit c.nodes x)
   method_args_fit receiver name args x is =
       let h = exprs_sound c sound id (expr.MethodCall receiver name args (Some x)) is in
-      let there = is_there (sizes_of c.nodes) in
-      let all : list_all there ((e receiver ++ flat_map e args) ++ args_calls x) ≡ true = first_so _ _ (first_so _ _ h.there) in
+      let in_range = is_in_range (sizes_of c.nodes) in
+      let all : list_all in_range ((e receiver ++ flat_map e args) ++ args_calls x) ≡ true = first_so _ _ (first_so _ _ h.in_range) in
       let paths : list_all (is_path_at c.nodes.types) (args_paths x ++ []) ≡ true = h.paths in
-      both c.nodes _ _ (both c.nodes _ _ (all_right there (e receiver ++ flat_map e args) (args_calls x) all) (all_left (is_path_at c.nodes.types) (args_paths x) [] paths)) h.gives_self
+      both c.nodes _ _ (both c.nodes _ _ (all_right in_range (e receiver ++ flat_map e args) (args_calls x) all) (all_left (is_path_at c.nodes.types) (args_paths x) [] paths)) h.gives_self

@@ -1,9 +1,9 @@
-pub mod HeldLemmas
+pub mod TypePartsLemmas
 pub mod RangeLemmas
 pub mod EdgeLemmas
 pub mod FaultLemmas
 pub mod SoundLemmas
-pub mod DownLemmas
+pub mod RecursionLemmas
 pub mod PathFits
 pub mod FirstFaultLemmas
 pub mod FitsLemmas

@@ -12,7 +12,7 @@ use Rattle.hir_node.specs.declared.expr_types.RecordLitField.{RecordLitField}
 use Rattle.hir_node.specs.declared.expr_types.RecordSpread.{RecordSpread}
 use Rattle.hir_node.specs.declared.type_ref.TypeRef.TheVariants as type
 use Rattle.hir_node.specs.ChildCalls.{Call, e, p, path_calls, spread_calls}
-use Rattle.hir_faults.specs.Sizes.{is_there}
+use Rattle.hir_faults.specs.Sizes.{is_in_range}
 use Rattle.hir_faults.specs.TestedParts.{is_path_at, path_paths, path_gives_self, one_list_each, a_path}
 use Rattle.hir_faults.specs.Nodes.{Nodes, sizes_of}
 use Rattle.hir_faults.specs.Faults.{RootedNodes, rooted_fault}
@@ -23,8 +23,8 @@ use Rattle.hir_faults.proofs.SoundLemmas.{exprs_sound, pats_sound, types_sound}
 -- a sound node's path fits, where its calls are the node's last
 held_fits : (s : Nodes) (path : Path) (before : List Call) (bindings labels : List ℕ) → IsSoundNode s record { calls = before ++ path_calls path; bindings = bindings; labels = labels; held = a_path path; returns = true } → IsTrue (path_fits s path)
 held_fits s path before bindings labels h =
-    let test = is_there (sizes_of s) in
-    let all : list_all test (before ++ path_calls path) ≡ true = first_so _ _ (first_so _ _ h.there) in
+    let test = is_in_range (sizes_of s) in
+    let all : list_all test (before ++ path_calls path) ≡ true = first_so _ _ (first_so _ _ h.in_range) in
     let calls : list_all test (path_calls path) ≡ true = second_so _ _ (sym (list_all-append test before (path_calls path)) ∙ all) in
     let paths : list_all (is_path_at s.types) (path_paths path) ≡ true = first_so _ _ (sym (list_all-append (is_path_at s.types) (path_paths path) []) ∙ first_so _ _ (sym (list_all-append (is_path_at s.types) (path_paths path ++ []) []) ∙ h.paths)) in
     let selfs : path_gives_self path ≡ true = first_so _ _ h.gives_self in

@@ -1,4 +1,4 @@
--- What a store without a fault is: each node is sound, the graph is a forest, and the kids of a node are there and stand lower.
+-- What a store without a fault is: each node is sound, the graph is a forest, and the children of a node are there and stand lower.
 use Rattle.std.proofs.Common.{◌≡◌, ℕ, zero, suc, ◌+◌, ◌<◌, ◌≤◌, true, List, [], ◌∷◌, ◌++◌, Some, None, refl, ap, subst, ◌∙◌, map, length, take, get_or, slice_get, Contains, arith}
 use Rattle.std.specs.List.{AllByRecursion, list_all}
 use Rattle.std.specs.Cmp.{first_so, second_so}
@@ -7,21 +7,21 @@ use Rattle.std.proofs.lemmas.List.{length-append, length-map, length-take-le, ge
 use Rattle.std.proofs.lemmas.List.Elements.{Contains-get_or}
 use Rattle.std.proofs.lemmas.Option.{get_or_from_slice_get}
 use Rattle.hir_forest.specs.Faults.{forest_fault, root_nodes, root_fault, LiesUnderRoot}
-use Rattle.hir_forest.specs.Forest.{IsKid}
+use Rattle.hir_forest.specs.Forest.{IsChild}
 use Rattle.hir_forest.proofs.HeightLemmas.{height_falls, height_bounded}
 use Rattle.hir_node.specs.declared.expr.Expr.{Expr}
 use Rattle.hir_node.specs.declared.pat.Pat.{Pat}
 use Rattle.hir_node.specs.declared.type_ref.TypeRef.{TypeRef}
-use Rattle.hir_node.specs.ChildCalls.{Call, OnExpr, OnAnonConst, OnPat, OnType, OnLifetime, expr_calls, pat_calls, type_calls, opt, kids}
+use Rattle.hir_node.specs.ChildCalls.{Call, OnExpr, OnAnonConst, OnPat, OnType, OnLifetime, expr_calls, pat_calls, type_calls, opt, children}
 use Rattle.hir_faults.specs.declared.sizes.Sizes.{Sizes}
 use Rattle.hir_node.specs.declared.node_id.NodeId.{NodeId}
 use Rattle.hir_node.specs.declared.node_id.NodeId.TheVariants as node
-use Rattle.hir_faults.specs.Sizes.{is_there, HasNode, place, places}
+use Rattle.hir_faults.specs.Sizes.{is_in_range, HasNode, place, places}
 use Rattle.hir_faults.specs.TestedParts.{TestedParts, tested_expr, tested_pat, tested_type}
-use Rattle.hir_faults.specs.Nodes.{Nodes, sizes_of, Has, calls_of, kids_of, all_calls, graph}
+use Rattle.hir_faults.specs.Nodes.{Nodes, sizes_of, Has, calls_of, children_of, all_calls, graph}
 use Rattle.hir_faults.specs.Faults.{RootedNodes, rooted_fault, first_bad_node, first_of, node_fault, nothing_tested, graph_fault, ends_of}
 use Rattle.hir_faults.specs.Sound.{IsSoundNode, RootsStandApart}
-use Rattle.hir_faults.specs.Down.{rank, KidsFall}
+use Rattle.hir_faults.specs.Recursion.{rank, RankDecreases}
 use Rattle.hir_faults.proofs.FaultLemmas.{accepted_forest, graph-length}
 
 -- nothing is at fault where there is nothing
@@ -41,7 +41,7 @@ item_within (y ∷ ys) (suc i) x e = let h = item_within ys i x e in omega arith
 
 sound_node : (s : Nodes) (id : NodeId) (x : TestedParts) → node_fault (sizes_of s) s.types id x None → IsSoundNode s x
 unfolding node_fault
-sound_node s id x h = record { there = h.0; paths = h.1.0; returns = h.1.1.0; gives_self = h.1.1.1.0; lists_fit = h.1.1.1.1 }
+sound_node s id x h = record { in_range = h.0; paths = h.1.0; returns = h.1.1.0; gives_self = h.1.1.1.0; lists_fit = h.1.1.1.1 }
 
 sound_at : {X : Type 0} (parts : X → TestedParts) (s : Nodes) (name : ℕ → NodeId) (xs : List X) → first_of (sizes_of s) s.types name (map parts xs) None → (i : ℕ) (x : X) → slice_get xs i ≡ Some x → IsSoundNode s (parts x)
 sound_at parts s name xs h i x e =
@@ -63,19 +63,19 @@ module _ (c : RootedNodes) (sound : rooted_fault c None) where
   types_sound = sound_at tested_type c.nodes node.TypeRef c.nodes.types sound.0.1.1
 
   -- each call of a node is made with what is there
-  pub calls_there : (n : NodeId) → Has c.nodes n → list_all (is_there (sizes_of c.nodes)) (calls_of c.nodes n) ≡ true
-  calls_there (node.Expr id) h = let x = item_at c.nodes.exprs id h in rw x.1 (first_so _ _ (first_so _ _ (exprs_sound id x.0 x.1).there))
-  calls_there (node.Pat id) h = let x = item_at c.nodes.pats id h in rw x.1 (first_so _ _ (first_so _ _ (pats_sound id x.0 x.1).there))
-  calls_there (node.TypeRef id) h = let x = item_at c.nodes.types id h in rw x.1 (first_so _ _ (first_so _ _ (types_sound id x.0 x.1).there))
+  pub calls_in_range : (n : NodeId) → Has c.nodes n → list_all (is_in_range (sizes_of c.nodes)) (calls_of c.nodes n) ≡ true
+  calls_in_range (node.Expr id) h = let x = item_at c.nodes.exprs id h in rw x.1 (first_so _ _ (first_so _ _ (exprs_sound id x.0 x.1).in_range))
+  calls_in_range (node.Pat id) h = let x = item_at c.nodes.pats id h in rw x.1 (first_so _ _ (first_so _ _ (pats_sound id x.0 x.1).in_range))
+  calls_in_range (node.TypeRef id) h = let x = item_at c.nodes.types id h in rw x.1 (first_so _ _ (first_so _ _ (types_sound id x.0 x.1).in_range))
 
--- the kids among calls that are made with what is there are there
-kids_there : (sizes : Sizes) (calls : List Call) → list_all (is_there sizes) calls ≡ true → AllByRecursion (HasNode sizes) (kids calls)
-kids_there sizes [] h = tt
-kids_there sizes (OnExpr id ∷ calls) h = (ltb-true _ _ (first_so _ _ h), kids_there sizes calls (second_so _ _ h))
-kids_there sizes (OnAnonConst id ∷ calls) h = (ltb-true _ _ (first_so _ _ h), kids_there sizes calls (second_so _ _ h))
-kids_there sizes (OnPat id ∷ calls) h = (ltb-true _ _ (first_so _ _ h), kids_there sizes calls (second_so _ _ h))
-kids_there sizes (OnType id ∷ calls) h = (ltb-true _ _ (first_so _ _ h), kids_there sizes calls (second_so _ _ h))
-kids_there sizes (OnLifetime id ∷ calls) h = kids_there sizes calls (second_so _ _ h)
+-- the children among calls that are made with what is there are there
+children_in_range : (sizes : Sizes) (calls : List Call) → list_all (is_in_range sizes) calls ≡ true → AllByRecursion (HasNode sizes) (children calls)
+children_in_range sizes [] h = tt
+children_in_range sizes (OnExpr id ∷ calls) h = (ltb-true _ _ (first_so _ _ h), children_in_range sizes calls (second_so _ _ h))
+children_in_range sizes (OnAnonConst id ∷ calls) h = (ltb-true _ _ (first_so _ _ h), children_in_range sizes calls (second_so _ _ h))
+children_in_range sizes (OnPat id ∷ calls) h = (ltb-true _ _ (first_so _ _ h), children_in_range sizes calls (second_so _ _ h))
+children_in_range sizes (OnType id ∷ calls) h = (ltb-true _ _ (first_so _ _ h), children_in_range sizes calls (second_so _ _ h))
+children_in_range sizes (OnLifetime id ∷ calls) h = children_in_range sizes calls (second_so _ _ h)
 
 pub member : {X : Type 0} (P : X → Type 0) (xs : List X) (x : X) → AllByRecursion P xs → Contains xs x → P x
 member P [] x h (i, lt, e) = absurd (omega arith)
@@ -120,14 +120,14 @@ module _ (s : Nodes) where
       let at : get_or (all_calls s) (length s.exprs + length s.pats + id) [] ≡ get_or (map type_calls s.types) id [] = rw e at (get_or-append-add (a ++ b) (map type_calls s.types) id []) in
       at ∙ row_of type_calls s.types id h
 
-  pub row_at_place : (n : NodeId) → Has s n → get_or (graph s) (place (sizes_of s) n) [] ≡ map (place (sizes_of s)) (kids_of s n)
+  pub row_at_place : (n : NodeId) → Has s n → get_or (graph s) (place (sizes_of s) n) [] ≡ map (place (sizes_of s)) (children_of s n)
   row_at_place n h =
       get_or-map (places (sizes_of s)) (all_calls s) (place (sizes_of s) n) [] [] (omega (arith, length-all_calls, place_within (sizes_of s) n h))
       ∙ ap (places (sizes_of s)) (calls_at_place n h)
 
-  -- a kid of a node is a kid in the graph
-  pub kid_in_graph : (n k : NodeId) → Has s n → Contains (kids_of s n) k → IsKid (graph s) (place (sizes_of s) n) (place (sizes_of s) k)
-  kid_in_graph n k h c = rw (row_at_place n h) (mapped_member (place (sizes_of s)) (kids_of s n) k c)
+  -- a child of a node is a child in the graph
+  pub child_in_graph : (n k : NodeId) → Has s n → Contains (children_of s n) k → IsChild (graph s) (place (sizes_of s) n) (place (sizes_of s) k)
+  child_in_graph n k h c = rw (row_at_place n h) (mapped_member (place (sizes_of s)) (children_of s n) k c)
 
 module _ (c : RootedNodes) (sound : rooted_fault c None) where
   abbrev sizes : Sizes
@@ -136,14 +136,14 @@ module _ (c : RootedNodes) (sound : rooted_fault c None) where
   abbrev g : List (List ℕ)
   g = graph c.nodes
 
-  all_kids_there : (n : NodeId) → Has c.nodes n → AllByRecursion (Has c.nodes) (kids_of c.nodes n)
-  all_kids_there n h = kids_there sizes (calls_of c.nodes n) (calls_there c sound n h)
+  all_children_in_range : (n : NodeId) → Has c.nodes n → AllByRecursion (Has c.nodes) (children_of c.nodes n)
+  all_children_in_range n h = children_in_range sizes (calls_of c.nodes n) (calls_in_range c sound n h)
 
-  pub sound_falls : KidsFall c.nodes
+  pub sound_falls : RankDecreases c.nodes
   unfolding rank
   sound_falls = record {
-    there = λ n h k m. member (Has c.nodes) (kids_of c.nodes n) k (all_kids_there n h) m;
-    lower = λ n h k m. height_falls g (accepted_forest c sound) (place sizes n) (place sizes k) (kid_in_graph c.nodes n k h m);
+    in_range = λ n h k m. member (Has c.nodes) (children_of c.nodes n) k (all_children_in_range n h) m;
+    lower = λ n h k m. height_falls g (accepted_forest c sound) (place sizes n) (place sizes k) (child_in_graph c.nodes n k h m);
   }
 
 -- no rank is above the number of nodes
@@ -168,7 +168,7 @@ module _ (c : RootedNodes) (sound : rooted_fault c None) where
 
   pub roots_apart : RootsStandApart c
   roots_apart = record {
-    there = λ i h. (root_sound i h).0;
+    in_range = λ i h. (root_sound i h).0;
     listed_once = λ i j l h e. (let len = length-map c.roots (λ r. r.node) in (root_sound j h).1.0 (rw (← e) (taken i j l (omega arith))));
     not_under = λ i j h k l. (root_sound i h).1.1.0 (get_or nodes j 0, root_read j k, (root_sound j k).0, l);
     ends_rise = λ i h. (root_sound i h).1.1.1;

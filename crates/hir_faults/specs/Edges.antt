@@ -1,38 +1,38 @@
--- What the calls of the visitor leave that tests the ids of a node and notes the node as the parent of its kids.
+-- What the calls of the visitor leave that tests the ids of a node and notes the node as the parent of its children.
 use Rattle.std.specs.Prelude.{◌≡◌, ◌+◌, ◌<◌, ◌≤◌, ◌&&◌, ℕ, Bool, List, [], ◌∷◌, ◌++◌, IsTrue, length, map}
-use Rattle.hir_forest.specs.Rows.{with_kids}
+use Rattle.hir_forest.specs.Rows.{with_children}
 use Rattle.hir_forest.specs.Parents.{IsParentageOf}
 use Rattle.hir_node.specs.ChildCalls.{Call}
 use Rattle.hir_faults.specs.declared.edges.EdgeVisitor.{EdgeVisitor}
-use Rattle.hir_faults.specs.Sizes.{Few, is_there, places}
+use Rattle.hir_faults.specs.Sizes.{Few, is_in_range, places}
 use Rattle.hir_faults.specs.TestedParts.{TestedParts, tested_expr, tested_pat, tested_type}
 use Rattle.hir_faults.specs.Nodes.{Nodes}
 
 -- there is room for the nodes of the three sorts
-pub record HasRoom (v : EdgeVisitor) : Type 0 where
+pub record HasRoomForNodes (v : EdgeVisitor) : Type 0 where
   pub few : Few v.sizes
   pub nodes : length v.parents.parents ≡ v.sizes.exprs + v.sizes.pats + v.sizes.types
 
 -- and a row was begun
 abbrev pub CanNote : EdgeVisitor → Type 0
-CanNote v = HasRoom v × (0 < v.parents.rows)
+CanNote v = HasRoomForNodes v × (0 < v.parents.rows)
 
--- it knows whether these ids are there too, and where all are, the last row has these kids more
-pub record NotesIds (v : EdgeVisitor) (are_there : Bool) (new_kids : List ℕ) (w : EdgeVisitor) : Type 0 where
+-- it knows whether these ids are there too, and where all are, the last row has these children more
+pub record NotesIds (v : EdgeVisitor) (are_in_range : Bool) (new_children : List ℕ) (w : EdgeVisitor) : Type 0 where
   pub sizes : w.sizes ≡ v.sizes
   pub room : length w.parents.parents ≡ length v.parents.parents
   pub rows : w.parents.rows ≡ v.parents.rows
-  pub there : w.all_there ≡ (v.all_there && are_there)
-  pub kids : IsTrue w.all_there → (g : List (List ℕ)) → IsParentageOf g v.parents
-      → IsParentageOf (with_kids g new_kids) w.parents
+  pub in_range : w.all_in_range ≡ (v.all_in_range && are_in_range)
+  pub children : IsTrue w.all_in_range → (g : List (List ℕ)) → IsParentageOf g v.parents
+      → IsParentageOf (with_children g new_children) w.parents
 
 abbrev pub Notes : EdgeVisitor → Call → EdgeVisitor → Type 0
-Notes v c w = NotesIds v (is_there v.sizes c) (places v.sizes (c ∷ [])) w
+Notes v c w = NotesIds v (is_in_range v.sizes c) (places v.sizes (c ∷ [])) w
 
 -- each id so far is there, and there is room for so many rows more
 pub record CanVisit (v : EdgeVisitor) (count : ℕ) : Type 0 where
-  pub room : HasRoom v
-  pub there : IsTrue v.all_there
+  pub room : HasRoomForNodes v
+  pub in_range : IsTrue v.all_in_range
   pub rows : v.parents.rows + count ≤ length v.parents.parents
 
 -- these nodes were visited too, and each id that they name is there: each has its row
@@ -40,8 +40,8 @@ pub record VisitsNodes (v : EdgeVisitor) (nodes : List TestedParts) (w : EdgeVis
   pub sizes : w.sizes ≡ v.sizes
   pub room : length w.parents.parents ≡ length v.parents.parents
   pub rows : w.parents.rows ≡ v.parents.rows + length nodes
-  pub there : IsTrue w.all_there
-  pub kids : (g : List (List ℕ)) → IsParentageOf g v.parents
+  pub in_range : IsTrue w.all_in_range
+  pub children : (g : List (List ℕ)) → IsParentageOf g v.parents
       → IsParentageOf (g ++ map (λ x. places v.sizes x.calls) nodes) w.parents
 
 -- all nodes: the expressions, then the patterns, then the types

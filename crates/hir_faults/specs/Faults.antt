@@ -14,7 +14,7 @@ use Rattle.hir_node.specs.declared.node_id.NodeId.TheVariants as node
 use Rattle.hir_faults.specs.declared.fault.FinishFault.{FinishFault}
 use Rattle.hir_faults.specs.declared.fault.FinishFault.TheVariants.{IdOutOfRange, NotAPath, NoReturnType, NoSelfArgument, ArgumentLists, SharedChild, Cycle, RootOutOfRange, RootRepeated, RootUnderRoot, RootEnds}
 use Rattle.hir_faults.specs.Sizes.{node_at}
-use Rattle.hir_faults.specs.TestedParts.{TestedParts, tested_expr, tested_pat, tested_type, names_there, names_paths, gives_self, lists_fit}
+use Rattle.hir_faults.specs.TestedParts.{TestedParts, tested_expr, tested_pat, tested_type, ids_in_range, names_paths, gives_self, lists_fit}
 use Rattle.hir_faults.specs.Nodes.{Nodes, sizes_of, graph}
 
 -- the nodes that are borrowed
@@ -40,7 +40,7 @@ ends_of s = record { exprs = length s.exprs; pats = length s.pats; bindings = le
 -- a fault of one node: ids out of range, then what isn't a path, then a missing return type, then a missing self argument, then lists that don't fit
 unfoldable pub node_fault : Sizes → List TypeRef → NodeId → TestedParts → Option FinishFault → Type 0
 node_fault sizes types id x =
-    (IdOutOfRange id unless IsTrue (names_there sizes x))
+    (IdOutOfRange id unless IsTrue (ids_in_range sizes x))
     before (NotAPath id unless IsTrue (names_paths types x.held))
     before (NoReturnType id unless IsTrue x.returns)
     before (NoSelfArgument id unless IsTrue (gives_self x.held))

@@ -1,10 +1,10 @@
 pub mod Sizes
 pub mod TestedParts
-pub mod Holds
+pub mod TypeParts
 pub mod Nodes
 pub mod Faults
 pub mod Ranges
 pub mod Edges
 pub mod Fits
-pub mod Down
+pub mod Recursion
 pub mod Sound

@@ -1,4 +1,4 @@
--- The nodes of a store under their ids, and the graph of their kids.
+-- The nodes of a store under their ids, and the graph of their children.
 use Rattle.std.specs.Prelude.{ℕ, List, ◌++◌, map, length, slice_get}
 use Rattle.hir_node.specs.declared.expr.Expr.{Expr}
 use Rattle.hir_node.specs.declared.pat.Pat.{Pat}
@@ -6,7 +6,7 @@ use Rattle.hir_node.specs.declared.type_ref.TypeRef.{TypeRef}
 use Rattle.hir_node.specs.declared.type_ref.LifetimeRef.{LifetimeRef}
 use Rattle.hir_node.specs.declared.binding.Binding.{Binding}
 use Rattle.hir_node.specs.declared.binding.Label.{Label}
-use Rattle.hir_node.specs.ChildCalls.{Call, expr_calls, pat_calls, type_calls, opt, kids}
+use Rattle.hir_node.specs.ChildCalls.{Call, expr_calls, pat_calls, type_calls, opt, children}
 use Rattle.hir_node.specs.declared.node_id.NodeId.{NodeId}
 use Rattle.hir_node.specs.declared.node_id.NodeId.TheVariants as node
 use Rattle.hir_faults.specs.declared.sizes.Sizes.{Sizes}
@@ -44,14 +44,14 @@ calls_of s (node.Expr id) = calls_at expr_calls s.exprs id
 calls_of s (node.Pat id) = calls_at pat_calls s.pats id
 calls_of s (node.TypeRef id) = calls_at type_calls s.types id
 
--- the kids of a node
-abbrev pub kids_of : Nodes → NodeId → List NodeId
-kids_of s n = kids (calls_of s n)
+-- the children of a node
+abbrev pub children_of : Nodes → NodeId → List NodeId
+children_of s n = children (calls_of s n)
 
 -- the calls of all nodes: of the expressions, then of the patterns, then of the types
 abbrev pub all_calls : Nodes → List (List Call)
 all_calls s = map expr_calls s.exprs ++ map pat_calls s.pats ++ map type_calls s.types
 
--- the kids of all nodes, by their places
+-- the children of all nodes, by their places
 abbrev pub graph : Nodes → List (List ℕ)
 graph s = map (places (sizes_of s)) (all_calls s)

@@ -1,17 +1,17 @@
 -- How many of each there are, which calls name what is there, and the places of nodes in one row: expressions, then patterns, then types.
 use Rattle.std.specs.Prelude.{ℕ, Bool, ◌+◌, ◌-◌, ◌<◌, ◌≤◌, List, map, nat_lt, cond}
-use Rattle.hir_node.specs.ChildCalls.{Call, OnExpr, OnAnonConst, OnPat, OnType, OnLifetime, kids}
+use Rattle.hir_node.specs.ChildCalls.{Call, OnExpr, OnAnonConst, OnPat, OnType, OnLifetime, children}
 use Rattle.hir_faults.specs.declared.sizes.Sizes.{Sizes}
 use Rattle.hir_node.specs.declared.node_id.NodeId.{NodeId}
 use Rattle.hir_node.specs.declared.node_id.NodeId.TheVariants as node
 
 -- the call is made with an id that is there
-abbrev pub is_there : Sizes → Call → Bool
-is_there sizes (OnExpr id) = nat_lt id sizes.exprs
-is_there sizes (OnAnonConst id) = nat_lt id sizes.exprs
-is_there sizes (OnPat id) = nat_lt id sizes.pats
-is_there sizes (OnType id) = nat_lt id sizes.types
-is_there sizes (OnLifetime id) = nat_lt id sizes.lifetimes
+abbrev pub is_in_range : Sizes → Call → Bool
+is_in_range sizes (OnExpr id) = nat_lt id sizes.exprs
+is_in_range sizes (OnAnonConst id) = nat_lt id sizes.exprs
+is_in_range sizes (OnPat id) = nat_lt id sizes.pats
+is_in_range sizes (OnType id) = nat_lt id sizes.types
+is_in_range sizes (OnLifetime id) = nat_lt id sizes.lifetimes
 
 -- the node is there
 abbrev pub HasNode : Sizes → NodeId → Type 0
@@ -32,9 +32,9 @@ node_at sizes n =
     (cond (nat_lt n (sizes.exprs + sizes.pats)) (node.Pat (n - sizes.exprs))
     (node.TypeRef (n - (sizes.exprs + sizes.pats))))
 
--- the places of the kids among calls
+-- the places of the children among calls
 abbrev pub places : Sizes → List Call → List ℕ
-places sizes calls = map (place sizes) (kids calls)
+places sizes calls = map (place sizes) (children calls)
 
 -- each arena has at most as many items as ids can name
 pub record Few (sizes : Sizes) : Type 0 where

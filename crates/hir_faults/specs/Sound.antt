@@ -2,14 +2,14 @@
 use Rattle.std.specs.Prelude.{◌≢◌, ◌<◌, ℕ, suc, IsTrue, length, slice_index}
 use Rattle.hir_forest.specs.Forest.{LiesUnder}
 use Rattle.hir_forest.specs.Faults.{root_nodes, EndsFit, ends_before}
-use Rattle.hir_faults.specs.TestedParts.{TestedParts, names_there, names_paths, gives_self, lists_fit}
+use Rattle.hir_faults.specs.TestedParts.{TestedParts, ids_in_range, names_paths, gives_self, lists_fit}
 use Rattle.hir_faults.specs.Nodes.{Nodes, sizes_of, graph}
 use Rattle.hir_faults.specs.Faults.{RootedNodes, ends_of}
 
 -- each id that a node names is there, each type that it names as a path is one, a function type has a return type, each list of generic
 -- arguments that begins with a self type isn't empty, and a `Normal` path has one list for each segment
 pub record IsSoundNode (s : Nodes) (x : TestedParts) : Type 0 where
-  pub there : IsTrue (names_there (sizes_of s) x)
+  pub in_range : IsTrue (ids_in_range (sizes_of s) x)
   pub paths : IsTrue (names_paths s.types x.held)
   pub returns : IsTrue x.returns
   pub gives_self : IsTrue (gives_self x.held)
@@ -18,7 +18,7 @@ pub record IsSoundNode (s : Nodes) (x : TestedParts) : Type 0 where
 -- The roots are expressions that are there, none is listed twice and none lies under another, and their ends rise up to the lengths of the
 -- arenas.
 pub record RootsStandApart (c : RootedNodes) : Type 0 where
-  pub there : (i : ℕ) → i < length c.roots → slice_index (root_nodes c.roots) i < length c.nodes.exprs
+  pub in_range : (i : ℕ) → i < length c.roots → slice_index (root_nodes c.roots) i < length c.nodes.exprs
   pub listed_once : (i j : ℕ) → i < j → j < length c.roots
       → slice_index (root_nodes c.roots) i ≢ slice_index (root_nodes c.roots) j
   pub not_under : (i j : ℕ) → i < length c.roots → j < length c.roots

@@ -18,7 +18,7 @@ use Rattle.hir_node.specs.declared.expr.Expr.TheVariants as expr
 use Rattle.hir_node.specs.ChildCalls.{Call, expr_calls, pat_calls, type_calls}
 use Rattle.hir_node.specs.OtherIds.{expr_labels, pat_bindings}
 use Rattle.hir_faults.specs.declared.sizes.Sizes.{Sizes}
-use Rattle.hir_faults.specs.Sizes.{is_there}
+use Rattle.hir_faults.specs.Sizes.{is_in_range}
 
 -- what a node holds: a path, generic arguments that aren't in a path, bounds
 pub record HeldParts : Type 0 where
@@ -267,7 +267,7 @@ abbrev pub names_paths : List TypeRef → HeldParts → Bool
 names_paths types h = list_all (is_path_at types) (held_paths h)
 
 -- each id that is named is there
-abbrev pub names_there : Sizes → TestedParts → Bool
-names_there sizes x = list_all (is_there sizes) x.calls
+abbrev pub ids_in_range : Sizes → TestedParts → Bool
+ids_in_range sizes x = list_all (is_in_range sizes) x.calls
     && list_all (λ id. nat_lt id sizes.bindings) x.bindings
     && list_all (λ id. nat_lt id sizes.labels) x.labels

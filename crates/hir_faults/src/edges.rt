@@ -1,4 +1,4 @@
-//! The one visit of a node: each id that the node passes to a visitor is tested, and the node is noted as the parent of its kids.
+//! The one visit of a node: each id that the node passes to a visitor is tested, and the node is noted as the parent of its children.
 
 ghost use Rattle.std.specs.Prelude.{◌<◌, [], ◌∷◌, IsTrue, length};
 ghost use Rattle.hir_faults.specs.Edges.{CanNote, NotesIds, Notes};
@@ -13,7 +13,7 @@ use hir_node::{ExprId, LifetimeRefId, PatId, StoreVisitor, TypeRefId};
 pub(crate) struct EdgeVisitor {
     pub(crate) sizes: Sizes,
     pub(crate) parents: Parents,
-    pub(crate) all_there: bool,
+    pub(crate) all_in_range: bool,
 }
 
 impl StoreVisitor for EdgeVisitor {
@@ -45,21 +45,21 @@ impl StoreVisitor for EdgeVisitor {
     }
 
     fn on_lifetime(&mut self, id: LifetimeRefId) {
-        self.all_there = self.all_there && (id.into_raw() as usize) < self.sizes.lifetimes;
+        self.all_in_range = self.all_in_range && (id.into_raw() as usize) < self.sizes.lifetimes;
     }
 }
 
 impl EdgeVisitor {
-    /// Adds a kid to the last row, if it is there.
-    fn note(&mut self, is_there: bool, place: usize)
+    /// Adds a child to the last row, if it is there.
+    fn note(&mut self, is_in_range: bool, place: usize)
         requires can { CanNote self.old }
-        requires within { IsTrue is_there → place < length self.old.parents.parents }
-        ensures { NotesIds self.old is_there (place ∷ []) self.new }
+        requires within { IsTrue is_in_range → place < length self.old.parents.parents }
+        ensures { NotesIds self.old is_in_range (place ∷ []) self.new }
     {
-        if !is_there {
-            self.all_there = false;
+        if !is_in_range {
+            self.all_in_range = false;
             return;
         }
-        self.parents.push_kid(place);
+        self.parents.push_child(place);
     }
 }

@@ -8,8 +8,8 @@ ghost use Rattle.hir_forest.specs.Parents.{HasParents, IsParentageOf};
 ghost use Rattle.hir_faults.specs.Faults.{nodes_in, node_fault, first_of, first_bad_node, fault_of_graph, graph_fault, rooted_fault};
 ghost use Rattle.hir_faults.specs.Nodes.{sizes_of, graph};
 ghost use Rattle.hir_faults.specs.Edges.{CanVisit, VisitsNodes, all_tested};
-ghost use Rattle.hir_faults.specs.TestedParts.{names_there};
-ghost use Rattle.hir_faults.specs.Sizes.{Few, is_there, node_at};
+ghost use Rattle.hir_faults.specs.TestedParts.{ids_in_range};
+ghost use Rattle.hir_faults.specs.Sizes.{Few, is_in_range, node_at};
 
 use crate::edges::EdgeVisitor;
 use crate::fault::FinishFault;
@@ -33,10 +33,10 @@ fn is_below<K>(id: Option<Idx<K>>, count: usize) -> bool
 
 /// The first fault of one node whose ids are all there, from a look at all that it holds.
 fn held_fault<N: TestedNode>(node: &N, id: NodeId, types: &[TypeRef]) -> Option<FinishFault>
-    ensures { (sizes : Sizes) → names_there sizes (N.tested_parts node.now) ≡ true
+    ensures { (sizes : Sizes) → ids_in_range sizes (N.tested_parts node.now) ≡ true
         → node_fault sizes types.now id (N.tested_parts node.now) result }
 {
-    let held = node.holds();
+    let held = node.type_parts();
     if !held.names_paths(types) {
         return Some(FinishFault::NotAPath(id));
     }
@@ -54,34 +54,34 @@ fn held_fault<N: TestedNode>(node: &N, id: NodeId, types: &[TypeRef]) -> Option<
 
 /// The first fault of one node whose ids are all there.
 fn other_fault<N: TestedNode>(node: &N, id: NodeId, types: &[TypeRef]) -> Option<FinishFault>
-    ensures { (sizes : Sizes) → names_there sizes (N.tested_parts node.now) ≡ true
+    ensures { (sizes : Sizes) → ids_in_range sizes (N.tested_parts node.now) ≡ true
         → node_fault sizes types.now id (N.tested_parts node.now) result }
 {
-    if node.holds().is_plain() && node.returns() {
+    if node.type_parts().is_plain() && node.returns() {
         return None;
     }
     held_fault(node, id, types)
 }
 
 /// Visits one node: whether each id that it passes to a visitor is there.
-fn calls_there<N: TestedNode>(node: &N, visitor: &mut EdgeVisitor) -> bool
+fn calls_in_range<N: TestedNode>(node: &N, visitor: &mut EdgeVisitor) -> bool
     requires { CanVisit visitor.old 1 }
-    ensures there { result ≡ list_all (is_there visitor.old.sizes) (N.tested_parts node.now).calls }
+    ensures in_range { result ≡ list_all (is_in_range visitor.old.sizes) (N.tested_parts node.now).calls }
     ensures sizes { visitor.new.sizes ≡ visitor.old.sizes }
     ensures visited { IsTrue result → VisitsNodes visitor.old (N.tested_parts node.now ∷ []) visitor.new }
 {
     visitor.parents.begin_row();
     node.visit(visitor);
-    visitor.all_there
+    visitor.all_in_range
 }
 
 /// Visits one node: whether each id that it names is there.
-fn names_there<N: TestedNode>(node: &N, visitor: &mut EdgeVisitor) -> bool
+fn ids_in_range<N: TestedNode>(node: &N, visitor: &mut EdgeVisitor) -> bool
     requires { CanVisit visitor.old 1 }
-    ensures there { result ≡ names_there visitor.old.sizes (N.tested_parts node.now) }
+    ensures in_range { result ≡ ids_in_range visitor.old.sizes (N.tested_parts node.now) }
     ensures visited { IsTrue result → VisitsNodes visitor.old (N.tested_parts node.now ∷ []) visitor.new }
 {
-    calls_there(node, visitor)
+    calls_in_range(node, visitor)
         && is_below(node.binding(), visitor.sizes.bindings)
         && is_below(node.label(), visitor.sizes.labels)
 }
@@ -97,7 +97,7 @@ fn fault_of<N: TestedNode>(
     ensures fault { node_fault visitor.old.sizes types.now id (N.tested_parts node.now) result }
     ensures visited { IfNone result (VisitsNodes visitor.old (N.tested_parts node.now ∷ []) visitor.new) }
 {
-    if !names_there(node, visitor) {
+    if !ids_in_range(node, visitor) {
         return Some(FinishFault::IdOutOfRange(id));
     }
     other_fault(node, id, types)
@@ -195,7 +195,7 @@ fn first_graph_fault(
 ///
 /// It takes time in the number of nodes, edges and roots. It recurses only into associated type bindings that are nested in one path.
 /// It answers `Memory` only where memory for its tables is refused.
-pub fn tested_parents(
+pub fn validated_parents(
     alloc: Global,
     nodes: &NodeSlices<'_>,
     roots: &[Root],
@@ -216,7 +216,7 @@ pub fn tested_parents(
     let mut visitor = EdgeVisitor {
         sizes,
         parents,
-        all_there: true,
+        all_in_range: true,
     };
     if let Some(fault) = first_bad_node(nodes, &mut visitor) {
         return Err(fault);

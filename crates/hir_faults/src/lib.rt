@@ -6,14 +6,14 @@
 mod edges;
 mod fault;
 mod first_fault;
-mod holds;
+mod type_parts;
 mod nodes;
 mod range;
 mod sizes;
 mod tested_node;
 
 pub use fault::FinishFault;
-pub use first_fault::tested_parents;
-pub use holds::as_path;
+pub use first_fault::validated_parents;
+pub use type_parts::as_path;
 pub use nodes::NodeSlices;
 pub use sizes::Sizes;

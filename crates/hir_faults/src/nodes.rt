@@ -7,10 +7,10 @@ ghost use Rattle.hir_faults.specs.Faults.{nodes_in, ends_of};
 ghost use Rattle.hir_faults.specs.Nodes.{sizes_of};
 ghost use Rattle.hir_faults.specs.TestedParts.{bound_paths, is_path_at};
 ghost use Rattle.hir_faults.specs.Fits.{path_fits};
-ghost use Rattle.hir_faults.specs.Sizes.{Few, is_there};
+ghost use Rattle.hir_faults.specs.Sizes.{Few, is_in_range};
 
-use crate::holds::{bound_names_path, is_path, one_list_each, path_gives_self, path_names_paths};
-use crate::range::{bound_there, path_there};
+use crate::type_parts::{bound_names_path, is_path, one_list_each, path_gives_self, path_names_paths};
+use crate::range::{bound_is_in_range, path_is_in_range};
 use crate::sizes::Sizes;
 use hir_forest::Ends;
 use hir_node::{Binding, Expr, Label, LifetimeRef, Pat, Path, PathId, TypeBound, TypeRef};
@@ -65,7 +65,7 @@ impl NodeSlices<'_> {
     pub fn path_is_sound(&self, path: &Path) -> bool
         ensures { result ≡ path_fits (nodes_in self.now) path.now }
     {
-        path_there(path, self.sizes())
+        path_is_in_range(path, self.sizes())
             && path_names_paths(self.types, path)
             && path_gives_self(path)
             && one_list_each(path)
@@ -73,9 +73,9 @@ impl NodeSlices<'_> {
 
     /// Whether each type and each lifetime that the bound names is there.
     pub fn has_bound(&self, bound: &TypeBound) -> bool
-        ensures { result ≡ list_all (is_there (sizes_of (nodes_in self.now))) (bound_calls bound.now) }
+        ensures { result ≡ list_all (is_in_range (sizes_of (nodes_in self.now))) (bound_calls bound.now) }
     {
-        bound_there(bound, self.sizes())
+        bound_is_in_range(bound, self.sizes())
     }
 
     /// Whether what the bound names as a path is there and is a path.

@@ -2,7 +2,7 @@
 
 ghost use Rattle.std.specs.Prelude.{◌≡◌};
 ghost use Rattle.std.specs.List.{list_all};
-ghost use Rattle.hir_faults.specs.Sizes.{is_there};
+ghost use Rattle.hir_faults.specs.Sizes.{is_in_range};
 ghost use Rattle.hir_faults.specs.Ranges.{Tests};
 ghost use Rattle.hir_node.specs.ChildCalls.{bound_calls, path_calls};
 
@@ -15,47 +15,47 @@ use hir_node::{
 #[derive(Drop)]
 struct InRange {
     sizes: Sizes,
-    holds: bool,
+    all_in_range: bool,
 }
 
 impl StoreVisitor for InRange {
     ghost step = { Tests };
 
     fn on_expr(&mut self, id: ExprId) {
-        self.holds = self.holds && (id.into_raw() as usize) < self.sizes.exprs;
+        self.all_in_range = self.all_in_range && (id.into_raw() as usize) < self.sizes.exprs;
     }
 
     fn on_anon_const_expr(&mut self, id: ExprId) {
-        self.holds = self.holds && (id.into_raw() as usize) < self.sizes.exprs;
+        self.all_in_range = self.all_in_range && (id.into_raw() as usize) < self.sizes.exprs;
     }
 
     fn on_pat(&mut self, id: PatId) {
-        self.holds = self.holds && (id.into_raw() as usize) < self.sizes.pats;
+        self.all_in_range = self.all_in_range && (id.into_raw() as usize) < self.sizes.pats;
     }
 
     fn on_type(&mut self, id: TypeRefId) {
-        self.holds = self.holds && (id.into_raw() as usize) < self.sizes.types;
+        self.all_in_range = self.all_in_range && (id.into_raw() as usize) < self.sizes.types;
     }
 
     fn on_lifetime(&mut self, id: LifetimeRefId) {
-        self.holds = self.holds && (id.into_raw() as usize) < self.sizes.lifetimes;
+        self.all_in_range = self.all_in_range && (id.into_raw() as usize) < self.sizes.lifetimes;
     }
 }
 
 /// Whether each id that the path passes to a visitor is there.
-pub(crate) fn path_there(path: &Path, sizes: Sizes) -> bool
-    ensures { result ≡ list_all (is_there sizes) (path_calls path.now) }
+pub(crate) fn path_is_in_range(path: &Path, sizes: Sizes) -> bool
+    ensures { result ≡ list_all (is_in_range sizes) (path_calls path.now) }
 {
-    let mut ids = InRange { sizes, holds: true };
+    let mut ids = InRange { sizes, all_in_range: true };
     ids.on_path(path);
-    ids.holds
+    ids.all_in_range
 }
 
 /// Whether each id that the bound passes to a visitor is there.
-pub(crate) fn bound_there(bound: &TypeBound, sizes: Sizes) -> bool
-    ensures { result ≡ list_all (is_there sizes) (bound_calls bound.now) }
+pub(crate) fn bound_is_in_range(bound: &TypeBound, sizes: Sizes) -> bool
+    ensures { result ≡ list_all (is_in_range sizes) (bound_calls bound.now) }
 {
-    let mut ids = InRange { sizes, holds: true };
+    let mut ids = InRange { sizes, all_in_range: true };
     ids.on_type_bound(bound);
-    ids.holds
+    ids.all_in_range
 }

@@ -6,20 +6,20 @@ ghost use Rattle.std.specs.Option.{option_to_list};
 ghost use Rattle.hir_path.specs.declared.path.GenericArgs.{GenericArgs};
 ghost use Rattle.hir_node.specs.declared.node_id.NodeId.{NodeId};
 ghost use Rattle.hir_node.specs.Runs.{Runs, MayRun};
-ghost use Rattle.hir_faults.specs.Holds.{held_of};
+ghost use Rattle.hir_faults.specs.TypeParts.{type_parts_of};
 ghost use Rattle.hir_faults.specs.TestedParts.{TestedParts, tested_expr, tested_pat, tested_type, nothing, a_path, some_args, some_bounds};
 
-use crate::holds::Holds;
+use crate::type_parts::TypeParts;
 use hir_node::{
     BindingId, Boxed, Expr, ExprId, GenericArgs, LabelId, NodeId, Pat, PatId, Path, StoreVisitor,
     TypeBound, TypeRef, TypeRefId,
 };
 
 /// Holds nothing.
-fn nothing<'a>() -> Holds<'a>
-    ensures { held_of result ≡ nothing }
+fn nothing<'a>() -> TypeParts<'a>
+    ensures { type_parts_of result ≡ nothing }
 {
-    Holds {
+    TypeParts {
         path: None,
         args: None,
         bounds: &[],
@@ -27,10 +27,10 @@ fn nothing<'a>() -> Holds<'a>
 }
 
 /// Holds a path.
-fn a_path(path: &Path) -> Holds<'_>
-    ensures { held_of result ≡ a_path path.now }
+fn a_path(path: &Path) -> TypeParts<'_>
+    ensures { type_parts_of result ≡ a_path path.now }
 {
-    Holds {
+    TypeParts {
         path: Some(path),
         args: None,
         bounds: &[],
@@ -38,10 +38,10 @@ fn a_path(path: &Path) -> Holds<'_>
 }
 
 /// Holds generic arguments, if there are some.
-fn some_args(args: &Option<Boxed<GenericArgs>>) -> Holds<'_>
-    ensures { held_of result ≡ some_args args.now }
+fn some_args(args: &Option<Boxed<GenericArgs>>) -> TypeParts<'_>
+    ensures { type_parts_of result ≡ some_args args.now }
 {
-    Holds {
+    TypeParts {
         path: None,
         args: args.as_ref().map(Boxed::get),
         bounds: &[],
@@ -49,10 +49,10 @@ fn some_args(args: &Option<Boxed<GenericArgs>>) -> Holds<'_>
 }
 
 /// Holds bounds.
-fn some_bounds(bounds: &[TypeBound]) -> Holds<'_>
-    ensures { held_of result ≡ some_bounds bounds.now }
+fn some_bounds(bounds: &[TypeBound]) -> TypeParts<'_>
+    ensures { type_parts_of result ≡ some_bounds bounds.now }
 {
-    Holds {
+    TypeParts {
         path: None,
         args: None,
         bounds,
@@ -85,8 +85,8 @@ pub(crate) trait TestedNode {
         ensures { option_to_list result ≡ (tested_parts self.now).labels };
 
     /// What it holds.
-    fn holds(&self) -> Holds<'_>
-        ensures { held_of result ≡ (tested_parts self.now).held };
+    fn type_parts(&self) -> TypeParts<'_>
+        ensures { type_parts_of result ≡ (tested_parts self.now).held };
 
     /// Whether it has a return type, where it is a function type.
     fn returns(&self) -> bool
@@ -193,7 +193,7 @@ impl TestedNode for Expr {
         }
     }
 
-    fn holds(&self) -> Holds<'_> {
+    fn type_parts(&self) -> TypeParts<'_> {
         match self {
             Expr::Path(path)
             | Expr::RecordLit {
@@ -342,7 +342,7 @@ impl TestedNode for Pat {
         None
     }
 
-    fn holds(&self) -> Holds<'_> {
+    fn type_parts(&self) -> TypeParts<'_> {
         match self {
             Pat::Record {
                 path,
@@ -414,7 +414,7 @@ impl TestedNode for TypeRef {
         None
     }
 
-    fn holds(&self) -> Holds<'_> {
+    fn type_parts(&self) -> TypeParts<'_> {
         match self {
             TypeRef::Path(path) => a_path(path),
             TypeRef::ImplTrait(bounds) | TypeRef::DynTrait(bounds) => {

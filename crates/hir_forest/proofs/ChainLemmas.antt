@@ -4,7 +4,7 @@ use Rattle.std.specs.Prelude.{count_by}
 use Rattle.std.proofs.lemmas.Bool.{cases_eq, false≢true}
 use Rattle.std.proofs.lemmas.List.{get_or-set_same, get_or-set_other}
 use Rattle.std.proofs.lemmas.List.Sums.{sum_by-set}
-use Rattle.hir_forest.specs.Forest.{IsKid, Climbs, IsTop, ChainEnds, LiesUnder, Marks, LiesUnderMarked, HasOneParent}
+use Rattle.hir_forest.specs.Forest.{IsChild, Climbs, IsTop, ChainEnds, LiesUnder, Marks, LiesUnderMarked, HasOneParent}
 use Rattle.hir_forest.specs.Faults.{LiesUnderRoot}
 use Rattle.hir_forest.specs.Parents.{HasParents, IsOnChain, MeetsMarked, AreClear}
 use Rattle.hir_forest.proofs.HeightLemmas.{chain_short, join, extend}
@@ -13,7 +13,7 @@ use Rattle.hir_forest.proofs.MarkLemmas.{Marks-set, Marks-kept, Marks-here}
 -- a way up is no longer than the chain that ends
 no_longer : (g : List (List ℕ)) → HasOneParent g → (a k c x t : ℕ) → Climbs g a c x → Climbs g k c t → IsTop g t → a ≤ k
 no_longer g one zero k c x t u v top = omega arith
-no_longer g one (suc a) zero c x t u v top = absurd (top u.0 (subst (IsKid g u.0) v u.1))
+no_longer g one (suc a) zero c x t u v top = absurd (top u.0 (subst (IsChild g u.0) v u.1))
 no_longer g one (suc a) (suc k) c x t u v top =
     let e = one u.0 v.0 c u.1 v.1 in
     let h = no_longer g one a k v.0 x t (subst (λ (q : ℕ). Climbs g a q x) e u.2) v.2 top in
@@ -22,32 +22,32 @@ no_longer g one (suc a) (suc k) c x t u v top =
 -- who is on a chain that ends has one that ends
 ends_above : (g : List (List ℕ)) → HasOneParent g → (k c r : ℕ) → Climbs g k c r → ChainEnds g c → ChainEnds g r
 ends_above g one zero c r u e = subst (ChainEnds g) u e
-ends_above g one (suc k) c r u (zero, t, v, top) = absurd (top u.0 (subst (IsKid g u.0) v u.1))
+ends_above g one (suc k) c r u (zero, t, v, top) = absurd (top u.0 (subst (IsChild g u.0) v u.1))
 ends_above g one (suc k) c r u (suc j, t, v, top) =
     ends_above g one k u.0 r u.2 (j, t, subst (λ (q : ℕ). Climbs g j q t) (one v.0 u.0 c v.1 u.1) v.2, top)
 
 module _ (g : List (List ℕ)) (parents : List (Option ℕ)) (h : HasParents g parents) where
   pub only_parent : HasOneParent g
   only_parent p q c k l =
-      let a : get_or parents c None ≡ Some p = (h.kids c p).1 k in
-      let b : get_or parents c None ≡ Some q = (h.kids c q).1 l in
+      let a : get_or parents c None ≡ Some p = (h.children c p).1 k in
+      let b : get_or parents c None ≡ Some q = (h.children c q).1 l in
       same p q (sym a ∙ b)
     where
       same : (x y : ℕ) → Some x ≡ Some y → x ≡ y
       same x y e = cc
 
-  pub has_kid : (c p : ℕ) → get_or parents c None ≡ Some p → IsKid g p c
-  has_kid c p is = (h.kids c p).0 is
+  pub has_child : (c p : ℕ) → get_or parents c None ≡ Some p → IsChild g p c
+  has_child c p is = (h.children c p).0 is
 
   pub is_top : (c : ℕ) → get_or parents c None ≡ None → IsTop g c
-  is_top c none q k = clash q (sym none ∙ (h.kids c q).1 k)
+  is_top c none q k = clash q (sym none ∙ (h.children c q).1 k)
     where
       clash : (q : ℕ) → None ≡ Some q → ⊥
       clash q e = cc
 
   -- one step more on the way up
   pub up : (i node at parent : ℕ) → Climbs g i node at → get_or parents at None ≡ Some parent → Climbs g (i + 1) node parent
-  up i node at parent u is = rw add-one (extend g i node at parent u (has_kid at parent is))
+  up i node at parent u is = rw add-one (extend g i node at parent u (has_child at parent is))
 
   -- a chain ends where one above does, and no other way
   pub ends_from : (i node at : ℕ) → Climbs g i node at → ChainEnds g at → ChainEnds g node
@@ -68,7 +68,7 @@ module _ (g : List (List ℕ)) (parents : List (Option ℕ)) (h : HasParents g p
 
   -- a chain ends where that of the parent does
   pub ends_at_parent : (node parent : ℕ) → get_or parents node None ≡ Some parent → ChainEnds g parent → ChainEnds g node
-  ends_at_parent node parent is e = (suc e.0, e.1, (parent, has_kid node parent is, e.2), e.3)
+  ends_at_parent node parent is e = (suc e.0, e.1, (parent, has_child node parent is, e.2), e.3)
 
   -- whose chain ends isn't properly under itself
   pub not_under_itself : (c : ℕ) → ChainEnds g c → LiesUnder g c c → ⊥
@@ -80,7 +80,7 @@ module _ (g : List (List ℕ)) (parents : List (Option ℕ)) (h : HasParents g p
   pub meets_next : (marked : List Bool) (at parent : ℕ) → get_or marked at false ≡ false → get_or parents at None ≡ Some parent → MeetsMarked g marked at → MeetsMarked g marked parent
   meets_next marked at parent un is (r, m, (zero, e)) = absurd (false≢true (sym un ∙ subst (Marks marked) (sym e) m))
   meets_next marked at parent un is (r, m, (suc k, u)) =
-      (r, m, (k, subst (λ (q : ℕ). Climbs g k q r) (only_parent u.0 parent at u.1 (has_kid at parent is)) u.2))
+      (r, m, (k, subst (λ (q : ℕ). Climbs g k q r) (only_parent u.0 parent at u.1 (has_child at parent is)) u.2))
 
   pub meets_from : (marked : List Bool) (node at : ℕ) → IsOnChain g node at → MeetsMarked g marked at → MeetsMarked g marked node
   meets_from marked node at u m = (m.0, m.1, (u.0 + m.2.0, join g u.0 m.2.0 node at m.0 u.1 m.2.1))
@@ -92,8 +92,8 @@ module _ (g : List (List ℕ)) (parents : List (Option ℕ)) (h : HasParents g p
   -- who lies properly under a marked node has a parent whose chain meets one
   pub under_next : (marked : List Bool) (node parent : ℕ) → get_or parents node None ≡ Some parent → LiesUnderMarked g marked node ↔ MeetsMarked g marked parent
   under_next marked node parent is = (
-    λ l. (l.0, l.1, (l.2.0, subst (λ (q : ℕ). Climbs g l.2.0 q l.0) (only_parent l.2.1.0 parent node l.2.1.1 (has_kid node parent is)) l.2.1.2)),
-    λ m. (m.0, m.1, (m.2.0, (parent, has_kid node parent is, m.2.1))),
+    λ l. (l.0, l.1, (l.2.0, subst (λ (q : ℕ). Climbs g l.2.0 q l.0) (only_parent l.2.1.0 parent node l.2.1.1 (has_child node parent is)) l.2.1.2)),
+    λ m. (m.0, m.1, (m.2.0, (parent, has_child node parent is, m.2.1))),
   )
 
   pub under_none : (marked : List Bool) (node : ℕ) → get_or parents node None ≡ None → LiesUnderMarked g marked node → ⊥
@@ -154,7 +154,7 @@ module _ (parents : List (Option ℕ)) (node at : ℕ) (old now : List Bool) (s 
     within = low;
     first = inl node_marked;
     stays = still_marked;
-    way = λ g h. (let w = s.way g h in (suc w.0, extend g w.0 node at parent w.1 (has_kid g parents h at parent is)));
+    way = λ g h. (let w = s.way g h in (suc w.0, extend g w.0 node at parent w.1 (has_child g parents h at parent is)));
     fresh = on_way;
   }
 

@@ -1,31 +1,31 @@
--- Kids, children and parents.
+-- Children, children and parents.
 use Rattle.std.proofs.Common.{◌≡◌, ℕ, zero, suc, ◌+◌, ◌<◌, List, [], ◌∷◌, ◌++◌, length, get_or, take, inl, inr, ⊎_elim, refl, ap, sym, ◌∙◌, subst, arith, Contains}
 use Rattle.std.proofs.lemmas.List.{get_or_past, get_or_append_left, get_or-append-add, get_or-take, length-append, length-take-le, get_or_default}
 use Rattle.std.proofs.lemmas.List.Elements.{Contains-append_cases, Contains-append_left, Contains-append_right}
 use Rattle.std.proofs.lemmas.Bool.{cases_lt}
 use Rattle.std.specs.List.{concat}
-use Rattle.hir_forest.specs.Forest.{IsKid, HasOneParent}
+use Rattle.hir_forest.specs.Forest.{IsChild, HasOneParent}
 
 contains_none : (c : ℕ) → Contains [] c → ⊥
 contains_none c h = omega (arith, h.1)
 
--- only a node has kids
-pub parent_in : (g : List (List ℕ)) (p c : ℕ) → IsKid g p c → p < length g
+-- only a node has children
+pub parent_in : (g : List (List ℕ)) (p c : ℕ) → IsChild g p c → p < length g
 parent_in g p c k =
     elim (cases_lt p (length g)) [
       | inl h ↦ h
       | inr h ↦ absurd (contains_none c (subst (λ (row : List ℕ). Contains row c) (get_or_past g p [] h) k))
     ]
 
-pub kid_from_child : (g : List (List ℕ)) (c : ℕ) → Contains (concat g) c → (p : ℕ) × IsKid g p c
-kid_from_child [] c h = absurd (contains_none c h)
-kid_from_child (row ∷ g) c h =
-    ⊎_elim (λ a. (zero, a)) (λ a. let k = kid_from_child g c a in (suc k.0, k.1)) (Contains-append_cases row (concat g) c h)
+pub parent_of_child : (g : List (List ℕ)) (c : ℕ) → Contains (concat g) c → (p : ℕ) × IsChild g p c
+parent_of_child [] c h = absurd (contains_none c h)
+parent_of_child (row ∷ g) c h =
+    ⊎_elim (λ a. (zero, a)) (λ a. let k = parent_of_child g c a in (suc k.0, k.1)) (Contains-append_cases row (concat g) c h)
 
-pub child_from_kid : (g : List (List ℕ)) (p c : ℕ) → IsKid g p c → Contains (concat g) c
-child_from_kid [] p c k = k
-child_from_kid (row ∷ g) zero c k = Contains-append_left row (concat g) c k
-child_from_kid (row ∷ g) (suc p) c k = Contains-append_right row (concat g) c (child_from_kid g p c k)
+pub child_of_parent : (g : List (List ℕ)) (p c : ℕ) → IsChild g p c → Contains (concat g) c
+child_of_parent [] p c k = k
+child_of_parent (row ∷ g) zero c k = Contains-append_left row (concat g) c k
+child_of_parent (row ∷ g) (suc p) c k = Contains-append_right row (concat g) c (child_of_parent g p c k)
 
 -- no member stands twice
 abbrev pub IsRepeatFree : List ℕ → Type 0
@@ -50,6 +50,6 @@ repeat_free_parts xs ys c r a b =
 pub one_parent : (g : List (List ℕ)) → IsRepeatFree (concat g) → HasOneParent g
 one_parent [] r p q c k l = absurd (contains_none c k)
 one_parent (row ∷ g) r zero zero c k l = refl
-one_parent (row ∷ g) r zero (suc q) c k l = absurd (repeat_free_parts row (concat g) c r k (child_from_kid g q c l))
-one_parent (row ∷ g) r (suc p) zero c k l = absurd (repeat_free_parts row (concat g) c r l (child_from_kid g p c k))
+one_parent (row ∷ g) r zero (suc q) c k l = absurd (repeat_free_parts row (concat g) c r k (child_of_parent g q c l))
+one_parent (row ∷ g) r (suc p) zero c k l = absurd (repeat_free_parts row (concat g) c r l (child_of_parent g p c k))
 one_parent (row ∷ g) r (suc p) (suc q) c k l = ap suc (one_parent g (repeat_free_rest row (concat g) r) p q c k l)

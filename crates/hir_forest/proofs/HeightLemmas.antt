@@ -8,16 +8,16 @@ use Rattle.std.proofs.lemmas.Map.Steps.{length-le_from_distinct_below}
 use Rattle.std.specs.List.{concat}
 use Rattle.hir_forest.specs.declared.roots.Ends.{Ends}
 use Rattle.hir_forest.specs.declared.roots.Root.{Root}
-use Rattle.hir_forest.specs.Forest.{IsKid, Climbs, IsTop, HasOneParent, IsForest}
+use Rattle.hir_forest.specs.Forest.{IsChild, Climbs, IsTop, HasOneParent, IsForest}
 use Rattle.hir_forest.specs.Faults.{forest_fault}
 use Rattle.hir_forest.specs.Height.{largest, height_within, height}
-use Rattle.hir_forest.proofs.ForestLemmas.{parent_in, one_parent, IsRepeatFree-from_new, child_from_kid}
+use Rattle.hir_forest.proofs.ForestLemmas.{parent_in, one_parent, IsRepeatFree-from_new, child_of_parent}
 
 -- two chains that end have one length
 same_length : (g : List (List ℕ)) → HasOneParent g → (a b c t u : ℕ) → Climbs g a c t → IsTop g t → Climbs g b c u → IsTop g u → a ≡ b
 same_length g one zero zero c t u x top y top' = refl
-same_length g one zero (suc b) c t u x top y top' = absurd (top y.0 (subst (IsKid g y.0) x y.1))
-same_length g one (suc a) zero c t u x top y top' = absurd (top' x.0 (subst (IsKid g x.0) y x.1))
+same_length g one zero (suc b) c t u x top y top' = absurd (top y.0 (subst (IsChild g y.0) x y.1))
+same_length g one (suc a) zero c t u x top y top' = absurd (top' x.0 (subst (IsChild g x.0) y x.1))
 same_length g one (suc a) (suc b) c t u x top y top' =
     let e = one y.0 x.0 c y.1 x.1 in
     ap suc (same_length g one a b x.0 t u x.2 top (subst (λ (q : ℕ). Climbs g b q u) e y.2) top')
@@ -89,23 +89,23 @@ climb_short g f k c p x h =
     omega arith
 
 -- a way down, step by step from above
-pub extend : (g : List (List ℕ)) (k c p q : ℕ) → Climbs g k c p → IsKid g q p → Climbs g (suc k) c q
-extend g zero c p q x e = (q, subst (IsKid g q) (sym x) e, refl)
+pub extend : (g : List (List ℕ)) (k c p q : ℕ) → Climbs g k c p → IsChild g q p → Climbs g (suc k) c q
+extend g zero c p q x e = (q, subst (IsChild g q) (sym x) e, refl)
 extend g (suc k) c p q x e = (x.0, x.1, extend g k x.0 p q x.2 e)
 
 -- each way down from n has fewer steps than depth
 abbrev IsShort : List (List ℕ) → ℕ → ℕ → Type 0
 IsShort g depth n = (k c : ℕ) → Climbs g k c n → k < depth
 
-short_kid : (g : List (List ℕ)) (depth n k : ℕ) → IsShort g (suc depth) n → IsKid g n k → IsShort g depth k
-short_kid g depth n k w e j c x = let s = w (suc j) c (extend g j c k n x e) in omega arith
+short_child : (g : List (List ℕ)) (depth n k : ℕ) → IsShort g (suc depth) n → IsChild g n k → IsShort g depth k
+short_child g depth n k w e j c x = let s = w (suc j) c (extend g j c k n x e) in omega arith
 
 all_short : (g : List (List ℕ)) → IsForest g → (n : ℕ) → n < length g → IsShort g (length g) n
 all_short g f n h k c x = climb_short g f k c n x (start_in g f k c n x h)
   where
     start_in : (g : List (List ℕ)) → IsForest g → (k c p : ℕ) → Climbs g k c p → p < length g → c < length g
     start_in g f zero c p x h = subst (λ (m : ℕ). m < length g) (sym x) h
-    start_in g f (suc k) c p x h = f.kids_within x.0 c x.1
+    start_in g f (suc k) c p x h = f.children_within x.0 c x.1
 
 -- functions that agree on a list's members
 map_agree : (f h : ℕ → ℕ) (xs : List ℕ) → ((x : ℕ) → Contains xs x → f x ≡ h x) → map f xs ≡ map h xs
@@ -121,22 +121,22 @@ stable g zero e n v w = absurd (let z = v 0 n refl in omega arith)
 stable g (suc d) zero n v w = absurd (let z = w 0 n refl in omega arith)
 stable g (suc d) (suc e) n v w =
     ap (λ (xs : List ℕ). suc (largest xs))
-    (map_agree (height_within g d) (height_within g e) (get_or g n []) (λ k h. stable g d e k (short_kid g d n k v h) (short_kid g e n k w h)))
+    (map_agree (height_within g d) (height_within g e) (get_or g n []) (λ k h. stable g d e k (short_child g d n k v h) (short_child g e n k w h)))
 
 largest_of : (f : ℕ → ℕ) (xs : List ℕ) (x : ℕ) → Contains xs x → f x ≤ largest (map f xs)
 largest_of f [] x c = absurd (omega (arith, c.1))
 largest_of f (y ∷ xs) x c = ⊎_elim (λ e. subst (λ (z : ℕ). f z ≤ largest (map f (y ∷ xs))) e (omega arith)) (λ d. let h = largest_of f xs x d in omega arith) (contains_cons y xs x c)
 
-falls_within : (g : List (List ℕ)) (depth p c : ℕ) → IsShort g depth p → IsKid g p c → height_within g depth c < height_within g depth p
+falls_within : (g : List (List ℕ)) (depth p c : ℕ) → IsShort g depth p → IsChild g p c → height_within g depth c < height_within g depth p
 falls_within g zero p c w k = absurd (let z = w 0 p refl in omega arith)
 falls_within g (suc d) p c w k =
-    let low : IsShort g d c = short_kid g d p c w k in
+    let low : IsShort g d c = short_child g d p c w k in
     let same = stable g (suc d) d c (λ j a x. let z = low j a x in omega arith) low in
     let in' = largest_of (height_within g d) (get_or g p []) c k in
     rw same (omega arith)
 
--- a node stands higher than its kids
-pub height_falls : (g : List (List ℕ)) → IsForest g → (p c : ℕ) → IsKid g p c → height g c < height g p
+-- a node stands higher than its children
+pub height_falls : (g : List (List ℕ)) → IsForest g → (p c : ℕ) → IsChild g p c → height g c < height g p
 unfolding height
 height_falls g f p c k = falls_within g (length g) p c (all_short g f p (parent_in g p c k)) k
 
@@ -159,6 +159,6 @@ unfolding forest_fault
 forest_from_none g lengths roots within h = record {
   one_parent = one_parent g (IsRepeatFree-from_new (concat g) h.0);
   each_once = h.0;
-  kids_within = λ p c k. All-contains (λ x. x < length g) (concat g) c within (child_from_kid g p c k);
+  children_within = λ p c k. All-contains (λ x. x < length g) (concat g) c within (child_of_parent g p c k);
   chains_end = h.1.0;
 }

@@ -1,20 +1,20 @@
--- A graph of nodes numbered from 0, given by the list of each node's kids, and when it is a forest.
--- An edge leads from a node to one of its kids; edges go in order by parent, and then by place among its kids.
+-- A graph of nodes numbered from 0, given by the list of each node's children, and when it is a forest.
+-- An edge leads from a node to one of its children; edges go in order by parent, and then by place among its children.
 use Rattle.std.specs.Prelude.{◌≡◌, ℕ, zero, suc, ◌<◌, ◌↔◌, Bool, true, false, List, [], length, take, slice_index, slice_index_or, Contains}
 use Rattle.std.specs.List.{concat}
 
--- c is a kid of p
-abbrev pub IsKid : List (List ℕ) → ℕ → ℕ → Type 0
-IsKid g p c = Contains (slice_index_or g p []) c
+-- c is a child of p
+abbrev pub IsChild : List (List ℕ) → ℕ → ℕ → Type 0
+IsChild g p c = Contains (slice_index_or g p []) c
 
 -- k steps, each from a node to a parent, lead from c to p
 abbrev pub Climbs : List (List ℕ) → ℕ → ℕ → ℕ → Type 0
 Climbs g zero c p = c ≡ p
-Climbs g (suc k) c p = (q : ℕ) × IsKid g q c × Climbs g k q p
+Climbs g (suc k) c p = (q : ℕ) × IsChild g q c × Climbs g k q p
 
 -- p has no parent
 abbrev pub IsTop : List (List ℕ) → ℕ → Type 0
-IsTop g p = (q : ℕ) → IsKid g q p → ⊥
+IsTop g p = (q : ℕ) → IsChild g q p → ⊥
 
 -- some number of steps leads from c to a node without a parent
 abbrev pub ChainEnds : List (List ℕ) → ℕ → Type 0
@@ -26,21 +26,21 @@ LiesUnder g c r = (k : ℕ) × Climbs g (suc k) c r
 
 -- each node has one parent at most
 abbrev pub HasOneParent : List (List ℕ) → Type 0
-HasOneParent g = (p q c : ℕ) → IsKid g p c → IsKid g q c → p ≡ q
+HasOneParent g = (p q c : ℕ) → IsChild g p c → IsChild g q c → p ≡ q
 
 -- no child is twice among the children of all edges
 abbrev pub HasEachOnce : List (List ℕ) → Type 0
 HasEachOnce g = (e : ℕ) → e < length (concat g) → Contains (take e (concat g)) (slice_index (concat g) e) → ⊥
 
--- each kid is a node
-abbrev pub HasKidsWithin : List (List ℕ) → Type 0
-HasKidsWithin g = (p c : ℕ) → IsKid g p c → c < length g
+-- each child is a node
+abbrev pub HasChildrenWithin : List (List ℕ) → Type 0
+HasChildrenWithin g = (p c : ℕ) → IsChild g p c → c < length g
 
--- each node has one parent at most and is its kid once, and its chain of parents ends
+-- each node has one parent at most and is its child once, and its chain of parents ends
 pub record IsForest (g : List (List ℕ)) : Type 0 where
   pub one_parent : HasOneParent g
   pub each_once : HasEachOnce g
-  pub kids_within : HasKidsWithin g
+  pub children_within : HasChildrenWithin g
   pub chains_end : (n : ℕ) → n < length g → ChainEnds g n
 
 -- the table marks c

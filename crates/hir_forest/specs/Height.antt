@@ -1,4 +1,4 @@
--- The height of a node: the number of nodes on the longest way down from it. In a forest it falls from a node to its kids.
+-- The height of a node: the number of nodes on the longest way down from it. In a forest it falls from a node to its children.
 use Rattle.std.specs.Prelude.{ℕ, zero, suc, List, [], ◌∷◌, length, map, slice_index_or}
 use Rattle.std.proofs.Common.{max}
 

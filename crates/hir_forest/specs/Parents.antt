@@ -6,7 +6,7 @@ use Rattle.hir_forest.specs.declared.parent_table.Numbers.TheVariants.{Narrow, W
 use Rattle.hir_forest.specs.declared.roots.ForestFault.{ForestFault}
 use Rattle.hir_forest.specs.declared.roots.ForestFault.TheVariants.{SharedChild}
 use Rattle.hir_forest.specs.Verdict.{first_below}
-use Rattle.hir_forest.specs.Forest.{IsKid, Climbs, Marks, LiesUnderMarked}
+use Rattle.hir_forest.specs.Forest.{IsChild, Climbs, Marks, LiesUnderMarked}
 use Rattle.hir_forest.specs.Faults.{edge_fault}
 
 -- the parent that a number of the table stands for: 0 stands for none
@@ -30,10 +30,10 @@ AreSound (Wide numbers) = NameNodes numbers.items
 abbrev pub HasParent : List (Option ℕ) → ℕ → ℕ → Type 0
 HasParent parents c p = slice_index_or parents c None ≡ Some p
 
--- each node of the graph has the parent whose kid it is
+-- each node of the graph has the parent whose child it is
 pub record HasParents (g : List (List ℕ)) (parents : List (Option ℕ)) : Type 0 where
   pub nodes : length parents ≡ length g
-  pub kids : (c p : ℕ) → HasParent parents c p ↔ IsKid g p c
+  pub children : (c p : ℕ) → HasParent parents c p ↔ IsChild g p c
 
 -- so many rows of a graph, the parents of its nodes, and the child of the first edge that leads to the child of an earlier one
 pub record Parentage : Type 0 where
@@ -49,7 +49,7 @@ shared_fault (Some child) = Some (SharedChild child)
 pub record IsParentageOf (g : List (List ℕ)) (t : Parentage) : Type 0 where
   pub rows : t.rows ≡ length g
   pub shared : first_below (length (concat g)) (edge_fault (concat g)) (shared_fault t.shared)
-  pub parents : t.shared ≡ None → (c p : ℕ) → HasParent t.parents c p ↔ IsKid g p c
+  pub parents : t.shared ≡ None → (c p : ℕ) → HasParent t.parents c p ↔ IsChild g p c
 
 -- r is on the chain of parents from c, which begins with c
 abbrev pub IsOnChain : List (List ℕ) → ℕ → ℕ → Type 0

@@ -52,7 +52,7 @@ fn mark_chain(parents: &ParentTable, marked: &mut [bool], node: usize)
 
 /// Marks each node from `from` up to `to` that has no parent or a marked one, the last node first.
 ///
-/// Most parents stand behind their kids, so going from the last node down finds them marked, and few nodes are left to climb from.
+/// Most parents stand behind their children, so going from the last node down finds them marked, and few nodes are left to climb from.
 fn mark_down(parents: &ParentTable, ends: &mut [bool], from: usize, to: usize)
     requires nodes { length ends.old ≡ length parents.now }
     requires to { to ≤ length parents.now }

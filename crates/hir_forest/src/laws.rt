@@ -4,8 +4,8 @@
 ghost use Rattle.std.specs.Prelude.{◌≡◌, ℕ, ◌<◌, ◌≤◌, List, [], ◌∷◌, ◌++◌, Option, None, Some, All, length};
 ghost use Rattle.std.specs.Bool.{Decides};
 ghost use Rattle.std.specs.List.{concat};
-ghost use Rattle.hir_forest.specs.Rows.{with_kids};
-ghost use Rattle.hir_forest.specs.Forest.{IsKid, Climbs, IsForest};
+ghost use Rattle.hir_forest.specs.Rows.{with_children};
+ghost use Rattle.hir_forest.specs.Forest.{IsChild, Climbs, IsForest};
 ghost use Rattle.hir_forest.specs.Faults.{IsWithin, forest_fault};
 ghost use Rattle.hir_forest.specs.Height.{height};
 
@@ -19,7 +19,7 @@ pub fn roots_are_compared_by_all_fields()
 {}
 
 /// A graph with its roots has one first fault at most.
-pub fn fault_is_one()
+pub fn fault_unique()
     ensures { (g : List (List ℕ)) (lengths : Ends) (roots : List Root) (a b : Option ForestFault)
         → forest_fault g lengths roots a → forest_fault g lengths roots b → a ≡ b }
 {}
@@ -31,16 +31,16 @@ pub fn fault_is_within()
         → IsWithin (length g) (length roots) fault }
 {}
 
-/// A graph without a fault is a forest: each node has one parent at most and is its kid once,
+/// A graph without a fault is a forest: each node has one parent at most and is its child once,
 /// and each chain of parents ends.
 pub fn faultless_is_forest()
     ensures { (g : List (List ℕ)) (lengths : Ends) (roots : List Root)
         → All (λ c. c < length g) (concat g) → forest_fault g lengths roots None → IsForest g }
 {}
 
-/// In a forest the height falls from each node to its kids.
-pub fn kids_are_lower()
-    ensures { (g : List (List ℕ)) → IsForest g → (p c : ℕ) → IsKid g p c → height g c < height g p }
+/// In a forest the height falls from each node to its children.
+pub fn children_are_lower()
+    ensures { (g : List (List ℕ)) → IsForest g → (p c : ℕ) → IsChild g p c → height g c < height g p }
 {}
 
 /// No node is higher than there are nodes.
@@ -54,11 +54,11 @@ pub fn ways_are_short()
         → (k c p : ℕ) → c < length g → Climbs g k c p → k < length g }
 {}
 
-/// Adding kids to the last row in parts is adding them at once, a new row takes them all, and no row is added.
-pub fn kid_rows_add_up()
+/// Adding children to the last row in parts is adding them at once, a new row takes them all, and no row is added.
+pub fn child_rows_add_up()
     ensures more { (rows : List (List ℕ)) (some more : List ℕ)
-        → with_kids (with_kids rows some) more ≡ with_kids rows (some ++ more) }
-    ensures fresh { (rows : List (List ℕ)) (kids : List ℕ)
-        → with_kids (rows ++ [] ∷ []) kids ≡ rows ++ kids ∷ [] }
-    ensures length { (rows : List (List ℕ)) (kids : List ℕ) → length (with_kids rows kids) ≡ length rows }
+        → with_children (with_children rows some) more ≡ with_children rows (some ++ more) }
+    ensures fresh { (rows : List (List ℕ)) (children : List ℕ)
+        → with_children (rows ++ [] ∷ []) children ≡ rows ++ children ∷ [] }
+    ensures length { (rows : List (List ℕ)) (children : List ℕ) → length (with_children rows children) ≡ length rows }
 {}

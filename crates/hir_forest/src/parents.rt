@@ -1,8 +1,8 @@
-//! The parents of a graph's nodes, noted edge by edge: the first child that is shared shows at once, and no kids are kept.
-//! Rows are begun one after the other, and kids added to the last.
+//! The parents of a graph's nodes, noted edge by edge: the first child that is shared shows at once, and no children are kept.
+//! Rows are begun one after the other, and children added to the last.
 
 ghost use Rattle.std.specs.Prelude.{◌≡◌, ℕ, ◌+◌, ◌<◌, ◌^◌, ◌↔◌, List, [], ◌∷◌, ◌++◌, None, length, IfOk, IsTrue};
-ghost use Rattle.hir_forest.specs.Rows.{with_kids};
+ghost use Rattle.hir_forest.specs.Rows.{with_children};
 ghost use Rattle.hir_forest.specs.Forest.{Marks};
 ghost use Rattle.hir_forest.specs.Parents.{HasParent, IsParentageOf};
 
@@ -72,20 +72,20 @@ impl Parents {
         self.rows += 1;
     }
 
-    /// Adds a kid at the end of the last row. There must be a row, and the kid must be one of the nodes.
-    pub fn push_kid(&mut self, kid: usize)
+    /// Adds a child at the end of the last row. There must be a row, and the child must be one of the nodes.
+    pub fn push_child(&mut self, child: usize)
         requires some { 0 < self.old.rows }
-        requires within { kid < length self.old.parents }
+        requires within { child < length self.old.parents }
         ensures noted { (g : List (List ℕ)) → IsParentageOf g self.old
-            → IsParentageOf (with_kids g (kid ∷ [])) self.new }
+            → IsParentageOf (with_children g (child ∷ [])) self.new }
         ensures rows { self.new.rows ≡ self.old.rows }
         ensures room { length self.new.parents ≡ length self.old.parents }
     {
-        if self.table.parent(kid).is_some() {
-            self.shared = self.shared.or(Some(kid));
+        if self.table.parent(child).is_some() {
+            self.shared = self.shared.or(Some(child));
             return;
         }
-        self.table.set_parent(kid, self.rows - 1);
+        self.table.set_parent(child, self.rows - 1);
     }
 
     /// Whether no marked node has a parent. There must be a mark for each node.

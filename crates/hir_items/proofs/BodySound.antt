@@ -10,16 +10,16 @@ use Rattle.hir_forest.proofs.VerdictLemmas.{unless-same, first_below-same}
 use Rattle.hir_node.specs.declared.node_id.NodeId.{NodeId}
 use Rattle.hir_node.specs.declared.node_id.NodeId.TheVariants as node
 use Rattle.hir_faults.specs.Sizes.{HasNode}
-use Rattle.hir_faults.specs.Nodes.{Nodes, Has, sizes_of, kids_of}
-use Rattle.hir_faults.specs.Down.{KidsFall}
+use Rattle.hir_faults.specs.Nodes.{Nodes, Has, sizes_of, children_of}
+use Rattle.hir_faults.specs.Recursion.{RankDecreases}
 use Rattle.hir_expr_store.specs.Contents.{Contents, rooted_of, contents_fault}
-use Rattle.hir_expr_store.specs.Under.{Under, itself, below, LiesUnderOther, LieApart}
-use Rattle.hir_expr_store.specs.NodeSets.{MarkedNodes, IsIn, Gains, NoKidIn}
+use Rattle.hir_expr_store.specs.Under.{Under, itself, below, LiesUnderOther, AreDisjoint}
+use Rattle.hir_expr_store.specs.NodeSets.{MarkedNodes, IsIn, Gains, NoChildIn}
 use Rattle.hir_faults.specs.Sound.{RootsStandApart}
 use Rattle.hir_items.specs.declared.formals.Param.{Param}
 use Rattle.hir_items.specs.declared.body_fault.BodyFault.{BodyFault}
 use Rattle.hir_items.specs.declared.body_fault.BodyFault.TheVariants.{NoRoot, SelfOutOfRange, ParamOutOfRange, ParamRepeated, ParamUnder, RootInParam}
-use Rattle.hir_items.specs.Bodies.{BodyContents, formals_of, user_written_of, last_root, tops_of, tops, AreBelow, range_fault, repeated_fault, under_fault, fault_at_root, apart_fault, body_fault, GainsAll}
+use Rattle.hir_items.specs.Bodies.{BodyContents, formals_of, user_written_of, last_root, entry_nodes_of, entry_nodes, AreBelow, range_fault, repeated_fault, under_fault, fault_at_root, apart_fault, body_fault, GainsAll}
 use Rattle.hir_items.proofs.BodyLemmas.{pat_of_node, node_of_pat}
 
 -- where a node lies under two nodes, one of the two lies under the other
@@ -27,20 +27,20 @@ abbrev pub OneIsUnderOther : Nodes → Type 0
 OneIsUnderOther s = (n a b : NodeId) → Has s a → Has s b → Under s n a → Under s n b → Under s a b ⊎ Under s b a
 
 -- the last root is an expression that is there
-pub root_there : (c : Contents) → RootsStandApart (rooted_of c) → (root : ℕ) → last_root c ≡ Some root → root < length c.nodes.exprs
-root_there c stand root e =
+pub root_in_range : (c : Contents) → RootsStandApart (rooted_of c) → (root : ℕ) → last_root c ≡ Some root → root < length c.nodes.exprs
+root_in_range c stand root e =
     let xs = root_nodes c.roots in
     let i = length xs - 1 in
     let h = slice_get_within xs i root e in
-    subst (λ (n : ℕ). n < length c.nodes.exprs) (get_or_from_slice_get xs i root 0 e) (stand.there i (omega (arith, length-map c.roots (λ r. r.node))))
+    subst (λ (n : ℕ). n < length c.nodes.exprs) (get_or_from_slice_get xs i root 0 e) (stand.in_range i (omega (arith, length-map c.roots (λ r. r.node))))
 
 -- each formal is there
-pub all_there : (limit : ℕ) (params : List (Param ℕ)) → ((i : ℕ) → i < length params → range_fault limit params i None) → All (λ p. p.formal < limit) params
-all_there limit params none = λ i d h. subst (λ (n : ℕ). n < limit) (get_or-map (λ p. p.formal) params i d 0 h) (none i h).0
+pub all_in_range : (limit : ℕ) (params : List (Param ℕ)) → ((i : ℕ) → i < length params → range_fault limit params i None) → All (λ p. p.formal < limit) params
+all_in_range limit params none = λ i d h. subst (λ (n : ℕ). n < limit) (get_or-map (λ p. p.formal) params i d 0 h) (none i h).0
 
 -- and so is what the user wrote
-pub both_there : (limit : ℕ) (params : List (Param ℕ)) → ((i : ℕ) → i < length params → range_fault limit params i None) → All (AreBelow limit) params
-both_there limit params none = λ i d h. (
+pub both_in_range : (limit : ℕ) (params : List (Param ℕ)) → ((i : ℕ) → i < length params → range_fault limit params i None) → All (AreBelow limit) params
+both_in_range limit params none = λ i d h. (
   subst (λ (n : ℕ). n < limit) (get_or-map (λ p. p.formal) params i d 0 h) (none i h).0,
   subst (λ (n : ℕ). n < limit) (get_or-map (λ p. p.user_written) params i d 0 h) (none i h).1,
 )
@@ -49,7 +49,7 @@ other_same : (s : Nodes) (A B : NodeId → Type 0) → ((r : NodeId) → Has s r
 other_same s A B same n = (λ x. (x.0, x.1, (same x.0 x.1).0 x.2, x.3, x.4), λ x. (x.0, x.1, (same x.0 x.1).1 x.2, x.3, x.4))
 
 -- another of the formals and the last root than the last root is a formal
-root_under : (s : Nodes) (params : List (Param ℕ)) (root : ℕ) → LiesUnderOther s (Contains (tops_of params root)) (node.Expr root) ↔ LiesUnderOther s (Contains (map node.Pat (formals_of params))) (node.Expr root)
+root_under : (s : Nodes) (params : List (Param ℕ)) (root : ℕ) → LiesUnderOther s (Contains (entry_nodes_of params root)) (node.Expr root) ↔ LiesUnderOther s (Contains (map node.Pat (formals_of params))) (node.Expr root)
 root_under s params root = (
   λ x. (x.0, x.1, ⊎_elim (λ m. m) (λ e. absurd (x.3 e)) (Contains-push_cases (map node.Pat (formals_of params)) (node.Expr root) x.0 x.2), x.3, x.4),
   λ x. (x.0, x.1, Contains-append_left (map node.Pat (formals_of params)) (node.Expr root ∷ []) x.0 x.2, x.3, x.4),
@@ -58,55 +58,55 @@ root_under s params root = (
 pat_in : (xs : List ℕ) (i : ℕ) → i < length xs → Contains (map node.Pat xs) (node.Pat (get_or xs i 0))
 pat_in xs i h = (i, omega (arith, length-map xs node.Pat), get_or-map node.Pat xs i 0 (node.Pat (get_or xs i 0)) h)
 
--- a node under another one is a kid
-is_kid : (s : Nodes) → KidsFall s → (n : NodeId) {r : NodeId} → Has s r → Under s n r → (n ≡ r) ⊎ ((p : NodeId) × Has s p × Contains (kids_of s p) n)
-is_kid s falls n h itself = inl refl
-is_kid s falls n h (below {k} {r} d u) = inr (⊎_elim (λ e. (r, h, subst (Contains (kids_of s r)) (sym e) d)) (λ x. x) (is_kid s falls n (falls.there r h k d) u))
+-- a node under another one is a child
+is_child : (s : Nodes) → RankDecreases s → (n : NodeId) {r : NodeId} → Has s r → Under s n r → (n ≡ r) ⊎ ((p : NodeId) × Has s p × Contains (children_of s p) n)
+is_child s falls n h itself = inl refl
+is_child s falls n h (below {k} {r} d u) = inr (⊎_elim (λ e. (r, h, subst (Contains (children_of s r)) (sym e) d)) (λ x. x) (is_child s falls n (falls.in_range r h k d) u))
 
-no_other : (s : Nodes) (set : MarkedNodes) → KidsFall s → NoKidIn s set → (n : NodeId) → IsIn set n → (Among : NodeId → Type 0) → LiesUnderOther s Among n → ⊥
-no_other s set falls apart n i Among x = ⊎_elim x.3 (λ k. apart k.0 n k.1 k.2 i) (is_kid s falls n x.1 x.4)
+no_other : (s : Nodes) (set : MarkedNodes) → RankDecreases s → NoChildIn s set → (n : NodeId) → IsIn set n → (Among : NodeId → Type 0) → LiesUnderOther s Among n → ⊥
+no_other s set falls apart n i Among x = ⊎_elim x.3 (λ k. apart k.0 n k.1 k.2 i) (is_child s falls n x.1 x.4)
 
 module _ (s : Nodes) (params : List (Param ℕ)) (root : ℕ) (old mid new : MarkedNodes) (size : old.sizes ≡ sizes_of s) (none : (n : NodeId) → IsIn old n → ⊥)
     (all : GainsAll old (map node.Pat (formals_of params)) mid) (one : Gains mid (node.Expr root) new) where
   -- the set has the formals and the last root
-  tops_in : (n : NodeId) → Has s n → IsIn new n ↔ Contains (tops_of params root) n
-  tops_in n h =
+  entry_nodes_in : (n : NodeId) → Has s n → IsIn new n ↔ Contains (entry_nodes_of params root) n
+  entry_nodes_in n h =
       let old_has : HasNode old.sizes n = subst (λ z. HasNode z n) (sym size) h in
       let mid_has : HasNode mid.sizes n = subst (λ z. HasNode z n) (sym all.0) old_has in
       let more = one.members n mid_has in
       let before = all.1 n old_has in
       let fs = map node.Pat (formals_of params) in (
-        λ m. ⊎_elim (λ k. ⊎_elim (λ o. absurd (none n o)) (λ f. Contains-append_left fs (node.Expr root ∷ []) n f) (before.0 k)) (λ e. subst (Contains (tops_of params root)) (sym e) (Contains-push fs (node.Expr root))) (more.0 m),
+        λ m. ⊎_elim (λ k. ⊎_elim (λ o. absurd (none n o)) (λ f. Contains-append_left fs (node.Expr root ∷ []) n f) (before.0 k)) (λ e. subst (Contains (entry_nodes_of params root)) (sym e) (Contains-push fs (node.Expr root))) (more.0 m),
         λ m. more.1 (⊎_elim (λ f. inl (before.1 (inr f))) (λ e. inr (sym e)) (Contains-push_cases fs (node.Expr root) n m)),
       )
 
-  -- where no kid is in the set, none of these lies under another
-  module _ (falls : KidsFall s) (apart : NoKidIn s new) where
-    pub none_under : All (λ p. p.formal < length s.pats) params → first_below (length params) (under_fault (LiesUnderOther s (Contains (tops_of params root))) (formals_of params)) None
-    none_under there = λ i h l.
+  -- where no child is in the set, none of these lies under another
+  module _ (falls : RankDecreases s) (apart : NoChildIn s new) where
+    pub none_under : All (λ p. p.formal < length s.pats) params → first_below (length params) (under_fault (LiesUnderOther s (Contains (entry_nodes_of params root))) (formals_of params)) None
+    none_under in_range = λ i h l.
         let p = get_or params i record { formal = 0; user_written = 0 } in
         let formal : p.formal ≡ get_or (formals_of params) i 0 = sym (get_or-map (λ p. p.formal) params i record { formal = 0; user_written = 0 } 0 h) in
-        let has : Has s (node.Pat (get_or (formals_of params) i 0)) = subst (λ (n : ℕ). n < length s.pats) formal (there i record { formal = 0; user_written = 0 } h) in
-        let member : Contains (tops_of params root) (node.Pat (get_or (formals_of params) i 0)) = Contains-append_left (map node.Pat (formals_of params)) (node.Expr root ∷ []) (node.Pat (get_or (formals_of params) i 0)) (pat_in (formals_of params) i (let n = length-map params (λ p. p.formal) in omega arith)) in
-        no_other s new falls apart (node.Pat (get_or (formals_of params) i 0)) ((tops_in (node.Pat (get_or (formals_of params) i 0)) has).1 member) (Contains (tops_of params root)) l
+        let has : Has s (node.Pat (get_or (formals_of params) i 0)) = subst (λ (n : ℕ). n < length s.pats) formal (in_range i record { formal = 0; user_written = 0 } h) in
+        let member : Contains (entry_nodes_of params root) (node.Pat (get_or (formals_of params) i 0)) = Contains-append_left (map node.Pat (formals_of params)) (node.Expr root ∷ []) (node.Pat (get_or (formals_of params) i 0)) (pat_in (formals_of params) i (let n = length-map params (λ p. p.formal) in omega arith)) in
+        no_other s new falls apart (node.Pat (get_or (formals_of params) i 0)) ((entry_nodes_in (node.Pat (get_or (formals_of params) i 0)) has).1 member) (Contains (entry_nodes_of params root)) l
 
     pub root_not_under : root < length s.exprs → LiesUnderOther s (Contains (map node.Pat (formals_of params))) (node.Expr root) → ⊥
-    root_not_under h = no_other s new falls apart (node.Expr root) ((tops_in (node.Expr root) h).1 (Contains-push (map node.Pat (formals_of params)) (node.Expr root))) (Contains (map node.Pat (formals_of params)))
+    root_not_under h = no_other s new falls apart (node.Expr root) ((entry_nodes_in (node.Expr root) h).1 (Contains-push (map node.Pat (formals_of params)) (node.Expr root))) (Contains (map node.Pat (formals_of params)))
 
 module _ (s : Nodes) (params : List (Param ℕ)) (root : ℕ) (old mid new found : MarkedNodes) (size : old.sizes ≡ sizes_of s) (none : (n : NodeId) → IsIn old n → ⊥)
     (all : GainsAll old (map node.Pat (formals_of params)) mid) (one : Gains mid (node.Expr root) new) (right : (n : NodeId) → Has s n → IsIn found n ↔ LiesUnderOther s (IsIn new) n) where
-  found_is : (n : NodeId) → Has s n → IsIn found n ↔ LiesUnderOther s (Contains (tops_of params root)) n
+  found_is : (n : NodeId) → Has s n → IsIn found n ↔ LiesUnderOther s (Contains (entry_nodes_of params root)) n
   found_is n h =
       let r = right n h in
-      let o = other_same s (IsIn new) (Contains (tops_of params root)) (tops_in s params root old mid new size none all one) n in
+      let o = other_same s (IsIn new) (Contains (entry_nodes_of params root)) (entry_nodes_in s params root old mid new size none all one) n in
       (λ m. o.0 (r.0 m), λ l. r.1 (o.1 l))
 
   pub under_told : All (λ p. p.formal < length s.pats) params → (o : Option BodyFault) → first_below (length params) (under_fault (IsIn found) (formals_of params)) o
-      → first_below (length params) (under_fault (LiesUnderOther s (Contains (tops_of params root))) (formals_of params)) o
-  under_told there = first_below-same (length params) (under_fault (IsIn found) (formals_of params)) (under_fault (LiesUnderOther s (Contains (tops_of params root))) (formals_of params)) (λ i h a v.
+      → first_below (length params) (under_fault (LiesUnderOther s (Contains (entry_nodes_of params root))) (formals_of params)) o
+  under_told in_range = first_below-same (length params) (under_fault (IsIn found) (formals_of params)) (under_fault (LiesUnderOther s (Contains (entry_nodes_of params root))) (formals_of params)) (λ i h a v.
       let p = get_or params i record { formal = 0; user_written = 0 } in
       let formal : p.formal ≡ get_or (formals_of params) i 0 = sym (get_or-map (λ p. p.formal) params i record { formal = 0; user_written = 0 } 0 h) in
-      let f = found_is (node.Pat (get_or (formals_of params) i 0)) (subst (λ (n : ℕ). n < length s.pats) formal (there i record { formal = 0; user_written = 0 } h)) in
+      let f = found_is (node.Pat (get_or (formals_of params) i 0)) (subst (λ (n : ℕ). n < length s.pats) formal (in_range i record { formal = 0; user_written = 0 } h)) in
       unless-same (ParamUnder i) _ _ (λ no l. no (f.1 l), λ no m. no (f.0 m)) a v)
 
   pub root_told : root < length s.exprs → IsIn found (node.Expr root) ↔ LiesUnderOther s (Contains (map node.Pat (formals_of params))) (node.Expr root)
@@ -121,7 +121,7 @@ module _ (s : Nodes) (params : List (Param ℕ)) (root : ℕ) where
   Repeats = first_below (length params) (repeated_fault (formals_of params))
 
   abbrev Under' : Option BodyFault → Type 0
-  Under' = first_below (length params) (under_fault (LiesUnderOther s (Contains (tops_of params root))) (formals_of params))
+  Under' = first_below (length params) (under_fault (LiesUnderOther s (Contains (entry_nodes_of params root))) (formals_of params))
 
   pub apart_repeated : (f : BodyFault) → Repeats (Some f) → apart_fault s params root (Some f)
   unfolding apart_fault
@@ -173,38 +173,38 @@ top_at (f ∷ fs) root zero a e = inl (omega arith, cc)
 top_at (f ∷ fs) root (suc i) a e = ⊎_elim (λ x. inl (omega (arith, x.0), x.1)) (λ x. inr (ap suc x.0, x.1)) (top_at fs root i a e)
 
 module _ (c : Contents) (params : List (Param ℕ)) (root : ℕ) (in_range : All (λ p. p.formal < length c.nodes.pats) params) (root_in : root < length c.nodes.exprs) where
-  formal_there : (i : ℕ) → i < length (formals_of params) → get_or (formals_of params) i 0 < length c.nodes.pats
-  formal_there i h =
+  formal_in_range : (i : ℕ) → i < length (formals_of params) → get_or (formals_of params) i 0 < length c.nodes.pats
+  formal_in_range i h =
       let k : i < length params = omega (arith, length-map params (λ p. p.formal)) in
       let d : Param ℕ = record { formal = 0; user_written = 0 } in
       subst (λ (n : ℕ). n < length c.nodes.pats) (sym (get_or-map (λ p. p.formal) params i d 0 k)) (in_range i d k)
 
-  pub top_there : (n : NodeId) → Contains (tops_of params root) n → Has c.nodes n
-  top_there n m =
+  pub top_in_range : (n : NodeId) → Contains (entry_nodes_of params root) n → Has c.nodes n
+  top_in_range n m =
       ⊎_elim
       (λ f.
       let h : f.0 < length (formals_of params) = omega (arith, f.1, length-map (formals_of params) node.Pat) in
       let e : node.Pat (get_or (formals_of params) f.0 0) ≡ n = sym (get_or-map node.Pat (formals_of params) f.0 0 n h) ∙ f.2 in
-      subst (Has c.nodes) e (formal_there f.0 h))
+      subst (Has c.nodes) e (formal_in_range f.0 h))
       (λ e. subst (Has c.nodes) e root_in)
       (Contains-push_cases (map node.Pat (formals_of params)) (node.Expr root) n m)
 
   module _ (none : apart_fault c.nodes params root None) (under_two : OneIsUnderOther c.nodes) where
     parts : first_below (length params) (repeated_fault (formals_of params)) None
-        × first_below (length params) (under_fault (LiesUnderOther c.nodes (Contains (tops_of params root))) (formals_of params)) None
+        × first_below (length params) (under_fault (LiesUnderOther c.nodes (Contains (entry_nodes_of params root))) (formals_of params)) None
         × (LiesUnderOther c.nodes (Contains (map node.Pat (formals_of params))) (node.Expr root) → ⊥)
     unfolding apart_fault
     parts = (none.0, none.1.0, none.1.1)
 
     -- none lies under another
-    lone : (x : NodeId) → Contains (tops_of params root) x → LiesUnderOther c.nodes (Contains (tops_of params root)) x → ⊥
+    lone : (x : NodeId) → Contains (entry_nodes_of params root) x → LiesUnderOther c.nodes (Contains (entry_nodes_of params root)) x → ⊥
     lone x m l =
         ⊎_elim
         (λ f.
         let h : f.0 < length (formals_of params) = omega (arith, f.1, length-map (formals_of params) node.Pat) in
         let e : node.Pat (get_or (formals_of params) f.0 0) ≡ x = sym (get_or-map node.Pat (formals_of params) f.0 0 x h) ∙ f.2 in
-        parts.1 f.0 (omega (arith, length-map params (λ p. p.formal))) (subst (LiesUnderOther c.nodes (Contains (tops_of params root))) (sym e) l))
-        (λ e. parts.2 ((root_under c.nodes params root).0 (subst (LiesUnderOther c.nodes (Contains (tops_of params root))) (sym e) l)))
+        parts.1 f.0 (omega (arith, length-map params (λ p. p.formal))) (subst (LiesUnderOther c.nodes (Contains (entry_nodes_of params root))) (sym e) l))
+        (λ e. parts.2 ((root_under c.nodes params root).0 (subst (LiesUnderOther c.nodes (Contains (entry_nodes_of params root))) (sym e) l)))
         (Contains-push_cases (map node.Pat (formals_of params)) (node.Expr root) x m)
 
     taken : (i j : ℕ) → i < j → j < length (formals_of params) → Contains (take j (formals_of params)) (get_or (formals_of params) i 0)
@@ -220,7 +220,7 @@ module _ (c : Contents) (params : List (Param ℕ)) (root : ℕ) (in_range : All
     no_formal : (x y : ℕ) → node.Pat x ≡ node.Expr y → ⊥
     no_formal x y e = cc
 
-    distinct : (i j : ℕ) (a b : NodeId) → i < j → slice_get (tops_of params root) i ≡ Some a → slice_get (tops_of params root) j ≡ Some b → a ≡ b → ⊥
+    distinct : (i j : ℕ) (a b : NodeId) → i < j → slice_get (entry_nodes_of params root) i ≡ Some a → slice_get (entry_nodes_of params root) j ≡ Some b → a ≡ b → ⊥
     distinct i j a b l e k same =
         let xs = formals_of params in
         ⊎_elim
@@ -233,39 +233,39 @@ module _ (c : Contents) (params : List (Param ℕ)) (root : ℕ) (in_range : All
         (λ x. ⊎_elim (λ y. absurd (omega (arith, x.0, y.0))) (λ y. absurd (omega (arith, x.0, y.0))) (top_at xs root j b k))
         (top_at xs root i a e)
 
-    pub apart : LieApart c.nodes (tops_of params root)
+    pub apart : AreDisjoint c.nodes (entry_nodes_of params root)
     apart i j a b n l e k u v =
-        let xs = tops_of params root in
+        let xs = entry_nodes_of params root in
         let first : Contains xs a = (i, slice_get_within xs i a e, get_or_from_slice_get xs i a a e) in
         let second : Contains xs b = (j, slice_get_within xs j b k, get_or_from_slice_get xs j b b k) in
         let ne = distinct i j a b l e k in
         ⊎_elim
-        (λ x. lone a first (b, top_there b second, second, ne, x))
-        (λ x. lone b second (a, top_there a first, first, (λ q. ne (sym q)), x))
-        (under_two n a b (top_there a first) (top_there b second) u v)
+        (λ x. lone a first (b, top_in_range b second, second, ne, x))
+        (λ x. lone b second (a, top_in_range a first, first, (λ q. ne (sym q)), x))
+        (under_two n a b (top_in_range a first) (top_in_range b second) u v)
 
 -- the formals and the last root of a body without a fault
 module _ (b : BodyContents) (stand : RootsStandApart (rooted_of b.store)) (none : body_fault b None) where
-  pub body_tops_there : (n : NodeId) → Contains (tops b) n → Has b.store.nodes n
-  body_tops_there n m =
+  pub body_entry_nodes_in_range : (n : NodeId) → Contains (entry_nodes b) n → Has b.store.nodes n
+  body_entry_nodes_in_range n m =
       let at = fault_is_at_root b none in
-      let m' : Contains (tops_of b.params at.0) n = rw at.1 at m in
-      top_there b.store b.params at.0 (all_there (length b.store.nodes.pats) b.params at.2.1.0) (root_there b.store stand at.0 at.1) n m'
+      let m' : Contains (entry_nodes_of b.params at.0) n = rw at.1 at m in
+      top_in_range b.store b.params at.0 (all_in_range (length b.store.nodes.pats) b.params at.2.1.0) (root_in_range b.store stand at.0 at.1) n m'
 
-  pub body_tops_apart : OneIsUnderOther b.store.nodes → LieApart b.store.nodes (tops b)
-  body_tops_apart under_two =
+  pub body_entry_nodes_apart : OneIsUnderOther b.store.nodes → AreDisjoint b.store.nodes (entry_nodes b)
+  body_entry_nodes_apart under_two =
       let at = fault_is_at_root b none in
-      rw at.1 (apart b.store b.params at.0 (all_there (length b.store.nodes.pats) b.params at.2.1.0) (root_there b.store stand at.0 at.1) at.2.1.1 under_two)
+      rw at.1 (apart b.store b.params at.0 (all_in_range (length b.store.nodes.pats) b.params at.2.1.0) (root_in_range b.store stand at.0 at.1) at.2.1.1 under_two)
 
 -- what a body without a fault names is there; `now` is the body as a caller sees it
 module _ (b : BodyContents) (none : body_fault b None) (now : BodyContents) (same : b ≡ now) where
-  pub params_there : (params : List (Param ℕ)) → params ≡ b.params → All (AreBelow (length now.store.nodes.pats)) params
-  params_there params e =
-      let there = both_there (length b.store.nodes.pats) b.params (fault_is_at_root b none).2.1.0 in
-      subst (λ (v : BodyContents). All (AreBelow (length v.store.nodes.pats)) params) same (subst (All (AreBelow (length b.store.nodes.pats))) (sym e) there)
+  pub params_in_range : (params : List (Param ℕ)) → params ≡ b.params → All (AreBelow (length now.store.nodes.pats)) params
+  params_in_range params e =
+      let in_range = both_in_range (length b.store.nodes.pats) b.params (fault_is_at_root b none).2.1.0 in
+      subst (λ (v : BodyContents). All (AreBelow (length v.store.nodes.pats)) params) same (subst (All (AreBelow (length b.store.nodes.pats))) (sym e) in_range)
 
-  pub self_there : IfSome b.self_param (AreBelow (length now.store.nodes.bindings))
-  self_there = subst (λ (v : BodyContents). IfSome b.self_param (AreBelow (length v.store.nodes.bindings))) same (fault_is_at_root b none).2.0
+  pub self_in_range : IfSome b.self_param (AreBelow (length now.store.nodes.bindings))
+  self_in_range = subst (λ (v : BodyContents). IfSome b.self_param (AreBelow (length v.store.nodes.bindings))) same (fault_is_at_root b none).2.0
 
   pub root_below : RootsStandApart (rooted_of b.store) → (root : ℕ) → last_root b.store ≡ Some root → root < length now.store.nodes.exprs
-  root_below stand root e = subst (λ (v : BodyContents). root < length v.store.nodes.exprs) same (root_there b.store stand root e)
+  root_below stand root e = subst (λ (v : BodyContents). root < length v.store.nodes.exprs) same (root_in_range b.store stand root e)

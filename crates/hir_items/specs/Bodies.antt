@@ -37,19 +37,19 @@ abbrev pub last_root : Contents → Option ℕ
 last_root c = last_of (root_nodes c.roots)
 
 -- what a body is reached from: its formals, and its last root
-abbrev pub tops_of : List (Param ℕ) → ℕ → List NodeId
-tops_of params root = map node.Pat (formals_of params) ++ node.Expr root ∷ []
+abbrev pub entry_nodes_of : List (Param ℕ) → ℕ → List NodeId
+entry_nodes_of params root = map node.Pat (formals_of params) ++ node.Expr root ∷ []
 
-abbrev pub tops : BodyContents → List NodeId
-tops b = map node.Pat (formals_of b.params) ++ option_to_list (option_map node.Expr (last_root b.store))
+abbrev pub entry_nodes : BodyContents → List NodeId
+entry_nodes b = map node.Pat (formals_of b.params) ++ option_to_list (option_map node.Expr (last_root b.store))
 
 -- the body reaches the node: it is under a formal or under the last root
 abbrev pub BodyReaches : BodyContents → NodeId → Type 0
-BodyReaches b n = IsReached b.store.nodes (tops b) n
+BodyReaches b n = IsReached b.store.nodes (entry_nodes b) n
 
 -- these nodes, listed: under the first formal, under the second and so on, and under the last root
 abbrev pub body_nodes : BodyContents → List NodeId
-body_nodes b = reached_nodes b.store.nodes (tops b)
+body_nodes b = reached_nodes b.store.nodes (entry_nodes b)
 
 -- both ids of a parameter are there
 abbrev pub AreBelow : ℕ → Param ℕ → Type 0
@@ -75,7 +75,7 @@ unfoldable pub apart_fault : Nodes → List (Param ℕ) → ℕ → Option BodyF
 apart_fault s params root =
     first_below (length params) (repeated_fault (formals_of params))
     before first_below (length params)
-    (under_fault (LiesUnderOther s (Contains (tops_of params root))) (formals_of params))
+    (under_fault (LiesUnderOther s (Contains (entry_nodes_of params root))) (formals_of params))
     before (RootInParam
     unless (LiesUnderOther s (Contains (map node.Pat (formals_of params))) (node.Expr root) → ⊥))
 

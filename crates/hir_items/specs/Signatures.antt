@@ -10,7 +10,7 @@ use Rattle.hir_generics.specs.declared.param.TypeOrConstParamData.{TypeOrConstPa
 use Rattle.hir_generics.specs.declared.param.TypeOrConstParamData.TheVariants as either
 use Rattle.hir_generics.specs.declared.predicate.WherePredicate.{WherePredicate}
 use Rattle.hir_generics.specs.declared.predicate.WherePredicate.TheVariants as predicate
-use Rattle.hir_faults.specs.Sizes.{is_there}
+use Rattle.hir_faults.specs.Sizes.{is_in_range}
 use Rattle.hir_faults.specs.TestedParts.{is_path_at, bound_paths}
 use Rattle.hir_faults.specs.Fits.{bound_fits}
 use Rattle.hir_faults.specs.Nodes.{Nodes, sizes_of}
@@ -26,16 +26,16 @@ use Rattle.hir_items.specs.declared.signatures.VariantParts.{VariantParts}
 use Rattle.hir_items.specs.declared.signatures.PlainParts.{PlainParts}
 
 -- what a signature over this store is reached from: its listed roots
-abbrev pub root_tops : Contents → List NodeId
-root_tops c = map node.Expr (root_nodes c.roots)
+abbrev pub root_entry_nodes : Contents → List NodeId
+root_entry_nodes c = map node.Expr (root_nodes c.roots)
 
 -- the signature reaches the node: it is under a root
 abbrev pub SignatureReaches : Contents → NodeId → Type 0
-SignatureReaches c n = IsReached c.nodes (root_tops c) n
+SignatureReaches c n = IsReached c.nodes (root_entry_nodes c) n
 
 -- these nodes, listed: under the first root, under the second and so on
 abbrev pub signature_nodes : Contents → List NodeId
-signature_nodes c = reached_nodes c.nodes (root_tops c)
+signature_nodes c = reached_nodes c.nodes (root_entry_nodes c)
 
 -- what a parameter names: a default, the type of a constant
 abbrev pub param_calls : TypeOrConstParamData → List Call
@@ -76,14 +76,14 @@ abbrev pub GenericsFit : Nodes → Generics → Type 0
 GenericsFit s g = All (ParamFits s) g.type_or_consts × All (PredicateFits s) g.predicates
 
 -- all that is named is there
-abbrev pub all_there : Nodes → List Call → Bool
-all_there s calls = list_all (is_there (sizes_of s)) calls
+abbrev pub all_in_range : Nodes → List Call → Bool
+all_in_range s calls = list_all (is_in_range (sizes_of s)) calls
 
 -- each id of parameters and predicates is there
-abbrev pub generics_there : Nodes → Generics → Bool
-generics_there s g =
-    list_all (λ p. all_there s (param_calls p)) g.type_or_consts
-    && list_all (λ w. all_there s (predicate_calls w)) g.predicates
+abbrev pub generics_in_range : Nodes → Generics → Bool
+generics_in_range s g =
+    list_all (λ p. all_in_range s (param_calls p)) g.type_or_consts
+    && list_all (λ w. all_in_range s (predicate_calls w)) g.predicates
 
 -- what predicates name as paths are paths
 abbrev pub generics_name_paths : Nodes → Generics → Bool
@@ -91,31 +91,31 @@ generics_name_paths s g = list_all (λ w. list_all (is_path_at s.types) (predica
 
 -- an id isn't there, or else what is named as a path isn't one
 unfoldable pub ids_fault : Bool → Bool → Option SignatureFault → Type 0
-ids_fault there paths = (IdOutOfRange unless IsTrue there) before (NotAPath unless IsTrue paths)
+ids_fault in_range paths = (IdOutOfRange unless IsTrue in_range) before (NotAPath unless IsTrue paths)
 
 -- each of these types is there
-abbrev pub types_there : Nodes → List ℕ → Bool
-types_there s ids = list_all (λ id. nat_lt id (length s.types)) ids
+abbrev pub types_in_range : Nodes → List ℕ → Bool
+types_in_range s ids = list_all (λ id. nat_lt id (length s.types)) ids
 
 -- the first fault of each kind of signature
 abbrev pub function_fault : FunctionParts → Option SignatureFault → Type 0
 function_fault p =
     ids_fault
-    (generics_there p.store.nodes p.generic_params && types_there p.store.nodes p.params
-    && all_there p.store.nodes (opt t p.ret_type))
+    (generics_in_range p.store.nodes p.generic_params && types_in_range p.store.nodes p.params
+    && all_in_range p.store.nodes (opt t p.ret_type))
     (generics_name_paths p.store.nodes p.generic_params)
 
 abbrev pub struct_fault : StructParts → Option SignatureFault → Type 0
 struct_fault p =
     ids_fault
-    (generics_there p.store.nodes p.generic_params)
+    (generics_in_range p.store.nodes p.generic_params)
     (generics_name_paths p.store.nodes p.generic_params)
 
 abbrev pub fields_fault : VariantParts → Option SignatureFault → Type 0
-fields_fault p = ids_fault (list_all (λ f. all_there p.store.nodes (field_calls f)) p.fields) true
+fields_fault p = ids_fault (list_all (λ f. all_in_range p.store.nodes (field_calls f)) p.fields) true
 
 abbrev pub plain_fault : PlainParts → Option SignatureFault → Type 0
 plain_fault p =
     ids_fault
-    (generics_there p.store.nodes p.generic_params)
+    (generics_in_range p.store.nodes p.generic_params)
     (generics_name_paths p.store.nodes p.generic_params)

@@ -183,7 +183,7 @@ impl Body {
     /// The parameters in their order, without `self`. Both patterns of each are in the store.
     pub fn params(&self) -> &[Param<PatId>]
         ensures params { result.now ≡ self.now.params }
-        ensures there { All (AreBelow (length self.now.store.nodes.pats)) result.now }
+        ensures in_range { All (AreBelow (length self.now.store.nodes.pats)) result.now }
     {
         self.params.as_slice()
     }
@@ -191,7 +191,7 @@ impl Body {
     /// The `self` parameter, where there is one. Both bindings of it are in the store.
     pub fn self_param(&self) -> Option<Param<BindingId>>
         ensures self_param { result ≡ self.now.self_param }
-        ensures there { IfSome result (AreBelow (length self.now.store.nodes.bindings)) }
+        ensures in_range { IfSome result (AreBelow (length self.now.store.nodes.bindings)) }
     {
         self.self_param
     }
@@ -199,7 +199,7 @@ impl Body {
     /// What the body evaluates to: the last root, which is in the store. Earlier roots belong to the patterns of parameters.
     pub fn root_expr(&self) -> ExprId
         ensures last { Some result ≡ last_root self.now.store }
-        ensures there { result < length self.now.store.nodes.exprs }
+        ensures in_range { result < length self.now.store.nodes.exprs }
     {
         self.store.has_no_fault();
         roots_stand_apart();

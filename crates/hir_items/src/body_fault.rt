@@ -3,10 +3,10 @@
 ghost use Rattle.std.specs.Prelude.{◌≡◌, ◌<◌, All, IfOk, length};
 ghost use Rattle.hir_items.specs.Bodies.{body_of, last_root, apart_fault, body_fault};
 
-use crate::formals::{Param, add_formals, first_out_of_range, first_under, self_is_there};
+use crate::formals::{Param, add_formals, first_out_of_range, first_under, self_is_in_range};
 use hir_base::ExactEq;
 use hir_expr_store::ExpressionStore;
-use hir_expr_store::laws::{kids_fall, roots_stand_apart};
+use hir_expr_store::laws::{rank_decreases, roots_stand_apart};
 use hir_node::{BindingId, ExprId, PatId};
 use std::alloc::{AllocError, Global};
 use std::fmt::{self, Display};
@@ -77,17 +77,17 @@ fn first_meeting(
     ensures { IfOk result (apart_fault store.now.nodes params.now root) }
 {
     store.has_no_fault();
-    kids_fall();
-    let mut tops = store.no_nodes(alloc)?;
-    if let Some(fault) = add_formals(params, &mut tops) {
+    rank_decreases();
+    let mut entry_nodes = store.no_nodes(alloc)?;
+    if let Some(fault) = add_formals(params, &mut entry_nodes) {
         return Ok(Some(fault));
     }
-    tops.add_expr(root);
-    // What is no kid lies under no other node. So it is with most bodies, and the table of all kids isn't made.
-    if store.no_kid_is_in(&tops) {
+    entry_nodes.add_expr(root);
+    // What is no child lies under no other node. So it is with most bodies, and the table of all children isn't made.
+    if store.no_child_is_in(&entry_nodes) {
         return Ok(None);
     }
-    let under = store.under(alloc, &tops)?;
+    let under = store.under(alloc, &entry_nodes)?;
     if let Some(fault) = first_under(params, &under) {
         return Ok(Some(fault));
     }
@@ -112,7 +112,7 @@ pub(crate) fn first_fault(
         Some(root) => root,
         None => return Ok(Some(BodyFault::NoRoot)),
     };
-    if !self_is_there(store, self_param) {
+    if !self_is_in_range(store, self_param) {
         return Ok(Some(BodyFault::SelfOutOfRange));
     }
     if let Some(fault) = first_out_of_range(store, params) {

@@ -11,44 +11,44 @@ ghost use Rattle.hir_faults.specs.Nodes.{Has};
 ghost use Rattle.hir_node.specs.declared.node_id.NodeId.{NodeId};
 ghost use Rattle.hir_items.specs.declared.body_fault.BodyFault.{BodyFault};
 ghost use Rattle.hir_items.specs.declared.body_source_map.BodySourceMap.{BodySourceMap};
-ghost use Rattle.hir_items.specs.Bodies.{BodyContents, body_fault, tops, BodyReaches, body_nodes};
-ghost use Rattle.hir_expr_store.specs.Under.{LieApart};
+ghost use Rattle.hir_items.specs.Bodies.{BodyContents, body_fault, entry_nodes, BodyReaches, body_nodes};
+ghost use Rattle.hir_expr_store.specs.Under.{AreDisjoint};
 
 use crate::body_source_map::BodySourceMap;
 use hir_expr_store::laws::{
     reached_is_decided, reached_is_listed, reached_is_listed_once, roots_stand_apart,
-    under_two_is_under_one, what_is_reached_is_there,
+    under_two_is_under_one, reached_nodes_are_in_range,
 };
 
 /// The parts of a body have at most one first fault: a body is accepted exactly where there is none.
-pub fn first_body_fault_is_one()
+pub fn first_body_fault_unique()
     ensures { (b : BodyContents) (f g : Option BodyFault) → body_fault b f → body_fault b g → f ≡ g }
 {}
 
 /// The formals and the last root of a body are there.
-pub fn tops_are_there()
+pub fn entry_nodes_are_in_range()
     ensures { (b : BodyContents) → contents_fault b.store None → body_fault b None
-        → (n : NodeId) → Contains (tops b) n → Has b.store.nodes n }
+        → (n : NodeId) → Contains (entry_nodes b) n → Has b.store.nodes n }
 {
     roots_stand_apart();
 }
 
 /// The formals and the last root of a body are apart: nothing is under two of them.
-pub fn tops_lie_apart()
+pub fn entry_nodes_are_disjoint()
     ensures { (b : BodyContents) → contents_fault b.store None → body_fault b None
-        → LieApart b.store.nodes (tops b) }
+        → AreDisjoint b.store.nodes (entry_nodes b) }
 {
     roots_stand_apart();
     under_two_is_under_one();
 }
 
 /// What a body reaches is there.
-pub fn what_a_body_reaches_is_there()
+pub fn nodes_of_a_body_are_in_range()
     ensures { (b : BodyContents) → contents_fault b.store None → body_fault b None
         → (n : NodeId) → BodyReaches b n → Has b.store.nodes n }
 {
-    tops_are_there();
-    what_is_reached_is_there();
+    entry_nodes_are_in_range();
+    reached_nodes_are_in_range();
 }
 
 /// `body_nodes` lists what a body reaches, and nothing else, each node once; so each node is reached or it isn't. Each sum and each
@@ -61,7 +61,7 @@ pub fn what_a_body_reaches_is_listed()
     ensures decided { (b : BodyContents) → contents_fault b.store None
         → (n : NodeId) → BodyReaches b n ⊎ (BodyReaches b n → ⊥) }
 {
-    tops_lie_apart();
+    entry_nodes_are_disjoint();
     reached_is_listed();
     reached_is_listed_once();
     reached_is_decided();

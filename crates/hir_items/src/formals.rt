@@ -33,7 +33,7 @@ impl<Id: TryClone> TryClone for Param<Id> {
 }
 
 /// Whether both bindings of the self parameter are there; without one there is nothing to ask.
-pub(crate) fn self_is_there(store: &ExpressionStore, self_param: Option<Param<BindingId>>) -> bool
+pub(crate) fn self_is_in_range(store: &ExpressionStore, self_param: Option<Param<BindingId>>) -> bool
     ensures { IsTrue result ↔ IfSome self_param (AreBelow (length store.now.nodes.bindings)) }
 {
     match self_param {
@@ -43,7 +43,7 @@ pub(crate) fn self_is_there(store: &ExpressionStore, self_param: Option<Param<Bi
 }
 
 /// Whether both patterns of a parameter are there.
-fn param_is_there(store: &ExpressionStore, param: Param<PatId>) -> bool
+fn param_is_in_range(store: &ExpressionStore, param: Param<PatId>) -> bool
     ensures { IsTrue result ↔ AreBelow (length store.now.nodes.pats) param }
 {
     store.has_pat(param.formal) && store.has_pat(param.user_written)
@@ -57,7 +57,7 @@ pub(crate) fn first_out_of_range(
     ensures { first_below (length params.now) (range_fault (length store.now.nodes.pats) params.now) result }
 {
     for (i, param) in params.iter().enumerate() {
-        if !param_is_there(store, *param) {
+        if !param_is_in_range(store, *param) {
             return Some(BodyFault::ParamOutOfRange(i));
         }
     }
@@ -66,7 +66,7 @@ pub(crate) fn first_out_of_range(
 
 /// Adds the formals to a set that has none of them. The fault is a formal that is in it already.
 pub(crate) fn add_formals(params: &[Param<PatId>], set: &mut NodeSet) -> Option<BodyFault>
-    requires there { All (λ p. p.formal < set.old.sizes.pats) params.now }
+    requires in_range { All (λ p. p.formal < set.old.sizes.pats) params.now }
     requires none { (n : NodeId) → IsIn set.old n → ⊥ }
     ensures fault { first_below (length params.now) (repeated_fault (formals_of params.now)) result }
     ensures added { IfNone result (GainsAll set.old (map node.Pat (formals_of params.now)) set.new) }
@@ -82,7 +82,7 @@ pub(crate) fn add_formals(params: &[Param<PatId>], set: &mut NodeSet) -> Option<
 
 /// The first formal that is among the nodes under others.
 pub(crate) fn first_under(params: &[Param<PatId>], under: &NodeSet) -> Option<BodyFault>
-    requires there { All (λ p. p.formal < under.now.sizes.pats) params.now }
+    requires in_range { All (λ p. p.formal < under.now.sizes.pats) params.now }
     ensures { first_below (length params.now) (under_fault (IsIn under.now) (formals_of params.now)) result }
 {
     for (i, param) in params.iter().enumerate() {

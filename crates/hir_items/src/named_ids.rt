@@ -4,7 +4,7 @@ ghost use Rattle.std.specs.Prelude.{◌≡◌, nat_lt, length};
 ghost use Rattle.std.specs.List.{list_all};
 ghost use Rattle.hir_node.specs.ChildCalls.{a, l, t, opt};
 ghost use Rattle.hir_faults.specs.TestedParts.{is_path_at};
-ghost use Rattle.hir_items.specs.Signatures.{param_calls, predicate_calls, predicate_paths, field_calls, all_there, generics_there, generics_name_paths, types_there};
+ghost use Rattle.hir_items.specs.Signatures.{param_calls, predicate_calls, predicate_paths, field_calls, all_in_range, generics_in_range, generics_name_paths, types_in_range};
 
 use crate::generic_params::GenericParams;
 use crate::signatures::FieldData;
@@ -32,7 +32,7 @@ fn has_lifetime(store: &ExpressionStore, id: LifetimeRefId) -> bool
 
 /// Whether the type, if any, is there.
 pub(crate) fn has_type_opt(store: &ExpressionStore, id: Option<TypeRefId>) -> bool
-    ensures { result ≡ all_there store.now.nodes (opt t id) }
+    ensures { result ≡ all_in_range store.now.nodes (opt t id) }
 {
     match id {
         Some(id) => has_type(store, id),
@@ -42,7 +42,7 @@ pub(crate) fn has_type_opt(store: &ExpressionStore, id: Option<TypeRefId>) -> bo
 
 /// Whether the expression, if any, is there.
 fn has_expr_opt(store: &ExpressionStore, id: Option<ExprId>) -> bool
-    ensures { result ≡ all_there store.now.nodes (opt a id) }
+    ensures { result ≡ all_in_range store.now.nodes (opt a id) }
 {
     match id {
         Some(id) => has_expr(store, id),
@@ -51,7 +51,7 @@ fn has_expr_opt(store: &ExpressionStore, id: Option<ExprId>) -> bool
 }
 
 fn has_param(store: &ExpressionStore, param: &TypeOrConstParamData) -> bool
-    ensures { result ≡ all_there store.now.nodes (param_calls param.now) }
+    ensures { result ≡ all_in_range store.now.nodes (param_calls param.now) }
 {
     match param {
         TypeOrConstParamData::TypeParamData(param) => has_type_opt(store, param.default),
@@ -63,13 +63,13 @@ fn has_param(store: &ExpressionStore, param: &TypeOrConstParamData) -> bool
 }
 
 fn has_params(store: &ExpressionStore, params: &[TypeOrConstParamData]) -> bool
-    ensures { result ≡ list_all (λ p. all_there store.now.nodes (param_calls p)) params.now }
+    ensures { result ≡ list_all (λ p. all_in_range store.now.nodes (param_calls p)) params.now }
 {
     params.iter().all(|param| has_param(store, param))
 }
 
 fn has_predicate(store: &ExpressionStore, predicate: &WherePredicate) -> bool
-    ensures { result ≡ all_there store.now.nodes (predicate_calls predicate.now) }
+    ensures { result ≡ all_in_range store.now.nodes (predicate_calls predicate.now) }
 {
     match predicate {
         WherePredicate::TypeBound {
@@ -84,7 +84,7 @@ fn has_predicate(store: &ExpressionStore, predicate: &WherePredicate) -> bool
 }
 
 fn has_predicates(store: &ExpressionStore, predicates: &[WherePredicate]) -> bool
-    ensures { result ≡ list_all (λ w. all_there store.now.nodes (predicate_calls w)) predicates.now }
+    ensures { result ≡ list_all (λ w. all_in_range store.now.nodes (predicate_calls w)) predicates.now }
 {
     predicates
         .iter()
@@ -93,7 +93,7 @@ fn has_predicates(store: &ExpressionStore, predicates: &[WherePredicate]) -> boo
 
 /// Whether each id of the parameters and predicates is there.
 pub(crate) fn has_generics(store: &ExpressionStore, generics: &GenericParams) -> bool
-    ensures { result ≡ generics_there store.now.nodes generics.now }
+    ensures { result ≡ generics_in_range store.now.nodes generics.now }
 {
     has_params(store, generics.type_or_consts())
         && has_predicates(store, generics.where_predicates())
@@ -133,20 +133,20 @@ pub(crate) fn generics_name_paths(store: &ExpressionStore, generics: &GenericPar
 
 /// Whether each type is there.
 pub(crate) fn has_types(store: &ExpressionStore, ids: &[TypeRefId]) -> bool
-    ensures { result ≡ types_there store.now.nodes ids.now }
+    ensures { result ≡ types_in_range store.now.nodes ids.now }
 {
     ids.iter().all(|id| has_type(store, *id))
 }
 
 fn has_field(store: &ExpressionStore, field: &FieldData) -> bool
-    ensures { result ≡ all_there store.now.nodes (field_calls field.now) }
+    ensures { result ≡ all_in_range store.now.nodes (field_calls field.now) }
 {
     has_type(store, field.type_ref) && has_expr_opt(store, field.default_value)
 }
 
 /// Whether each id of the fields is there.
 pub(crate) fn has_fields(store: &ExpressionStore, fields: &[FieldData]) -> bool
-    ensures { result ≡ list_all (λ f. all_there store.now.nodes (field_calls f)) fields.now }
+    ensures { result ≡ list_all (λ f. all_in_range store.now.nodes (field_calls f)) fields.now }
 {
     fields.iter().all(|field| has_field(store, field))
 }

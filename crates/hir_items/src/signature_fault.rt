@@ -63,10 +63,10 @@ impl<P> Display for RefusedSignature<P> {
 impl<P: Drop> std::error::Error for RefusedSignature<P> {}
 
 /// The first fault, by whether all ids are there and whether what is named as a path is one.
-pub(crate) fn ids_fault(there: bool, paths: bool) -> Option<SignatureFault>
-    ensures { ids_fault there paths result }
+pub(crate) fn ids_fault(in_range: bool, paths: bool) -> Option<SignatureFault>
+    ensures { ids_fault in_range paths result }
 {
-    if !there {
+    if !in_range {
         return Some(SignatureFault::IdOutOfRange);
     }
     if !paths {

@@ -8,7 +8,7 @@ ghost use Rattle.hir_expr_store.specs.Contents.{Contents, contents_fault};
 ghost use Rattle.hir_items.specs.Signatures.{SignatureReaches, signature_nodes};
 
 use hir_expr_store::laws::{
-    reached_is_decided, reached_is_listed, reached_is_listed_once, roots_lie_apart,
+    reached_is_decided, reached_is_listed, reached_is_listed_once, roots_are_disjoint,
 };
 
 /// `signature_nodes` lists what a signature over a store reaches, and nothing else, each node once; so each node is reached or it
@@ -20,7 +20,7 @@ pub fn what_a_signature_reaches_is_listed()
     ensures decided { (c : Contents) → contents_fault c None
         → (n : NodeId) → SignatureReaches c n ⊎ (SignatureReaches c n → ⊥) }
 {
-    roots_lie_apart();
+    roots_are_disjoint();
     reached_is_listed();
     reached_is_listed_once();
     reached_is_decided();

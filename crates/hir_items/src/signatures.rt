@@ -101,11 +101,11 @@ impl FunctionParts {
     fn first_fault(&self) -> Option<SignatureFault>
         ensures { function_fault self.now result }
     {
-        let there = has_generics(&self.store, &self.generic_params)
+        let in_range = has_generics(&self.store, &self.generic_params)
             && has_types(&self.store, self.params.as_slice())
             && has_type_opt(&self.store, self.ret_type);
         ids_fault(
-            there,
+            in_range,
             generics_name_paths(&self.store, &self.generic_params),
         )
     }
@@ -179,7 +179,7 @@ impl FunctionSignature {
     /// Its generic parameters. What they name is in the store.
     pub fn generic_params(&self) -> &GenericParams
         ensures generic_params { result.now ≡ self.now.generic_params }
-        ensures there { GenericsFit self.now.store.nodes result.now }
+        ensures in_range { GenericsFit self.now.store.nodes result.now }
     {
         &self.function.generic_params
     }
@@ -196,7 +196,7 @@ impl FunctionSignature {
     /// The types of the parameters, in their order. Each is in the store.
     pub fn params(&self) -> &[TypeRefId]
         ensures params { result.now ≡ self.now.params }
-        ensures there { All (λ id. id < length self.now.store.nodes.types) result.now }
+        ensures in_range { All (λ id. id < length self.now.store.nodes.types) result.now }
     {
         self.function.params.as_slice()
     }
@@ -204,7 +204,7 @@ impl FunctionSignature {
     /// The return type, where one is written. It is in the store.
     pub fn ret_type(&self) -> Option<TypeRefId>
         ensures ret_type { result ≡ self.now.ret_type }
-        ensures there { IfSome result (λ id. id < length self.now.store.nodes.types) }
+        ensures in_range { IfSome result (λ id. id < length self.now.store.nodes.types) }
     {
         self.function.ret_type
     }
@@ -278,9 +278,9 @@ impl StructParts {
     fn first_fault(&self) -> Option<SignatureFault>
         ensures { struct_fault self.now result }
     {
-        let there = has_generics(&self.store, &self.generic_params);
+        let in_range = has_generics(&self.store, &self.generic_params);
         ids_fault(
-            there,
+            in_range,
             generics_name_paths(&self.store, &self.generic_params),
         )
     }
@@ -354,7 +354,7 @@ impl StructSignature {
     /// Its generic parameters. What they name is in the store.
     pub fn generic_params(&self) -> &GenericParams
         ensures generic_params { result.now ≡ self.now.generic_params }
-        ensures there { GenericsFit self.now.store.nodes result.now }
+        ensures in_range { GenericsFit self.now.store.nodes result.now }
     {
         &self.structure.generic_params
     }
@@ -404,8 +404,8 @@ impl VariantParts {
     fn first_fault(&self) -> Option<SignatureFault>
         ensures { fields_fault self.now result }
     {
-        let there = has_fields(&self.store, self.fields.as_slice());
-        ids_fault(there, true)
+        let in_range = has_fields(&self.store, self.fields.as_slice());
+        ids_fault(in_range, true)
     }
 }
 
@@ -477,7 +477,7 @@ impl VariantFields {
     /// The fields, in their order. The type of each and its default are in the store.
     pub fn fields(&self) -> &[FieldData]
         ensures fields { result.now ≡ self.now.fields }
-        ensures there { All (FieldFits self.now.store.nodes) result.now }
+        ensures in_range { All (FieldFits self.now.store.nodes) result.now }
     {
         self.variant.fields.as_slice()
     }
@@ -511,9 +511,9 @@ impl PlainParts {
     fn first_fault(&self) -> Option<SignatureFault>
         ensures { plain_fault self.now result }
     {
-        let there = has_generics(&self.store, &self.generic_params);
+        let in_range = has_generics(&self.store, &self.generic_params);
         ids_fault(
-            there,
+            in_range,
             generics_name_paths(&self.store, &self.generic_params),
         )
     }
@@ -580,7 +580,7 @@ impl PlainSignature {
     /// Its generic parameters. What they name is in the store.
     pub fn generic_params(&self) -> &GenericParams
         ensures generic_params { result.now ≡ self.now.generic_params }
-        ensures there { GenericsFit self.now.store.nodes result.now }
+        ensures in_range { GenericsFit self.now.store.nodes result.now }
     {
         &self.plain.generic_params
     }

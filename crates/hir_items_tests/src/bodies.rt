@@ -214,10 +214,10 @@ fn is_answered(alloc: Global, case: &Case) -> Result<bool, Fail> {
 
 #[test]
 fn faults_and_parts(rt: HostRuntime) -> Result<(), Fail> {
-    body_laws::first_body_fault_is_one();
-    body_laws::tops_are_there();
-    body_laws::tops_lie_apart();
-    body_laws::what_a_body_reaches_is_there();
+    body_laws::first_body_fault_unique();
+    body_laws::entry_nodes_are_in_range();
+    body_laws::entry_nodes_are_disjoint();
+    body_laws::nodes_of_a_body_are_in_range();
     body_laws::what_a_body_reaches_is_listed();
     for (i, case) in CASES.iter().enumerate() {
         assert!(&rt; is_answered(rt.alloc(), case)?, "case {i}");

@@ -55,15 +55,15 @@ const SHAPES: [Shape; 10] = [
     (0, &[], None),
     // No roots.
     (2, &[], None),
-    // A kid of two.
+    // A child of two.
     (3, &[(0, 2), (1, 2)], Some(SharedChild(2))),
-    // A kid twice.
+    // A child twice.
     (2, &[(1, 0), (1, 0)], Some(SharedChild(0))),
     // First edge.
     (5, &[(0, 3), (0, 4), (1, 4), (2, 3)], Some(SharedChild(4))),
     // Shared before cycle.
     (1, &[(0, 0), (0, 0)], Some(SharedChild(0))),
-    // Its own kid.
+    // Its own child.
     (1, &[(0, 0)], Some(Cycle(0))),
     // A cycle of two.
     (2, &[(0, 1), (1, 0)], Some(Cycle(0))),
@@ -210,8 +210,8 @@ fn ends_of_a_lone_root_lie_within_the_arenas(rt: HostRuntime) -> Result<(), Fail
     Ok(())
 }
 
-/// The first fault of a chain of 1,000,000 nodes, in which each is the only kid of the next and whose ends are roots, and of the
-/// chain with one node more, which is its own kid.
+/// The first fault of a chain of 1,000,000 nodes, in which each is the only child of the next and whose ends are roots, and of the
+/// chain with one node more, which is its own child.
 fn faults_of_the_chain(
     alloc: Global,
 ) -> Result<(Option<ForestFault>, Option<ForestFault>), AllocError> {

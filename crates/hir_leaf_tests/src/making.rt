@@ -6,7 +6,7 @@ use hir_forest::{Ends, ForestFault, Parents, Root};
 use std::alloc::{AllocError, Global};
 use std::test::Fail;
 
-/// A node and a kid of it.
+/// A node and a child of it.
 pub type Edge = (usize, usize);
 
 /// Notes the edge in the last row, that of this node, where it begins there. An edge to what is no node is left out.
@@ -16,13 +16,13 @@ fn add_edge(parents: &mut Parents, node: usize, count: usize, edge: &Edge)
     ensures nodes { length parents.new.parents ≡ count }
     ensures rows { parents.new.rows ≡ parents.old.rows }
 {
-    let (parent, kid) = *edge;
-    if parent == node && kid < count {
-        parents.push_kid(kid);
+    let (parent, child) = *edge;
+    if parent == node && child < count {
+        parents.push_child(child);
     }
 }
 
-/// Notes one more row of so many, with the kids that the edges give this node.
+/// Notes one more row of so many, with the children that the edges give this node.
 fn add_row(parents: &mut Parents, node: usize, count: usize, edges: &[Edge])
     requires nodes { length parents.old.parents ≡ count }
     requires rows { parents.old.rows + 1 ≤ count }
@@ -47,7 +47,7 @@ pub fn parents_of(alloc: Global, count: usize, edges: &[Edge]) -> Result<Parents
     Ok(parents)
 }
 
-/// Notes the row of the next node of a chain, whose only kid is the node before it.
+/// Notes the row of the next node of a chain, whose only child is the node before it.
 fn add_link(parents: &mut Parents, node: usize)
     requires node { parents.old.rows ≡ node }
     requires room { node < length parents.old.parents }
@@ -56,11 +56,11 @@ fn add_link(parents: &mut Parents, node: usize)
 {
     parents.begin_row();
     if node > 0 {
-        parents.push_kid(node - 1);
+        parents.push_child(node - 1);
     }
 }
 
-/// Notes a chain of so many nodes, in which each is the only kid of the next.
+/// Notes a chain of so many nodes, in which each is the only child of the next.
 fn add_chain(parents: &mut Parents, count: usize)
     requires nodes { count ≤ length parents.old.parents }
     requires none { parents.old.rows ≡ 0 }
@@ -72,7 +72,7 @@ fn add_chain(parents: &mut Parents, count: usize)
     }
 }
 
-/// The parents of a chain of so many nodes, in which each is the only kid of the next.
+/// The parents of a chain of so many nodes, in which each is the only child of the next.
 pub fn chain(alloc: Global, count: usize) -> Result<Parents, AllocError>
     ensures nodes { IfOk result (λ parents. length parents.parents ≡ count) }
     ensures rows { IfOk result (λ parents. parents.rows ≡ count) }
@@ -82,7 +82,7 @@ pub fn chain(alloc: Global, count: usize) -> Result<Parents, AllocError>
     Ok(parents)
 }
 
-/// The parents of a chain of 1,000,000 nodes and of one node more, which is its own kid.
+/// The parents of a chain of 1,000,000 nodes and of one node more, which is its own child.
 pub fn chain_and_cycle(alloc: Global) -> Result<Parents, AllocError>
     ensures nodes { IfOk result (λ parents. length parents.parents ≡ 1000001) }
     ensures rows { IfOk result (λ parents. parents.rows ≡ 1000001) }
@@ -90,7 +90,7 @@ pub fn chain_and_cycle(alloc: Global) -> Result<Parents, AllocError>
     let mut parents = Parents::new(alloc, 1_000_001)?;
     add_chain(&mut parents, 1_000_000);
     parents.begin_row();
-    parents.push_kid(1_000_000);
+    parents.push_child(1_000_000);
     Ok(parents)
 }
 

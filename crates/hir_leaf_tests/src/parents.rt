@@ -13,16 +13,16 @@ const THREE: Ends = Ends {
     bindings: 0,
 };
 
-/// The parents of a chain of three nodes, in which node 0 has kid 1 and node 1 has kid 2.
+/// The parents of a chain of three nodes, in which node 0 has child 1 and node 1 has child 2.
 fn chain(alloc: Global) -> Result<Parents, AllocError>
     ensures rows { IfOk result (λ parents. parents.rows ≡ length parents.parents) }
     ensures nodes { IfOk result (λ parents. length parents.parents ≡ 3) }
 {
     let mut parents = Parents::new(alloc, 3)?;
     parents.begin_row();
-    parents.push_kid(1);
+    parents.push_child(1);
     parents.begin_row();
-    parents.push_kid(2);
+    parents.push_child(2);
     parents.begin_row();
     Ok(parents)
 }

@@ -1,5 +1,5 @@
 -- The child calls of a node: what a visitor is called with, in which order. One clause a variant. An absent part gives no call.
--- The kids of a node come from them. The other ids that a node names are in `OtherIds`.
+-- The children of a node come from them. The other ids that a node names are in `OtherIds`.
 use Rattle.std.specs.Prelude.{ℕ, List, [], ◌∷◌, ◌++◌, Option, Some, None}
 use Rattle.std.specs.List.{flat_map}
 use Rattle.hir_path.specs.declared.bound.TypeBound.{TypeBound}
@@ -197,16 +197,16 @@ type_calls (type.TypeParam param) = []
 type_calls type.Error = []
 
 -- the node that a call is made with, where it is one
-abbrev pub kid : Call → List NodeId
-kid (OnExpr id) = node.Expr id ∷ []
-kid (OnAnonConst id) = node.Expr id ∷ []
-kid (OnPat id) = node.Pat id ∷ []
-kid (OnType id) = node.TypeRef id ∷ []
-kid (OnLifetime id) = []
+abbrev pub child : Call → List NodeId
+child (OnExpr id) = node.Expr id ∷ []
+child (OnAnonConst id) = node.Expr id ∷ []
+child (OnPat id) = node.Pat id ∷ []
+child (OnType id) = node.TypeRef id ∷ []
+child (OnLifetime id) = []
 
--- the kids among calls: the expressions, the anonymous constants, the patterns and the types
-abbrev pub kids : List Call → List NodeId
-kids calls = flat_map kid calls
+-- the children among calls: the expressions, the anonymous constants, the patterns and the types
+abbrev pub children : List Call → List NodeId
+children calls = flat_map child calls
 
 -- the pattern that a call is made with, where it is one
 abbrev pub pat_of_call : Call → List ℕ

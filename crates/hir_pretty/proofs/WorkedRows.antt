@@ -27,7 +27,7 @@ use Rattle.hir_generics.specs.declared.data.TypeParamProvenance.TheVariants as p
 use Rattle.hir_generics.specs.declared.param.TypeOrConstParamData.{TypeOrConstParamData}
 use Rattle.hir_generics.specs.declared.param.TypeOrConstParamData.TheVariants as param
 use Rattle.hir_generics.specs.declared.predicate.WherePredicate.TheVariants as predicate
-use Rattle.hir_faults.specs.Down.{value, rank}
+use Rattle.hir_faults.specs.Recursion.{fold_down, rank}
 use Rattle.hir_expr_store.specs.{Contents.Contents, SideTables.no_side_tables}
 use Rattle.hir_printer.specs.Prelude.{Missing, Questions, Setting, Item, pieces, first_missing, text_of, item_list_pieces}
 use Rattle.hir_expr_store.specs.declared.missing.Missing.TheVariants as missing
@@ -116,7 +116,7 @@ bodies :
       params = [];
       self_param = Some (record { formal = 0; user_written = 0 });
     }) ≡ codes "fn foo(self) {\n    x\n}")
-unfolding pieces value rank height digits
+unfolding pieces fold_down rank height digits
 bodies = (refl, refl, refl, refl)
 
 -- what is missing first: the enum of a variant, and then its name; and fields
@@ -124,7 +124,7 @@ first_is_missing :
     ((let b = only (var (codes "x")) in missing_from no_tables b.store (λ s. body_items s (λ id. Err (missing.Variant id)) (body.VariantId 0) b)) ≡ Some (missing.Variant 0))
     × ((let b = only (var (codes "x")) in missing_from no_tables b.store (λ s. body_items s of_enum_0 (body.VariantId 0) b)) ≡ Some (missing.Name (named.EnumId 0)))
     × (missing_from tables (store [] [] [] []) (λ s. without_fields s of_enum_0 (variant.StructId 0)) ≡ Some (missing.Fields (variant.StructId 0)))
-unfolding pieces value rank height digits
+unfolding pieces fold_down rank height digits
 first_is_missing = (refl, refl, refl)
 
 abbrev of_name : List ℕ → Option ℕ → TypeOrConstParamData
@@ -156,7 +156,7 @@ fields_and_structs :
       shape = shape.Unit;
     }))) ≡ codes "#[repr(C)]\n#[repr(align(8))]\n#[fundamental]\nstruct S<'a, T, const C: usize = 3, X = ()>\nwhere\n    T: Clone\n;\n")
     × (text_from (store [] [] [] []) (λ s. unimplemented_items (codes "EnumId") 5) ≡ codes "unimplemented EnumId(5)")
-unfolding pieces value rank height digits
+unfolding pieces fold_down rank height digits
 fields_and_structs = (refl, refl, refl, refl)
 
 abbrev function : Contents → Generics → List ℕ → FunctionParts
@@ -191,5 +191,5 @@ functions :
       is_unsafe = true;
       legacy_const_indices = Some (1 ∷ []);
     }))) ≡ codes "const async unsafe extern \"C\" fn a(A, const: B) {...}\n")
-unfolding pieces value rank height digits
+unfolding pieces fold_down rank height digits
 functions = (refl, refl)

@@ -8,7 +8,7 @@ use Rattle.hir_path.specs.declared.bound.UseArgRef.TheVariants as use_arg
 use Rattle.hir_path.specs.declared.path.GenericArg.TheVariants as arg
 use Rattle.hir_path.specs.declared.path.GenericArgs.{GenericArgs, GenericArgs-F, out-GenericArgs, roll-GenericArgs, out-roll-GenericArgs, ind-GenericArgs}
 use Rattle.hir_path.specs.declared.path.AssociatedTypeBinding.{AssociatedTypeBinding, AssociatedTypeBinding-F, out-AssociatedTypeBinding, roll-AssociatedTypeBinding, out-roll-AssociatedTypeBinding}
-use Rattle.hir_node.specs.ChildCalls.{Call, OnExpr, OnAnonConst, OnPat, OnType, OnLifetime, kid, kids, bound_calls, use_calls, arg_calls, args_calls, binding_calls, path_calls, normal_path_calls, spread_calls, array_calls, arm_calls, statement_calls, expr_calls, pat_calls, type_calls}
+use Rattle.hir_node.specs.ChildCalls.{Call, OnExpr, OnAnonConst, OnPat, OnType, OnLifetime, child, children, bound_calls, use_calls, arg_calls, args_calls, binding_calls, path_calls, normal_path_calls, spread_calls, array_calls, arm_calls, statement_calls, expr_calls, pat_calls, type_calls}
 use Rattle.hir_node.specs.ChildCalls as calls
 use Rattle.hir_printer.specs.Prelude.{NodeId, Missing, Setting, Item, Put, text, t, opt, join, comma_joined, name_parts, name_items, l, lifetime_items, param_items, for_names, modifier_items, use_items, bound_items, bounds_items, bounds_after, arg_items, each_arg, turbofish, args_items, assoc_items, type_after, AllNodes}
 use Rattle.hir_node.specs.declared.node_id.NodeId.TheVariants as node
@@ -31,13 +31,13 @@ abbrev pub AllLists : (NodeId → Type 0) → List (List Item) → Type 0
 AllLists P [] = ⊤
 AllLists P (x ∷ xs) = AllNodes P x × AllLists P xs
 
-pub all_of_kids : (P : NodeId → Type 0) (cs : List Call) → ((k : NodeId) → Contains (kids cs) k → P k) → AllCalls P cs
-all_of_kids P [] h = tt
-all_of_kids P (OnExpr id ∷ cs) h = (h (node.Expr id) (0, omega arith, refl), all_of_kids P cs (λ k c. h k (suc c.0, omega (arith, c.1), c.2)))
-all_of_kids P (OnAnonConst id ∷ cs) h = (h (node.Expr id) (0, omega arith, refl), all_of_kids P cs (λ k c. h k (suc c.0, omega (arith, c.1), c.2)))
-all_of_kids P (OnPat id ∷ cs) h = (h (node.Pat id) (0, omega arith, refl), all_of_kids P cs (λ k c. h k (suc c.0, omega (arith, c.1), c.2)))
-all_of_kids P (OnType id ∷ cs) h = (h (node.TypeRef id) (0, omega arith, refl), all_of_kids P cs (λ k c. h k (suc c.0, omega (arith, c.1), c.2)))
-all_of_kids P (OnLifetime id ∷ cs) h = all_of_kids P cs h
+pub all_of_children : (P : NodeId → Type 0) (cs : List Call) → ((k : NodeId) → Contains (children cs) k → P k) → AllCalls P cs
+all_of_children P [] h = tt
+all_of_children P (OnExpr id ∷ cs) h = (h (node.Expr id) (0, omega arith, refl), all_of_children P cs (λ k c. h k (suc c.0, omega (arith, c.1), c.2)))
+all_of_children P (OnAnonConst id ∷ cs) h = (h (node.Expr id) (0, omega arith, refl), all_of_children P cs (λ k c. h k (suc c.0, omega (arith, c.1), c.2)))
+all_of_children P (OnPat id ∷ cs) h = (h (node.Pat id) (0, omega arith, refl), all_of_children P cs (λ k c. h k (suc c.0, omega (arith, c.1), c.2)))
+all_of_children P (OnType id ∷ cs) h = (h (node.TypeRef id) (0, omega arith, refl), all_of_children P cs (λ k c. h k (suc c.0, omega (arith, c.1), c.2)))
+all_of_children P (OnLifetime id ∷ cs) h = all_of_children P cs h
 
 module _ (P : NodeId → Type 0) where
   pub first_calls : (xs ys : List Call) → AllCalls P (xs ++ ys) → AllCalls P xs

@@ -3,22 +3,22 @@ use Rattle.std.proofs.Common.{◌<◌, Contains, slice_get, arith}
 use Rattle.hir_node.specs.ChildCalls.{expr_calls, pat_calls, type_calls}
 use Rattle.hir_printer.specs.Prelude.{NodeId, Setting, expr_items, pat_items, type_items, ItemsFall}
 use Rattle.hir_node.specs.declared.node_id.NodeId.TheVariants as node
-use Rattle.hir_faults.specs.Nodes.{calls_of, kids_of}
-use Rattle.hir_faults.specs.Down.{rank}
-use Rattle.hir_printer.proofs.FallLemmas.{AllCalls, all_of_kids, opt_falls}
+use Rattle.hir_faults.specs.Nodes.{calls_of, children_of}
+use Rattle.hir_faults.specs.Recursion.{rank}
+use Rattle.hir_printer.proofs.FallLemmas.{AllCalls, all_of_children, opt_falls}
 use Rattle.hir_printer.proofs.NodesFall.{expr_falls, pat_falls, type_falls}
 
-module _ (s : Setting) (low : (n k : NodeId) → Contains (kids_of s.nodes n) k → rank s.nodes k < rank s.nodes n) where
+module _ (s : Setting) (low : (n k : NodeId) → Contains (children_of s.nodes n) k → rank s.nodes k < rank s.nodes n) where
   abbrev Lower : NodeId → NodeId → Type 0
   Lower n k = rank s.nodes k < rank s.nodes n
 
   closed : (n k : NodeId) → Lower n k → AllCalls (Lower n) (calls_of s.nodes k)
-  closed n k h = all_of_kids (Lower n) (calls_of s.nodes k) (λ j c. let lower = low k j c in omega arith)
+  closed n k h = all_of_children (Lower n) (calls_of s.nodes k) (λ j c. let lower = low k j c in omega arith)
 
-  kids_lower : (n : NodeId) → AllCalls (Lower n) (calls_of s.nodes n)
-  kids_lower n = all_of_kids (Lower n) (calls_of s.nodes n) (low n)
+  children_lower : (n : NodeId) → AllCalls (Lower n) (calls_of s.nodes n)
+  children_lower n = all_of_children (Lower n) (calls_of s.nodes n) (low n)
 
   pub items_fall : ItemsFall s
-  items_fall (node.Expr id) = opt_falls (Lower (node.Expr id)) expr_calls (expr_items s) (expr_falls (Lower (node.Expr id)) s (closed (node.Expr id))) (slice_get s.nodes.exprs id) (kids_lower (node.Expr id))
-  items_fall (node.Pat id) = opt_falls (Lower (node.Pat id)) pat_calls (pat_items s) (pat_falls (Lower (node.Pat id)) s) (slice_get s.nodes.pats id) (kids_lower (node.Pat id))
-  items_fall (node.TypeRef id) = opt_falls (Lower (node.TypeRef id)) type_calls (type_items s) (type_falls (Lower (node.TypeRef id)) s) (slice_get s.nodes.types id) (kids_lower (node.TypeRef id))
+  items_fall (node.Expr id) = opt_falls (Lower (node.Expr id)) expr_calls (expr_items s) (expr_falls (Lower (node.Expr id)) s (closed (node.Expr id))) (slice_get s.nodes.exprs id) (children_lower (node.Expr id))
+  items_fall (node.Pat id) = opt_falls (Lower (node.Pat id)) pat_calls (pat_items s) (pat_falls (Lower (node.Pat id)) s) (slice_get s.nodes.pats id) (children_lower (node.Pat id))
+  items_fall (node.TypeRef id) = opt_falls (Lower (node.TypeRef id)) type_calls (type_items s) (type_falls (Lower (node.TypeRef id)) s) (slice_get s.nodes.types id) (children_lower (node.TypeRef id))

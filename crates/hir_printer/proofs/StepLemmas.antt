@@ -2,7 +2,7 @@
 use Rattle.std.proofs.Common.{◌≡◌, ℕ, zero, suc, ◌<◌, List, [], ◌∷◌, ◌++◌, refl, ap, ap₂, arith, flat_map}
 use Rattle.hir_printer.specs.Prelude.{NodeId, Setting, Item, Put, Lacks, Whole, Under, Pattern, TypeItem, NodePiece, items_of, item_pieces, pieces_step, pieces, AllNodes, ItemsFall}
 use Rattle.hir_node.specs.declared.node_id.NodeId.TheVariants as node
-use Rattle.hir_faults.specs.Down.{rank, value_within, value}
+use Rattle.hir_faults.specs.Recursion.{rank, fold_down_within, fold_down}
 
 -- nodes among lists one after another
 pub nodes_append : (P : NodeId → Type 0) (xs ys : List Item) → AllNodes P xs → AllNodes P ys → AllNodes P (xs ++ ys)
@@ -42,17 +42,17 @@ module _ (s : Setting) (self other : NodeId → List NodePiece) where
 
 module _ (s : Setting) (fall : ItemsFall s) where
   -- a greater depth changes nothing
-  stable : (d e : ℕ) (n : NodeId) → rank s.nodes n < d → rank s.nodes n < e → value_within (pieces_step s) [] d n ≡ value_within (pieces_step s) [] e n
+  stable : (d e : ℕ) (n : NodeId) → rank s.nodes n < d → rank s.nodes n < e → fold_down_within (pieces_step s) [] d n ≡ fold_down_within (pieces_step s) [] e n
   stable zero e n v w = absurd (omega arith)
   stable (suc d) zero n v w = absurd (omega arith)
   stable (suc d) (suc e) n v w =
-      same_pieces s (value_within (pieces_step s) [] d) (value_within (pieces_step s) [] e) (items_of s n)
+      same_pieces s (fold_down_within (pieces_step s) [] d) (fold_down_within (pieces_step s) [] e) (items_of s n)
       (nodes_weaker (λ k. rank s.nodes k < rank s.nodes n) _ (λ k low. stable d e k (omega arith) (omega arith)) (items_of s n) (fall n))
 
   -- the pieces of a node are those of its items
   pub pieces_at : (n : NodeId) → pieces s n ≡ pieces_step s (pieces s) n
-  unfolding pieces value
+  unfolding pieces fold_down
   pieces_at n =
-      same_pieces s (value_within (pieces_step s) [] (rank s.nodes n)) (pieces s) (items_of s n)
+      same_pieces s (fold_down_within (pieces_step s) [] (rank s.nodes n)) (pieces s) (items_of s n)
       (nodes_weaker (λ k. rank s.nodes k < rank s.nodes n) _
       (λ k low. stable (rank s.nodes n) (suc (rank s.nodes k)) k low (omega arith)) (items_of s n) (fall n))

@@ -3,7 +3,7 @@ use Rattle.std.proofs.Common.{◌≡◌, ℕ, zero, suc, ◌+◌, ◌<◌, ◌�
 use Rattle.hir_node.specs.declared.literal.Literal.{Literal}
 use Rattle.hir_node.specs.declared.literal.Literal.TheVariants as literal
 use Rattle.hir_printer.specs.Prelude.{NodeId, Setting, Item, Put, Lacks, Whole, Under, Pattern, TypeItem, text, is_word, raw_parts, name_items, same_text, literal_items, items_of, AllNodes, ItemsFall, total, item_weight, weight_step, weight, heft, enclose}
-use Rattle.hir_faults.specs.Down.{rank, value_within, value}
+use Rattle.hir_faults.specs.Recursion.{rank, fold_down_within, fold_down}
 use Rattle.hir_printer.proofs.StepLemmas.{nodes_weaker}
 use Rattle.hir_printer.proofs.AddLemmas.{total-append}
 
@@ -22,17 +22,17 @@ module _ (s : Setting) (fall : ItemsFall s) where
   same_step : (f g : NodeId → ℕ) (n : NodeId) → AllNodes (λ k. f k ≡ g k) (items_of s n) → weight_step s f n ≡ weight_step s g n
   same_step f g n a = same_weights f g (items_of s n) a
 
-  stable : (d e : ℕ) (n : NodeId) → rank s.nodes n < d → rank s.nodes n < e → value_within (weight_step s) 0 d n ≡ value_within (weight_step s) 0 e n
+  stable : (d e : ℕ) (n : NodeId) → rank s.nodes n < d → rank s.nodes n < e → fold_down_within (weight_step s) 0 d n ≡ fold_down_within (weight_step s) 0 e n
   stable zero e n v w = absurd (omega arith)
   stable (suc d) zero n v w = absurd (omega arith)
   stable (suc d) (suc e) n v w =
-      same_step (value_within (weight_step s) 0 d) (value_within (weight_step s) 0 e) n
+      same_step (fold_down_within (weight_step s) 0 d) (fold_down_within (weight_step s) 0 e) n
       (nodes_weaker (λ k. rank s.nodes k < rank s.nodes n) _ (λ k low. stable d e k (omega arith) (omega arith)) (items_of s n) (fall n))
 
   pub weight_at : (n : NodeId) → weight s n ≡ weight_step s (weight s) n
-  unfolding weight value
+  unfolding weight fold_down
   weight_at n =
-      same_step (value_within (weight_step s) 0 (rank s.nodes n)) (weight s) n
+      same_step (fold_down_within (weight_step s) 0 (rank s.nodes n)) (weight s) n
       (nodes_weaker (λ k. rank s.nodes k < rank s.nodes n) _ (λ k low. stable (rank s.nodes n) (suc (rank s.nodes k)) k low (omega arith)) (items_of s n) (fall n))
 
 -- 2. Weights of items

@@ -28,7 +28,7 @@ use Rattle.hir_node.specs.declared.expr_types.RecordSpread.TheVariants as spread
 use Rattle.hir_node.specs.declared.pat.Pat.TheVariants as pat
 use Rattle.hir_node.specs.declared.type_ref.TypeRef.TheVariants as type
 use Rattle.hir_expr_store.specs.declared.missing.Missing.TheVariants as missing
-use Rattle.hir_faults.specs.Down.{value, rank}
+use Rattle.hir_faults.specs.Recursion.{fold_down, rank}
 use Rattle.hir_printer.specs.Prelude.{Questions, Setting, pieces, path_pieces, first_missing, text_of}
 
 -- tables that hold nothing
@@ -87,7 +87,7 @@ literals_and_operators :
     × (exprs_text (var (codes "a") ∷ var (codes "b") ∷ expr.BinaryOp 0 1 (Some (binary.ArithOp arith.Sub)) ∷ var (codes "c") ∷ expr.BinaryOp 2 3 (Some (binary.ArithOp arith.Sub)) ∷ []) 4 ≡ codes "(a - b) - c")
     × (exprs_text (var (codes "a") ∷ var (codes "b") ∷ expr.BinaryOp 0 1 (Some (binary.LogicOp logic.And)) ∷ var (codes "c") ∷ expr.BinaryOp 2 3 (Some (binary.LogicOp logic.And)) ∷ []) 4 ≡ codes "a && b && c")
     × (expr_text (var (codes "x") ∷ expr.Cast 0 2 ∷ []) [] (named_type (codes "u32") ∷ type.Tuple [] ∷ type.Fn (record { binder = None; params = (None, 0) ∷ (None, 1) ∷ []; is_varargs = false; is_unsafe = false; abi = abi.C }) ∷ []) [] 1 ≡ codes "x as extern C fn(u32) -> ()")
-unfolding pieces value rank height chars encode digits
+unfolding pieces fold_down rank height chars encode digits
 literals_and_operators = (refl, refl, refl, refl, refl, refl, refl, refl)
 
 -- arrays, tuples, arguments and fields
@@ -97,7 +97,7 @@ lists :
     × (exprs_text (var (codes "f") ∷ var (codes "x") ∷ expr.Call 0 (1 ∷ []) ∷ []) 2 ≡ codes "f(\n    x,\n)")
     × (exprs_text (var (codes "a") ∷ var (codes "b") ∷ expr.Tuple (0 ∷ 1 ∷ []) ∷ []) 2 ≡ codes "(a, b, )")
     × (exprs_text (var (codes "x") ∷ expr.RecordLit (bare (codes "S" ∷ [])) (record { name = codes "a"; expr = 0 } ∷ []) spread.None ∷ []) 1 ≡ codes "S{\n    a: x,\n}")
-unfolding pieces value rank height
+unfolding pieces fold_down rank height
 lists = (refl, refl, refl, refl, refl)
 
 -- blocks
@@ -105,7 +105,7 @@ blocks :
     (expr_text (var (codes "M") ∷ var (codes "W") ∷ expr.Assignment 0 0 ∷ expr.Block None (statement.Expr 2 true ∷ []) (Some 1) None unsafety.No ∷ []) (bind 0 ∷ []) [] (binding (codes "x") ∷ []) 3 ≡ codes "{\n    x = M;\n    W\n}")
     × (exprs_text (expr.Block None (statement.Item item.Other ∷ []) None None unsafety.No ∷ []) 0 ≡ codes "{\n}")
     × (exprs_text (var (codes "x") ∷ var (codes "y") ∷ expr.Match 1 [] ∷ expr.Array (array.Repeat 0 2) ∷ expr.Block None [] (Some 3) None unsafety.No ∷ []) 4 ≡ codes "{\n    [\n        x; match y {\n        }\n    \n    ]\n}")
-unfolding pieces value rank height
+unfolding pieces fold_down rank height
 blocks = (refl, refl, refl)
 
 -- patterns in one line; a word of the edition never stands alone
@@ -117,7 +117,7 @@ patterns :
     × (pat_text (bind 0 ∷ pat.Tuple (0 ∷ []) (Some 7) ∷ []) 1 ≡ codes "(a, ..)")
     × (pat_text (pat.Tuple [] (Some 0) ∷ []) 0 ≡ codes "(..)")
     × (pat_text (bind 0 ∷ bind 1 ∷ pat.Slice (0 ∷ 1 ∷ []) None [] ∷ []) 2 ≡ codes "[a, b, ]")
-unfolding pieces value rank height
+unfolding pieces fold_down rank height
 patterns = (refl, refl, refl, refl, refl, refl, refl)
 
 -- the first definition that is missing, in printing order, and a lang item by the name that the tables have
@@ -125,5 +125,5 @@ definitions :
     ((let s = setting (expr.Path (path.LangItem (target.StructId 1) None) ∷ expr.Path (path.LangItem (target.FunctionId 0) None) ∷ expr.Tuple (0 ∷ 1 ∷ []) ∷ []) [] [] [] false in first_missing (pieces s (node.Expr 2))) ≡ Some (missing.Name (named.StructId 1)))
     × ((let s = setting [] [] [] [] false in first_missing (path_pieces s (path.BarePath (record { kind = kind.DollarCrate 0; segments = codes "a" ∷ [] })))) ≡ Some (missing.Crate 0))
     × (text_of (record (setting [] [] [] [] false) { tables = record no_tables { name = λ def. Ok (Some (codes "f")) } }) (path_pieces (record (setting [] [] [] [] false) { tables = record no_tables { name = λ def. Ok (Some (codes "f")) } }) (path.LangItem (target.FunctionId 0) (Some (codes "new")))) ≡ codes "builtin#lang(f::new)")
-unfolding pieces value rank height
+unfolding pieces fold_down rank height
 definitions = (refl, refl, refl)

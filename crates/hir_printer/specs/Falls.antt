@@ -2,7 +2,7 @@
 use Rattle.std.specs.Prelude.{◌<◌, List, [], ◌∷◌, ⊤}
 use Rattle.hir_node.specs.declared.node_id.NodeId.{NodeId}
 use Rattle.hir_node.specs.declared.node_id.NodeId.TheVariants as node
-use Rattle.hir_faults.specs.Down.{rank}
+use Rattle.hir_faults.specs.Recursion.{rank}
 use Rattle.hir_printer.specs.Questions.{Setting}
 use Rattle.hir_printer.specs.Items.{Item, Put, Lacks, Whole, Under, Pattern, TypeItem}
 use Rattle.hir_printer.specs.Pieces.{items_of}

@@ -7,7 +7,7 @@ use Rattle.hir_node.specs.Precedence.{precedence}
 use Rattle.hir_node.specs.declared.{expr.Expr.Expr, node_id.NodeId.NodeId}
 use Rattle.hir_node.specs.declared.node_id.NodeId.TheVariants as node
 use Rattle.hir_path.specs.declared.path.Path.{Path}
-use Rattle.hir_faults.specs.Down.{value}
+use Rattle.hir_faults.specs.Recursion.{fold_down}
 use Rattle.hir_expr_store.specs.declared.missing.Missing.{Missing}
 use Rattle.hir_page.specs.Pieces.{Piece, Text}
 use Rattle.hir_page.specs.Page.{rendering}
@@ -63,7 +63,7 @@ abbrev pub pieces_step : Setting → (NodeId → List NodePiece) → NodeId → 
 pieces_step s self n = flat_map (item_pieces s self) (items_of s n)
 
 unfoldable pub pieces : Setting → NodeId → List NodePiece
-pieces s n = value s.nodes (pieces_step s) [] n
+pieces s n = fold_down s.nodes (pieces_step s) [] n
 
 -- the pieces of items
 abbrev pub item_list_pieces : Setting → List Item → List NodePiece

@@ -2,7 +2,7 @@
 use Rattle.std.specs.Prelude.{ℕ, ◌+◌, List, [], ◌∷◌}
 use Rattle.hir_node.specs.declared.node_id.NodeId.{NodeId}
 use Rattle.hir_node.specs.declared.node_id.NodeId.TheVariants as node
-use Rattle.hir_faults.specs.Down.{value}
+use Rattle.hir_faults.specs.Recursion.{fold_down}
 use Rattle.hir_printer.specs.Questions.{Setting}
 use Rattle.hir_printer.specs.Items.{Item, Put, Lacks, Whole, Under, Pattern, TypeItem}
 use Rattle.hir_printer.specs.Pieces.{items_of}
@@ -24,7 +24,7 @@ abbrev pub weight_step : Setting → (NodeId → ℕ) → NodeId → ℕ
 weight_step s self n = total (item_weight self) (items_of s n)
 
 unfoldable pub weight : Setting → NodeId → ℕ
-weight s n = value s.nodes (weight_step s) 0 n
+weight s n = fold_down s.nodes (weight_step s) 0 n
 
 abbrev pub heft : Setting → List Item → ℕ
 heft s is = total (item_weight (weight s)) is

@@ -8,14 +8,14 @@ pub fn pieces_are_their_step()
     ensures { (c : Contents) → contents_fault c None → (s : Setting) → s.nodes ≡ c.nodes → (n : NodeId)
         → pieces s n ≡ pieces_step s (pieces s) n }
 {
-    hir_expr_store::laws::kids_fall();
-    hir_expr_store::laws::who_has_kids_is_there();
+    hir_expr_store::laws::rank_decreases();
+    hir_expr_store::laws::parents_are_in_range();
 }
 
 /// What is printed inside a node of an accepted store is lower than the node.
 pub fn items_fall()
     ensures { (c : Contents) → contents_fault c None → (s : Setting) → s.nodes ≡ c.nodes → ItemsFall s }
 {
-    hir_expr_store::laws::kids_fall();
-    hir_expr_store::laws::who_has_kids_is_there();
+    hir_expr_store::laws::rank_decreases();
+    hir_expr_store::laws::parents_are_in_range();
 }

@@ -11,7 +11,7 @@ use Rattle.hir_store.specs.Building.{Building, contents_of, finish_fault}
 use Rattle.hir_items.specs.declared.body_fault.BodyFault.{BodyFault}
 use Rattle.hir_items.specs.Bodies.{BodyContents, body_fault}
 use Rattle.hir_captures.specs.Captures.{AreCaptures, IsReachedClosure}
-use Rattle.hir_scope.specs.BodyScopes.{tops_of_body}
+use Rattle.hir_scope.specs.BodyScopes.{entry_nodes_of_body}
 use Rattle.hir_scope.specs.Chains.{HasChain}
 use Rattle.hir_scope.specs.Frames.{Chain}
 use Rattle.hir_run.specs.declared.fault.RunFault.{RunFault}
@@ -57,7 +57,7 @@ section_one may Is next one one_next good script text more outcome other (a, t, 
 
 -- an expression has one chain
 abbrev pub HasOneChain : BodyContents → Type 0
-HasOneChain b = (expr : ℕ) (x y : Chain) → HasChain b.store.nodes (tops_of_body b) expr x → HasChain b.store.nodes (tops_of_body b) expr y → x ≡ y
+HasOneChain b = (expr : ℕ) (x y : Chain) → HasChain b.store.nodes (entry_nodes_of_body b) expr x → HasChain b.store.nodes (entry_nodes_of_body b) expr y → x ≡ y
 
 chain_one : (b : BodyContents) → HasOneChain b → (expr : ℕ) (x y : Option Chain) → IsChainOf b expr x → IsChainOf b expr y → x ≡ y
 chain_one b one expr None None p q = refl

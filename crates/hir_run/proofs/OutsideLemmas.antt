@@ -19,7 +19,7 @@ use Rattle.hir_lines.specs.PatGrammar as line_pat
 use Rattle.hir_lines.specs.PatGrammar.{IsPat}
 use Rattle.hir_lines.specs.TypeGrammar as line_type
 use Rattle.hir_lines.specs.TypeGrammar.{IsType}
-use Rattle.hir_faults.specs.Down.{value, value_within, rank}
+use Rattle.hir_faults.specs.Recursion.{fold_down, fold_down_within, rank}
 use Rattle.hir_printer.specs.Questions.{Setting}
 use Rattle.hir_printer.specs.Items.{Item, Put, Lacks, Whole, Under, Pattern, TypeItem, text, sp, br, out, e, under, p, t, opt, join, comma_joined}
 use Rattle.hir_printer.specs.Names.{name_items, name_parts, annotation_items, of_binding, binding_items}
@@ -220,12 +220,12 @@ module _ (s : Setting) (self : NodeId → List NodePiece) (none : (n : NodeId) �
   item_missing (TypeItem id ∷ is) h = missing_two (self (node.TypeRef id)) (flat_map (item_pieces s self) is) (none (node.TypeRef id)) (item_missing is h)
 
 module _ (s : Setting) (none : (n : NodeId) → NoneLacks (items_of s n)) where
-  missing_within : (depth : ℕ) (n : NodeId) → first_missing (value_within (pieces_step s) [] depth n) ≡ None
+  missing_within : (depth : ℕ) (n : NodeId) → first_missing (fold_down_within (pieces_step s) [] depth n) ≡ None
   missing_within zero n = refl
-  missing_within (suc depth) n = item_missing s (value_within (pieces_step s) [] depth) (missing_within depth) (items_of s n) (none n)
+  missing_within (suc depth) n = item_missing s (fold_down_within (pieces_step s) [] depth) (missing_within depth) (items_of s n) (none n)
 
   pieces_missing : (n : NodeId) → first_missing (pieces s n) ≡ None
-  unfolding pieces value
+  unfolding pieces fold_down
   pieces_missing n = missing_within (suc (rank s.nodes n)) n
 
   pub printed_missing : (is : List Item) → NoneLacks is → first_missing (item_list_pieces s is) ≡ None

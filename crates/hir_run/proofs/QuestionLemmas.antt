@@ -31,7 +31,7 @@ pub stands_on : {input : List ℕ} {p : Place} {question : Question} {text : Lis
 stands_on next other leads at = record {
   texts = at.texts;
   last = at.last;
-  here = at.here;
+  here = at.scope;
   read = at.read;
   count = at.count;
   is = at.is;
@@ -75,4 +75,4 @@ module _ (input : List ℕ) (p : Place) (question : Question) (next : ℕ → Li
   pub refused_there : (Wrote WroteFront : List ℕ → Type 0) (remaining : Option (List ℕ)) → Wrote text → EndsWith input Wrote WroteFront remaining p.lines (Err OutOfMemory)
   refused_there Wrote WroteFront remaining wrote =
       let behind = all_lines in
-      (at.texts, at.last ∷ behind.0, behind.1 ∙ append_assoc at.texts (at.last ∷ []) behind.0, subst (λ (l : List ℕ). IsRefusedBehind at.texts (at.last ∷ behind.0) l p.lines.count) (sym at.here) (refused_asking at.texts behind.0 at.last p.lines.count question at.is at.count), text, at.sound, wrote)
+      (at.texts, at.last ∷ behind.0, behind.1 ∙ append_assoc at.texts (at.last ∷ []) behind.0, subst (λ (l : List ℕ). IsRefusedBehind at.texts (at.last ∷ behind.0) l p.lines.count) (sym at.scope) (refused_asking at.texts behind.0 at.last p.lines.count question at.is at.count), text, at.sound, wrote)

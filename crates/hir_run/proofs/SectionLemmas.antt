@@ -111,7 +111,7 @@ module _ (input : List â„•) (p : Place) (question : Question) (may : Question â†
           record {
             texts = at.texts;
             last = at.last;
-            here = at.here;
+            here = at.scope;
             read = at.read;
             count = at.count;
             is = at.is;

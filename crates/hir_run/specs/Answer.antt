@@ -16,10 +16,10 @@ use Rattle.hir_forest.specs.declared.roots.Root as forest
 use Rattle.hir_faults.specs.Nodes.{Nodes}
 use Rattle.hir_expr_store.specs.RootSearch.{root_for_expr}
 use Rattle.hir_expr_store.specs.Contents.{Contents}
-use Rattle.hir_expr_store.specs.PatLists.{children}
+use Rattle.hir_expr_store.specs.PatLists.{child_exprs}
 use Rattle.hir_items.specs.Bodies.{BodyContents, BodyReaches}
 use Rattle.hir_scope.specs.declared.scope.ScopeEntry.{ScopeEntry}
-use Rattle.hir_scope.specs.BodyScopes.{tops_of_body}
+use Rattle.hir_scope.specs.BodyScopes.{entry_nodes_of_body}
 use Rattle.hir_scope.specs.Chains.{HasChain}
 use Rattle.hir_scope.specs.Frames.{Chain}
 use Rattle.hir_scope.specs.Paths as path
@@ -39,7 +39,7 @@ after_spaces numbers = flat_map (λ n. 32 ∷ decimal n) numbers
 -- what is known of an expression: its children, or that it isn't there
 abbrev pub children_text : Nodes → ℕ → List ℕ
 children_text s e =
-    if nat_lt e (length s.exprs) then codes " =" ++ after_spaces (children s e) else codes " unknown"
+    if nat_lt e (length s.exprs) then codes " =" ++ after_spaces (child_exprs s e) else codes " unknown"
 
 abbrev pub found_text : Option ℕ → List ℕ
 found_text None = codes " none"
@@ -51,14 +51,14 @@ root_text roots e = found_text (root_for_expr roots e)
 
 -- the answer to a question on a store
 abbrev pub store_answer : Contents → StoreQuestion → List ℕ
-store_answer c (Children e) = answer_line (codes "children ") e (children_text c.nodes e)
+store_answer c (Children e) = answer_line (codes "child_exprs ") e (children_text c.nodes e)
 store_answer c (RootOf e) = answer_line (codes "root-of ") e (root_text c.roots e)
 
 -- An expression of a body has a chain, and only one: the frames around it. Or the body doesn't reach it
 abbrev pub IsChainOf : BodyContents → ℕ → Option Chain → Type 0
 IsChainOf b expr None = BodyReaches b (node.Expr expr) → ⊥
 IsChainOf b expr (Some chain) =
-    BodyReaches b (node.Expr expr) × HasChain b.store.nodes (tops_of_body b) expr chain
+    BodyReaches b (node.Expr expr) × HasChain b.store.nodes (entry_nodes_of_body b) expr chain
 
 -- the chain of an expression by the scopes that were made, if it has one
 abbrev pub chain_by : Scopes → ℕ → Option Chain

@@ -2,7 +2,7 @@
 
 ghost use Rattle.std.specs.Prelude.{◌∷◌, ◌<◌, length, codes};
 ghost use Rattle.std.specs.Fmt.{decimal};
-ghost use Rattle.hir_expr_store.specs.PatLists.{children};
+ghost use Rattle.hir_expr_store.specs.PatLists.{child_exprs};
 ghost use Rattle.hir_run.specs.Answer.{store_answer, answer_line, children_text, root_text, after_spaces};
 ghost use Rattle.hir_run.specs.Output.{Puts, PutsText, output_of};
 
@@ -17,7 +17,7 @@ use std::alloc::Global;
 /// Puts the children of an expression, each after a space.
 fn put_children<W: Sink>(store: &ExpressionStore, id: ExprId, output: &mut Output<'_, W>)
     requires { id < length store.now.nodes.exprs }
-    ensures { Puts W.Sink output.old output.new (after_spaces (children store.now.nodes id)) }
+    ensures { Puts W.Sink output.old output.new (after_spaces (child_exprs store.now.nodes id)) }
 {
     store.walk_child_exprs(
         id,
@@ -57,9 +57,9 @@ fn put_root<W: Sink>(store: &ExpressionStore, id: ExprId, output: &mut Output<'_
 
 fn answer_children<W: Sink>(store: &ExpressionStore, id: ExprId, output: &mut Output<'_, W>)
     ensures { Puts W.Sink output.old output.new
-        (answer_line (codes "children ") id (children_text store.now.nodes id)) }
+        (answer_line (codes "child_exprs ") id (children_text store.now.nodes id)) }
 {
-    output.put_asked(b"children ", id);
+    output.put_asked(b"child_exprs ", id);
     put_known(store, id, output);
     output.put(b"\n");
 }

@@ -7,21 +7,21 @@ ghost use Rattle.hir_run.specs.Parts.{body_parts};
 ghost use Rattle.hir_run.specs.Printing.{body_pieces};
 ghost use Rattle.hir_run.specs.Program.{Outcome, IsMeaning, built_by, script};
 
-use hir_captures::laws::captures_are_one;
-use hir_items::body_laws::first_body_fault_is_one;
+use hir_captures::laws::captures_unique;
+use hir_items::body_laws::first_body_fault_unique;
 use hir_lines::laws::said_is_written;
 use hir_scope::laws::a_reached_node_has_one_chain;
-use hir_store::laws::first_fault_is_one;
+use hir_store::laws::first_fault_unique;
 
 /// A script has at most one text and one outcome.
 pub fn meaning_is_one()
     ensures { (script : List Line) (text more : List ℕ) (outcome other : Outcome)
         → IsMeaning script text outcome → IsMeaning script more other → (text ≡ more) × (outcome ≡ other) }
 {
-    first_fault_is_one();
-    first_body_fault_is_one();
+    first_fault_unique();
+    first_body_fault_unique();
     a_reached_node_has_one_chain();
-    captures_are_one();
+    captures_unique();
 }
 
 /// No line makes a node that names a definition outside: nothing is missing of what `print` writes of the body that lines make, whatever

@@ -9,17 +9,17 @@ use Rattle.std.specs.{Prelude.IsSome, declared.cmp.Ordering.Ordering}
 use Rattle.hir_node.specs.declared.node_id.NodeId.{NodeId}
 use Rattle.hir_faults.specs.Nodes.{Nodes, Has}
 use Rattle.hir_expr_store.specs.{Contents.Contents, Under.IsReached, Under.reached_nodes}
-use Rattle.hir_items.specs.{Bodies.BodyContents, Bodies.body_nodes, Bodies.tops, Signatures.root_tops}
-use Rattle.hir_scope.specs.BodyScopes.{ChainsAreFrames, expr_count, tops_of_body, tops_of_signature, AreBodyScopes, AreSignatureScopes, BodyIsTooLarge, SignatureIsTooLarge, limit}
-use Rattle.hir_scope.specs.{Chains.Place, Chains.Stands, Chains.within_own, Forms.form_of, Scopes.entry_count}
+use Rattle.hir_items.specs.{Bodies.BodyContents, Bodies.body_nodes, Bodies.entry_nodes, Signatures.root_entry_nodes}
+use Rattle.hir_scope.specs.BodyScopes.{ChainsAreFrames, expr_count, entry_nodes_of_body, entry_nodes_of_signature, AreBodyScopes, AreSignatureScopes, BodyIsTooLarge, SignatureIsTooLarge, limit}
+use Rattle.hir_scope.specs.{Chains.InContext, Chains.Occurs, Chains.within_own, ScopingForms.form_of, Scopes.entry_count}
 use Rattle.hir_scope.specs.walk.Begins.{IsSound, IsSoundBody, IsSoundStore, root_entries, body_begins, signature_begins}
-use Rattle.hir_scope.specs.walk.Machine.{ScopeGift, write_all, Machine, Progress, IsRight, place_given, future_of, chain_of, IsReady, Exceeds, one, count_entries, weight, weight_left}
-use Rattle.hir_scope.specs.walk.{Pending.future, PlacesUnder.exprs_under}
-use Rattle.hir_scope.proofs.BeginLemmas.{body_ready, body_exceeds, root_exceeds, signature_ready, signature_exceeds, body_same, body_whole, body_scopes_weigh, body_entries_weigh, signature_same, signature_whole, signature_scopes_weigh, signature_entries_weigh, roots_in, tops_there}
+use Rattle.hir_scope.specs.walk.WalkState.{ScopeAssigned, write_all, WalkState, WalkSteps, IsRight, context_assigned, future_of, chain_of, IsReady, Exceeds, one, count_entries, weight, weight_left}
+use Rattle.hir_scope.specs.walk.{Pending.future, ContextsUnder.exprs_under}
+use Rattle.hir_scope.proofs.BeginLemmas.{body_ready, body_exceeds, root_exceeds, signature_ready, signature_exceeds, body_same, body_whole, body_scopes_weigh, body_entries_weigh, signature_same, signature_whole, signature_scopes_weigh, signature_entries_weigh, roots_in, entry_nodes_in_range}
 use Rattle.hir_scope.proofs.CountLemmas.{exprs_counted}
 use Rattle.hir_scope.proofs.MemberLemmas.{In, contains_in, in_map, map_in}
 use Rattle.hir_scope.proofs.{MovingLemmas.scopes_weigh, MovingLemmas.entries_weigh, SameLemmas.at_or_before}
-use Rattle.hir_scope.proofs.UnderLemmas.{reached_stands, stands_reached, exprs_stand, standing_exprs}
+use Rattle.hir_scope.proofs.UnderLemmas.{reached_occurs, occurs_reached, exprs_stand, standing_exprs}
 
 -- 1. What a list of writes leaves in a finite map: at each id that was written one of the values written there, and nothing else.
 
@@ -34,19 +34,19 @@ tied_same q k e = nat_cmp-IsAntisymmetric q k (is_equal (nat_cmp q k) e) where
   is_equal Ordering.Greater e = absurd cc
 
 -- a value that is there was there before, or was written
-pub written_or : (m : ScopesById) (gs : List ScopeGift) (expr scope : ℕ) → finmap.get (write_all m gs) expr ≡ Some scope → (finmap.get m expr ≡ Some scope) ⊎ ((g : ScopeGift) × In g gs × (g.expr ≡ expr) × (g.scope ≡ scope))
+pub written_or : (m : ScopesById) (gs : List ScopeAssigned) (expr scope : ℕ) → finmap.get (write_all m gs) expr ≡ Some scope → (finmap.get m expr ≡ Some scope) ⊎ ((g : ScopeAssigned) × In g gs × (g.expr ≡ expr) × (g.assigned ≡ scope))
 written_or m [] expr scope e = inl e
 written_or m (g ∷ gs) expr scope e =
     ⊎_elim
     (λ q. ⊎_elim
     (λ t. inr (g, inl refl, sym (tied_same expr g.expr t.0), t.1))
     (λ o. inl o)
-    (at_or_before (eq_by_cmp nat_cmp expr g.expr) g.scope (finmap.get m expr) scope (sym (get-insert nat_cmp_total m g.expr g.scope expr) ∙ q)))
+    (at_or_before (eq_by_cmp nat_cmp expr g.expr) g.assigned (finmap.get m expr) scope (sym (get-insert nat_cmp_total m g.expr g.assigned expr) ∙ q)))
     (λ r. inr (r.0, inr r.1, r.2, r.3))
-    (written_or (finmap.insert m g.expr g.scope) gs expr scope e)
+    (written_or (finmap.insert m g.expr g.assigned) gs expr scope e)
 
 -- into nothing, it was written
-pub written_once : (gs : List ScopeGift) (expr scope : ℕ) → finmap.get (write_all finmap.empty gs) expr ≡ Some scope → (g : ScopeGift) × In g gs × (g.expr ≡ expr) × (g.scope ≡ scope)
+pub written_once : (gs : List ScopeAssigned) (expr scope : ℕ) → finmap.get (write_all finmap.empty gs) expr ≡ Some scope → (g : ScopeAssigned) × In g gs × (g.expr ≡ expr) × (g.assigned ≡ scope)
 written_once gs expr scope e =
     ⊎_elim (λ q. absurd (let none : finmap.get {K = ℕ} {X = ℕ} {R = nat_cmp} finmap.empty expr ≡ None = get-empty nat_cmp expr in cc)) (λ r. r)
     (written_or finmap.empty gs expr scope e)
@@ -57,53 +57,53 @@ some_if false v o (inl e) = absurd cc
 some_if false v o (inr h) = h
 
 -- what is there stays
-stays : (m : ScopesById) (gs : List ScopeGift) (expr : ℕ) → IsSome (finmap.get m expr) → IsSome (finmap.get (write_all m gs) expr)
+stays : (m : ScopesById) (gs : List ScopeAssigned) (expr : ℕ) → IsSome (finmap.get m expr) → IsSome (finmap.get (write_all m gs) expr)
 stays m [] expr h = h
 stays m (g ∷ gs) expr h =
-    stays (finmap.insert m g.expr g.scope) gs expr
-    (subst IsSome (sym (get-insert nat_cmp_total m g.expr g.scope expr)) (some_if (eq_by_cmp nat_cmp expr g.expr) g.scope (finmap.get m expr) (inr h)))
+    stays (finmap.insert m g.expr g.assigned) gs expr
+    (subst IsSome (sym (get-insert nat_cmp_total m g.expr g.assigned expr)) (some_if (eq_by_cmp nat_cmp expr g.expr) g.assigned (finmap.get m expr) (inr h)))
 
 -- what was written is there
-pub written_there : (m : ScopesById) (gs : List ScopeGift) (g : ScopeGift) → In g gs → IsSome (finmap.get (write_all m gs) g.expr)
-written_there m [] g h = absurd h
-written_there m (f ∷ gs) g h =
+pub written_in_range : (m : ScopesById) (gs : List ScopeAssigned) (g : ScopeAssigned) → In g gs → IsSome (finmap.get (write_all m gs) g.expr)
+written_in_range m [] g h = absurd h
+written_in_range m (f ∷ gs) g h =
     ⊎_elim
-    (λ e. stays (finmap.insert m f.expr f.scope) gs g.expr
-    (subst IsSome (sym (get-insert nat_cmp_total m f.expr f.scope g.expr))
-    (some_if (eq_by_cmp nat_cmp g.expr f.expr) f.scope (finmap.get m g.expr) (inl (ap (λ (x : ScopeGift). eq_by_cmp nat_cmp g.expr x.expr) e ∙ ap is_eq (tied_itself nat_cmp_total g.expr))))))
-    (λ i. written_there (finmap.insert m f.expr f.scope) gs g i)
+    (λ e. stays (finmap.insert m f.expr f.assigned) gs g.expr
+    (subst IsSome (sym (get-insert nat_cmp_total m f.expr f.assigned g.expr))
+    (some_if (eq_by_cmp nat_cmp g.expr f.expr) f.assigned (finmap.get m g.expr) (inl (ap (λ (x : ScopeAssigned). eq_by_cmp nat_cmp g.expr x.expr) e ∙ ap is_eq (tied_itself nat_cmp_total g.expr))))))
+    (λ i. written_in_range (finmap.insert m f.expr f.assigned) gs g i)
     h
 
--- 2. What a walk that met all under some tops has made: each reached expression has a scope, with its frames as the scope's chain.
+-- 2. What a walk that met all under some entry nodes has made: each reached expression has a scope, with its frames as the scope's chain.
 
 some_is : (o : Option ℕ) → IsSome o → (v : ℕ) × (o ≡ Some v)
 some_is None h = absurd cc
 some_is (Some v) h = (v, refl)
 
-module _ (s : Nodes) (sound : IsSound s) (tops : List Place) (nodes : List NodeId) (same : map (λ (p : Place). p.node) tops ≡ nodes) (there : (n : NodeId) → In n nodes → Has s n) where
-  places_there : (p : Place) → In p tops → Has s p.node
-  places_there p i = there p.node (subst (In p.node) same (map_in (λ (q : Place). q.node) p tops i))
+module _ (s : Nodes) (sound : IsSound s) (entry_nodes : List InContext) (nodes : List NodeId) (same : map (λ (p : InContext). p.node) entry_nodes ≡ nodes) (in_range : (n : NodeId) → In n nodes → Has s n) where
+  contexts_in_range : (p : InContext) → In p entry_nodes → Has s p.node
+  contexts_in_range p i = in_range p.node (subst (In p.node) same (map_in (λ (q : InContext). q.node) p entry_nodes i))
 
-  pub counted : length (exprs_under s tops) ≡ expr_count (reached_nodes s nodes)
-  counted = exprs_counted s sound.fall sound.under tops nodes (sym same) places_there there
+  pub counted : length (exprs_under s entry_nodes) ≡ expr_count (reached_nodes s nodes)
+  counted = exprs_counted s sound.fall sound.under entry_nodes nodes (sym same) contexts_in_range in_range
 
-  module _ (old new : Machine) (before after : ℕ) (gone : Progress s old new before after) (whole : future_of s old ≡ exprs_under s tops) (none : old.scopes.scope_by_expr ≡ finmap.empty) (done : new.tasks ≡ []) where
-    places : map place_given gone.given ≡ exprs_under s tops
+  module _ (old new : WalkState) (before after : ℕ) (gone : WalkSteps s old new before after) (whole : future_of s old ≡ exprs_under s entry_nodes) (none : old.scopes.scope_by_expr ≡ finmap.empty) (done : new.tasks ≡ []) where
+    contexts : map context_assigned gone.given ≡ exprs_under s entry_nodes
     unfolding future
-    places =
+    contexts =
         let scopes = new.scopes.scopes in
-        let last : future_of s new ≡ [] = ap (λ ts. future s (chain_of scopes) (chain_of scopes new.around.here) (chain_of scopes new.around.constant) ts) done in
-        sym (append-nil (map place_given gone.given))
-        ∙ (ap (λ (ps : List Place). map place_given gone.given ++ ps) (sym last)
+        let last : future_of s new ≡ [] = ap (λ ts. future s (chain_of scopes) (chain_of scopes new.current.scope) (chain_of scopes new.current.const_scope) ts) done in
+        sym (append-nil (map context_assigned gone.given))
+        ∙ (ap (λ (ps : List InContext). map context_assigned gone.given ++ ps) (sym last)
         ∙ (sym gone.in_order ∙ whole))
 
     written : new.scopes.scope_by_expr ≡ write_all finmap.empty gone.given
     written = gone.written ∙ ap (λ m. write_all m gone.given) none
 
-    given_stands : (g : ScopeGift) → In g gone.given → Stands s tops (place_given g)
-    given_stands g i = exprs_stand s sound.fall tops places_there (place_given g) (subst (In (place_given g)) places (map_in place_given g gone.given i))
+    given_occurs : (g : ScopeAssigned) → In g gone.given → Occurs s entry_nodes (context_assigned g)
+    given_occurs g i = exprs_stand s sound.fall entry_nodes contexts_in_range (context_assigned g) (subst (In (context_assigned g)) contexts (map_in context_assigned g gone.given i))
 
-    was_given : (expr scope : ℕ) → finmap.get new.scopes.scope_by_expr expr ≡ Some scope → (g : ScopeGift) × In g gone.given × (g.expr ≡ expr) × (g.scope ≡ scope)
+    was_given : (expr scope : ℕ) → finmap.get new.scopes.scope_by_expr expr ≡ Some scope → (g : ScopeAssigned) × In g gone.given × (g.expr ≡ expr) × (g.assigned ≡ scope)
     was_given expr scope e = written_once gone.given expr scope (sym (ap (λ m. finmap.get m expr) written) ∙ e)
 
     to_reached : (expr : ℕ) → IsSome (finmap.get new.scopes.scope_by_expr expr) → IsReached s nodes (NodeId.Expr expr)
@@ -111,39 +111,39 @@ module _ (s : Nodes) (sound : IsSound s) (tops : List Place) (nodes : List NodeI
         let v = some_is (finmap.get new.scopes.scope_by_expr expr) h in
         let g = was_given expr v.0 v.1 in
         subst (λ (x : ℕ). IsReached s nodes (NodeId.Expr x)) g.2
-        (subst (λ ns. IsReached s ns (NodeId.Expr g.0.expr)) same (stands_reached s tops (place_given g.0) (given_stands g.0 g.1)))
+        (subst (λ ns. IsReached s ns (NodeId.Expr g.0.expr)) same (occurs_reached s entry_nodes (context_assigned g.0) (given_occurs g.0 g.1)))
 
     from_reached : (expr : ℕ) → IsReached s nodes (NodeId.Expr expr) → IsSome (finmap.get new.scopes.scope_by_expr expr)
     from_reached expr h =
-        let at = reached_stands s tops (NodeId.Expr expr) (subst (λ ns. IsReached s ns (NodeId.Expr expr)) (sym same) h) in
-        let i = standing_exprs s sound.fall tops places_there at.0 expr at.2 at.1 in
-        let g = in_map place_given at.0 gone.given (subst (In at.0) (sym places) i) in
-        let one : NodeId.Expr g.0.expr ≡ NodeId.Expr expr = ap (λ (p : Place). p.node) g.2 ∙ at.2 in
+        let at = reached_occurs s entry_nodes (NodeId.Expr expr) (subst (λ ns. IsReached s ns (NodeId.Expr expr)) (sym same) h) in
+        let i = standing_exprs s sound.fall entry_nodes contexts_in_range at.0 expr at.2 at.1 in
+        let g = in_map context_assigned at.0 gone.given (subst (In at.0) (sym contexts) i) in
+        let one : NodeId.Expr g.0.expr ≡ NodeId.Expr expr = ap (λ (p : InContext). p.node) g.2 ∙ at.2 in
         let id : g.0.expr ≡ expr = cc in
         subst (λ m. IsSome (finmap.get m expr)) (sym written)
-        (subst (λ (x : ℕ). IsSome (finmap.get (write_all finmap.empty gone.given) x)) id (written_there finmap.empty gone.given g.0 g.1))
+        (subst (λ (x : ℕ). IsSome (finmap.get (write_all finmap.empty gone.given) x)) id (written_in_range finmap.empty gone.given g.0 g.1))
 
     pub reached : (expr : ℕ) → IsSome (finmap.get new.scopes.scope_by_expr expr) ↔ IsReached s nodes (NodeId.Expr expr)
     reached expr = (to_reached expr, from_reached expr)
 
-    pub chains : ChainsAreFrames s tops new.scopes
+    pub chains : ChainsAreFrames s entry_nodes new.scopes
     chains expr scope e =
         let g = was_given expr scope e in
         let right = All-contains (IsRight s new.scopes.scopes) gone.given g.0 gone.right (contains_in gone.given g.0 g.1) in
         record {
-          at = place_given g.0;
-          stands = given_stands g.0 g.1;
+          at = context_assigned g.0;
+          occurs = given_occurs g.0 g.1;
           is_node = ap NodeId.Expr g.2;
-          is_chain = ap (chain_of new.scopes.scopes) (sym g.3) ∙ (right.is ∙ ap (λ (x : ℕ). within_own (form_of s (NodeId.Expr x)) g.0.here) g.2);
+          is_chain = ap (chain_of new.scopes.scopes) (sym g.3) ∙ (right.is ∙ ap (λ (x : ℕ). within_own (form_of s (NodeId.Expr x)) g.0.scope) g.2);
         }
 
     pub ticked : after ≡ before + expr_count (reached_nodes s nodes)
-    ticked = omega (arith, length-map gone.given place_given, ap (λ (ps : List Place). length ps) places, counted, gone.ticks)
+    ticked = omega (arith, length-map gone.given context_assigned, ap (λ (ps : List InContext). length ps) contexts, counted, gone.ticks)
 
 -- 3. What the whole walk over a body or a signature has made: its scopes, with the counts of scopes and entries, in a step for each expression.
 
 -- at the end all that was weighed is in scopes
-module _ (s : Nodes) (old new : Machine) (done : new.tasks ≡ []) where
+module _ (s : Nodes) (old new : WalkState) (done : new.tasks ≡ []) where
   all_scopes : weight s one old ≡ weight s one new → length new.scopes.scopes ≡ weight s one old
   all_scopes e =
       let l : weight_left s one new.tasks ≡ 0 = ap (weight_left s one) done in
@@ -162,8 +162,8 @@ module _ (b : BodyContents) (sound : IsSoundBody b) where
   root_fails h = root_exceeds b sound h
 
   -- in the store of the body, from the state in which its walk begins
-  module _ (c : Contents) (same : c ≡ b.store) (start : Machine) (is : start ≡ body_begins b) where
-    whole : future_of nodes start ≡ exprs_under nodes (tops_of_body b)
+  module _ (c : Contents) (same : c ≡ b.store) (start : WalkState) (is : start ≡ body_begins b) where
+    whole : future_of nodes start ≡ exprs_under nodes (entry_nodes_of_body b)
     whole = ap (future_of nodes) is ∙ body_whole b
 
     pub body_starts : IsReady c.nodes start
@@ -172,38 +172,38 @@ module _ (b : BodyContents) (sound : IsSoundBody b) where
     pub body_at_most : length (future_of c.nodes start) ≡ expr_count (body_nodes b)
     body_at_most =
         ap (λ (x : Contents). length (future_of x.nodes start)) same
-        ∙ (ap (λ ps. length ps) whole ∙ counted nodes sound.nodes (tops_of_body b) (tops b) (body_same b) (tops_there b sound))
+        ∙ (ap (λ ps. length ps) whole ∙ counted nodes sound.nodes (entry_nodes_of_body b) (entry_nodes b) (body_same b) (entry_nodes_in_range b sound))
 
     pub body_fails : Exceeds c.nodes start → BodyIsTooLarge b
     body_fails h = body_exceeds b sound (subst (Exceeds nodes) is (subst (λ (x : Contents). Exceeds x.nodes start) same h))
 
-    module _ (new : Machine) (before after : ℕ) (went : Progress c.nodes start new before after) (done : new.tasks ≡ []) where
-      gone : Progress nodes start new before after
-      gone = subst (λ (x : Contents). Progress x.nodes start new before after) same went
+    module _ (new : WalkState) (before after : ℕ) (went : WalkSteps c.nodes start new before after) (done : new.tasks ≡ []) where
+      gone : WalkSteps nodes start new before after
+      gone = subst (λ (x : Contents). WalkSteps x.nodes start new before after) same went
 
       none : start.scopes.scope_by_expr ≡ finmap.empty
       none = ap (λ m. m.scopes.scope_by_expr) is
 
       pub body_ticks : after ≡ before + expr_count (body_nodes b)
-      body_ticks = ticked nodes sound.nodes (tops_of_body b) (tops b) (body_same b) (tops_there b sound) start new before after gone whole none done
+      body_ticks = ticked nodes sound.nodes (entry_nodes_of_body b) (entry_nodes b) (body_same b) (entry_nodes_in_range b sound) start new before after gone whole none done
 
       pub body_made : AreBodyScopes b new.scopes
       body_made = record {
-        reached = reached nodes sound.nodes (tops_of_body b) (tops b) (body_same b) (tops_there b sound) start new before after gone whole none done;
-        chains = chains nodes sound.nodes (tops_of_body b) (tops b) (body_same b) (tops_there b sound) start new before after gone whole none done;
+        reached = reached nodes sound.nodes (entry_nodes_of_body b) (entry_nodes b) (body_same b) (entry_nodes_in_range b sound) start new before after gone whole none done;
+        chains = chains nodes sound.nodes (entry_nodes_of_body b) (entry_nodes b) (body_same b) (entry_nodes_in_range b sound) start new before after gone whole none done;
         scopes = all_scopes nodes start new done (gone.weights one) ∙ (ap (weight nodes one) is ∙ body_scopes_weigh b sound);
         entries = all_entries nodes start new done (gone.weights count_entries) ∙ (ap (weight nodes count_entries) is ∙ body_entries_weigh b sound);
       }
 
-module _ (c : Contents) (sound : IsSoundStore c) (start : Machine) (is : start ≡ signature_begins c) where
+module _ (c : Contents) (sound : IsSoundStore c) (start : WalkState) (is : start ≡ signature_begins c) where
   pub signature_starts : IsReady c.nodes start
   signature_starts = subst (IsReady c.nodes) (sym is) (signature_ready c sound)
 
   pub signature_fails : Exceeds c.nodes start → SignatureIsTooLarge c
   signature_fails h = signature_exceeds c sound (subst (Exceeds c.nodes) is h)
 
-  module _ (new : Machine) (before after : ℕ) (gone : Progress c.nodes start new before after) (done : new.tasks ≡ []) where
-    met_all : future_of c.nodes start ≡ exprs_under c.nodes (tops_of_signature c)
+  module _ (new : WalkState) (before after : ℕ) (gone : WalkSteps c.nodes start new before after) (done : new.tasks ≡ []) where
+    met_all : future_of c.nodes start ≡ exprs_under c.nodes (entry_nodes_of_signature c)
     met_all = ap (future_of c.nodes) is ∙ signature_whole c
 
     no_scope : start.scopes.scope_by_expr ≡ finmap.empty
@@ -211,8 +211,8 @@ module _ (c : Contents) (sound : IsSoundStore c) (start : Machine) (is : start �
 
     pub signature_made : AreSignatureScopes c new.scopes
     signature_made = record {
-      reached = reached c.nodes sound.nodes (tops_of_signature c) (root_tops c) (signature_same c) (roots_in c sound) start new before after gone met_all no_scope done;
-      chains = chains c.nodes sound.nodes (tops_of_signature c) (root_tops c) (signature_same c) (roots_in c sound) start new before after gone met_all no_scope done;
+      reached = reached c.nodes sound.nodes (entry_nodes_of_signature c) (root_entry_nodes c) (signature_same c) (roots_in c sound) start new before after gone met_all no_scope done;
+      chains = chains c.nodes sound.nodes (entry_nodes_of_signature c) (root_entry_nodes c) (signature_same c) (roots_in c sound) start new before after gone met_all no_scope done;
       scopes = all_scopes c.nodes start new done (gone.weights one) ∙ (ap (weight c.nodes one) is ∙ signature_scopes_weigh c sound);
       entries = all_entries c.nodes start new done (gone.weights count_entries) ∙ (ap (weight c.nodes count_entries) is ∙ signature_entries_weigh c sound);
     }

@@ -7,48 +7,48 @@ use Rattle.std.specs.List.{flat_map, sum_by}
 use Rattle.hir_base.specs.declared.mod_path.PathKind.TheVariants.{Plain}
 use Rattle.hir_path.specs.declared.bound.{TypeBound.TypeBound, UseArgRef.UseArgRef}
 use Rattle.hir_path.specs.declared.path.{GenericArgs.GenericArgs, Path.Path}
-use Rattle.hir_node.specs.ChildCalls.{Call, OnLifetime, e, p, t, l, opt, pat_of_call, use_calls, bound_calls, args_calls, path_calls, spread_calls, array_calls, kids}
+use Rattle.hir_node.specs.ChildCalls.{Call, OnLifetime, e, p, t, l, opt, pat_of_call, use_calls, bound_calls, args_calls, path_calls, spread_calls, array_calls, children}
 use Rattle.hir_node.specs.declared.expr.Expr.{Expr}
 use Rattle.hir_node.specs.declared.expr_types.{Array.Array, Item.Item, MatchArm.MatchArm}
 use Rattle.hir_node.specs.declared.expr_types.{RecordSpread.RecordSpread, Statement.Statement}
 use Rattle.hir_node.specs.declared.{node_id.NodeId.NodeId, type_ref.TypeRef.TypeRef}
 use Rattle.hir_node.proofs.ChildPatLemmas.{none-path, pats-list}
-use Rattle.hir_faults.specs.{Down.rank, Down.KidsFall, Nodes.Nodes, Nodes.Has, Nodes.kids_of}
-use Rattle.hir_faults.proofs.DownLemmas.{value_at}
+use Rattle.hir_faults.specs.{Recursion.rank, Recursion.RankDecreases, Nodes.Nodes, Nodes.Has, Nodes.children_of}
+use Rattle.hir_faults.proofs.RecursionLemmas.{fold_down_at}
 use Rattle.hir_expr_store.specs.Under.{nodes_under, reached_nodes}
 use Rattle.hir_scope.specs.BodyScopes.{expr_count, is_expr}
-use Rattle.hir_scope.specs.Chains.{Place, place_kid, places_of_kids}
-use Rattle.hir_scope.specs.Counts.{count_if_there, statement_scopes, form_scopes}
-use Rattle.hir_scope.specs.Forms.{ScopingForm, expr_form, type_form, form_of}
-use Rattle.hir_scope.specs.Forms as form
+use Rattle.hir_scope.specs.Chains.{InContext, child_in_context, children_in_context}
+use Rattle.hir_scope.specs.Counts.{count_if_some, statement_scopes, form_scopes}
+use Rattle.hir_scope.specs.ScopingForms.{ScopingForm, expr_form, type_form, form_of}
+use Rattle.hir_scope.specs.ScopingForms as form
 use Rattle.hir_scope.specs.{Frames.Frame, Frames.binds, Frames.frame, Order.met_in_closure, Order.met_in_form}
-use Rattle.hir_scope.specs.Slots.{Slot, slots, block_constants}
-use Rattle.hir_scope.specs.declared.tasks.{Around.Around, Task.Task}
-use Rattle.hir_scope.specs.walk.Machine.{total, about, one, count_entries, total_step, tasks_weight, node_tasks, node_frames, weight_left, task_turns, node_turns, turns_left}
-use Rattle.hir_scope.specs.walk.Pending.{task_of, tasks_of, one_arm, guarded_task, leave, statement_tasks, form_tasks, opens_here, opens_constant, task_kids, task_frames}
-use Rattle.hir_scope.specs.walk.PlacesUnder.{places_under, exprs_under}
-use Rattle.hir_scope.proofs.KidLemmas.{kids_in, slots_kids, kids_of_form, about_form}
+use Rattle.hir_scope.specs.ChildContexts.{ChildContext, child_contexts, block_const_frames}
+use Rattle.hir_scope.specs.declared.tasks.{CurrentScopes.CurrentScopes, Task.Task}
+use Rattle.hir_scope.specs.walk.WalkState.{total, about, one, count_entries, total_step, tasks_weight, node_tasks, node_frames, weight_left, task_turns, node_turns, turns_left}
+use Rattle.hir_scope.specs.walk.Pending.{task_of, tasks_of, one_arm, guarded_task, leave, statement_tasks, form_tasks, opened_frames, opened_const_frames, task_children, task_frames}
+use Rattle.hir_scope.specs.walk.ContextsUnder.{contexts_under, exprs_under}
+use Rattle.hir_scope.proofs.ChildLemmas.{children_in, child_contexts_children, children_of_form, about_form}
 use Rattle.hir_scope.proofs.MemberLemmas.{In, contains_in, sum_flat, sum_same, sum_mapped, sum_plus, sum_none, sum_ones, agree_in}
-use Rattle.hir_scope.proofs.UnderLemmas.{under_at, kid_there, kid_lower}
+use Rattle.hir_scope.proofs.UnderLemmas.{under_at, child_in_range, child_lower}
 
 -- 1. Sums over tasks and all nodes under those that they are about: what a node weighs is what it weighs itself, and what its tasks weigh.
 
-module _ (s : Nodes) (fall : KidsFall s) (u : NodeId → ℕ) where
-  pub total_at : (n : NodeId) → Has s n → total s u n ≡ u n + sum_by (total s u) (kids_of s n)
+module _ (s : Nodes) (fall : RankDecreases s) (u : NodeId → ℕ) where
+  pub total_at : (n : NodeId) → Has s n → total s u n ≡ u n + sum_by (total s u) (children_of s n)
   unfolding total
-  total_at n h = value_at s fall (total_step s u) 0 (λ f g m agree. ap (λ (x : ℕ). u m + x) (sum_same f g (kids_of s m) (agree_in f g (kids_of s m) agree))) n
+  total_at n h = fold_down_at s fall (total_step s u) 0 (λ f g m agree. ap (λ (x : ℕ). u m + x) (sum_same f g (children_of s m) (agree_in f g (children_of s m) agree))) n
 
-  met_total : (n : NodeId) → sum_by (total s u) (kids (met_in_form (form_of s n))) ≡ sum_by (total s u) (kids_of s n)
-  unfolding slots
+  met_total : (n : NodeId) → sum_by (total s u) (children (met_in_form (form_of s n))) ≡ sum_by (total s u) (children_of s n)
+  unfolding child_contexts
   met_total n =
-      ap (λ (ns : List NodeId). sum_by (total s u) ns) (sym (kids_of_form s (form_of s n)))
-      ∙ sum_by-IsPermutation (total s u) (kids_of s n) (kids_in (slots s n)) (slots_kids s n)
+      ap (λ (ns : List NodeId). sum_by (total s u) ns) (sym (children_of_form s (form_of s n)))
+      ∙ sum_by-IsPermutation (total s u) (children_of s n) (children_in (child_contexts s n)) (child_contexts_children s n)
 
   -- a node is met: its own weight goes, and what is inside it comes
-  pub left_met : (v : Task → ℕ) (a : Around) (n : NodeId) (ts : List Task) → Has s n → let inside = form_tasks a (form_of s n) in (total s u n + tasks_weight s u v ts) + sum_by v inside ≡ u n + tasks_weight s u v (inside ++ ts)
+  pub left_met : (v : Task → ℕ) (a : CurrentScopes) (n : NodeId) (ts : List Task) → Has s n → let inside = form_tasks a (form_of s n) in (total s u n + tasks_weight s u v ts) + sum_by v inside ≡ u n + tasks_weight s u v (inside ++ ts)
   left_met v a n ts h =
       let inside = form_tasks a (form_of s n) in
-      let b = ap (λ (ns : List NodeId). sum_by (total s u) ns) (flat_map-append task_kids inside ts) ∙ sum_by-append (total s u) (about inside) (about ts) in
+      let b = ap (λ (ns : List NodeId). sum_by (total s u) ns) (flat_map-append task_children inside ts) ∙ sum_by-append (total s u) (about inside) (about ts) in
       omega (arith, total_at n h, met_total n, ap (λ (ns : List NodeId). sum_by (total s u) ns) (about_form a (form_of s n)), sum_by-append v inside ts, b)
 
 -- 2. What is still to come, as sums: a node that is met leaves what its tasks weigh, less what it opens itself.
@@ -56,11 +56,11 @@ module _ (s : Nodes) (fall : KidsFall s) (u : NodeId → ℕ) where
 -- Sums over tasks
 
 module _ (s : Nodes) (u : NodeId → ℕ) (v : Task → ℕ) where
-  pub left_cons : (t : Task) (ts : List Task) → tasks_weight s u v (t ∷ ts) ≡ v t + (sum_by (total s u) (task_kids t) + tasks_weight s u v ts)
-  left_cons t ts = omega (arith, sum_by-cons v t ts, sum_by-append (total s u) (task_kids t) (about ts))
+  pub left_cons : (t : Task) (ts : List Task) → tasks_weight s u v (t ∷ ts) ≡ v t + (sum_by (total s u) (task_children t) + tasks_weight s u v ts)
+  left_cons t ts = omega (arith, sum_by-cons v t ts, sum_by-append (total s u) (task_children t) (about ts))
 
 -- what is left with one scope weighs as much as what is left with another
-module _ (v : Task → ℕ) (a b : Around) (same : v (leave a) ≡ v (leave b)) where
+module _ (v : Task → ℕ) (a b : CurrentScopes) (same : v (leave a) ≡ v (leave b)) where
   around_last : (us : List Task) → sum_by v (us ++ leave a ∷ []) ≡ sum_by v (us ++ leave b ∷ [])
   around_last us = let x = sum_by-append v us (leave a ∷ []) in let y = sum_by-append v us (leave b ∷ []) in omega (arith, x, y, same)
 
@@ -83,95 +83,95 @@ module _ (v : Task → ℕ) (a b : Around) (same : v (leave a) ≡ v (leave b)) 
 
 -- Frames
 
-module _ (s : Nodes) (fall : KidsFall s) where
+module _ (s : Nodes) (fall : RankDecreases s) where
   -- a node is met: the frames that it opens are there, those of its tasks are still to come
-  pub weight_met : (w : Frame → ℕ) (a : Around) (n : NodeId) (ts : List Task) → Has s n → let x = form_of s n in
-      total s (λ (m : NodeId). sum_by w (node_frames s m)) n + weight_left s w ts ≡ sum_by w (opens_here s x ++ opens_constant x) + weight_left s w (form_tasks a x ++ ts)
+  pub weight_met : (w : Frame → ℕ) (a : CurrentScopes) (n : NodeId) (ts : List Task) → Has s n → let x = form_of s n in
+      total s (λ (m : NodeId). sum_by w (node_frames s m)) n + weight_left s w ts ≡ sum_by w (opened_frames s x ++ opened_const_frames x) + weight_left s w (form_tasks a x ++ ts)
   weight_met w a n ts h =
       let x = form_of s n in
       let v : Task → ℕ = λ t. sum_by w (task_frames s t) in
       let d = left_met s fall (λ (m : NodeId). sum_by w (node_frames s m)) v a n ts h in
-      let b = sum_by-append w (opens_here s x ++ opens_constant x) (flat_map (task_frames s) (node_tasks s n)) in
-      omega (arith, d, b, sum_flat w (task_frames s) (node_tasks s n), around_same v a (record { here = 0; constant = 0 }) refl x)
+      let b = sum_by-append w (opened_frames s x ++ opened_const_frames x) (flat_map (task_frames s) (node_tasks s n)) in
+      omega (arith, d, b, sum_flat w (task_frames s) (node_tasks s n), around_same v a (record { scope = 0; const_scope = 0 }) refl x)
 
-  pub turns_met : (a : Around) (n : NodeId) (ts : List Task) → Has s n → total s (node_turns s) n + turns_left s ts ≡ 2 + turns_left s (form_tasks a (form_of s n) ++ ts)
+  pub turns_met : (a : CurrentScopes) (n : NodeId) (ts : List Task) → Has s n → total s (node_turns s) n + turns_left s ts ≡ 2 + turns_left s (form_tasks a (form_of s n) ++ ts)
   turns_met a n ts h =
-      omega (arith, left_met s fall (node_turns s) task_turns a n ts h, around_same task_turns a (record { here = 0; constant = 0 }) refl (form_of s n))
+      omega (arith, left_met s fall (node_turns s) task_turns a n ts h, around_same task_turns a (record { scope = 0; const_scope = 0 }) refl (form_of s n))
 
--- 3. Sums over what is reached, however it is listed: by nodes, by places, or told from each node by its kids.
+-- 3. Sums over what is reached, however it is listed: by nodes, by places, or told from each node by its children.
 
 abbrev pub one_if : Bool → ℕ
 one_if b = cond b 1 0
 
 -- Sums over what is under nodes
 
-module _ (s : Nodes) (fall : KidsFall s) (listing : (n : NodeId) → nodes_under s n ≡ n ∷ flat_map (nodes_under s) (kids_of s n)) (f : NodeId → ℕ) where
+module _ (s : Nodes) (fall : RankDecreases s) (listing : (n : NodeId) → nodes_under s n ≡ n ∷ flat_map (nodes_under s) (children_of s n)) (f : NodeId → ℕ) where
   nodes_total : (n : ℕ) (m : NodeId) → rank s m < n → Has s m → sum_by f (nodes_under s m) ≡ total s f m
   nodes_total zero m l h = absurd (omega (arith, l))
   nodes_total (suc n) m l h =
       let a = ap (λ (ns : List NodeId). sum_by f ns) (listing m) in
-      let b = sum_by-cons f m (flat_map (nodes_under s) (kids_of s m)) in
-      let d = sum_flat f (nodes_under s) (kids_of s m) in
-      let r = sum_same (λ k. sum_by f (nodes_under s k)) (total s f) (kids_of s m) (λ k i.
-      let c = contains_in (kids_of s m) k i in
-      nodes_total n k (let low = fall.lower m h k c in omega (arith, low, l)) (fall.there m h k c)) in
+      let b = sum_by-cons f m (flat_map (nodes_under s) (children_of s m)) in
+      let d = sum_flat f (nodes_under s) (children_of s m) in
+      let r = sum_same (λ k. sum_by f (nodes_under s k)) (total s f) (children_of s m) (λ k i.
+      let c = contains_in (children_of s m) k i in
+      nodes_total n k (let low = fall.lower m h k c in omega (arith, low, l)) (fall.in_range m h k c)) in
       omega (arith, a, b, d, r, total_at s fall f m h)
 
-  pub reached_total : (tops : List NodeId) → ((n : NodeId) → In n tops → Has s n) → sum_by f (reached_nodes s tops) ≡ sum_by (total s f) tops
-  reached_total tops there =
-      sum_flat f (nodes_under s) tops
-      ∙ sum_same (λ k. sum_by f (nodes_under s k)) (total s f) tops (λ k i. nodes_total (suc (rank s k)) k (omega arith) (there k i))
+  pub reached_total : (entry_nodes : List NodeId) → ((n : NodeId) → In n entry_nodes → Has s n) → sum_by f (reached_nodes s entry_nodes) ≡ sum_by (total s f) entry_nodes
+  reached_total entry_nodes in_range =
+      sum_flat f (nodes_under s) entry_nodes
+      ∙ sum_same (λ k. sum_by f (nodes_under s k)) (total s f) entry_nodes (λ k i. nodes_total (suc (rank s k)) k (omega arith) (in_range k i))
 
-module _ (s : Nodes) (fall : KidsFall s) (f : NodeId → ℕ) where
-  abbrev at_place : Place → ℕ
-  at_place p = f p.node
+module _ (s : Nodes) (fall : RankDecreases s) (f : NodeId → ℕ) where
+  abbrev at_context : InContext → ℕ
+  at_context p = f p.node
 
-  kids_sum : (p : Place) → sum_by (λ (q : Place). total s f q.node) (places_of_kids s p) ≡ sum_by (total s f) (kids_of s p.node)
-  kids_sum p =
-      sum_mapped (λ (q : Place). total s f q.node) (place_kid p.here p.constant) (slots s p.node)
-      ∙ (sym (sum_mapped (total s f) (λ (x : Slot). x.kid) (slots s p.node))
-      ∙ sum_by-IsPermutation (total s f) (kids_of s p.node) (kids_in (slots s p.node)) (slots_kids s p.node))
+  children_sum : (p : InContext) → sum_by (λ (q : InContext). total s f q.node) (children_in_context s p) ≡ sum_by (total s f) (children_of s p.node)
+  children_sum p =
+      sum_mapped (λ (q : InContext). total s f q.node) (child_in_context p.scope p.const_scope) (child_contexts s p.node)
+      ∙ (sym (sum_mapped (total s f) (λ (x : ChildContext). x.child) (child_contexts s p.node))
+      ∙ sum_by-IsPermutation (total s f) (children_of s p.node) (children_in (child_contexts s p.node)) (child_contexts_children s p.node))
 
-  places_total : (n : ℕ) (p : Place) → rank s p.node < n → Has s p.node → sum_by at_place (places_under s p) ≡ total s f p.node
-  places_total zero p l h = absurd (omega (arith, l))
-  places_total (suc n) p l h =
-      let a = ap (λ (ps : List Place). sum_by at_place ps) (under_at s fall p h) in
-      let b = sum_by-cons at_place p (flat_map (places_under s) (places_of_kids s p)) in
-      let d = sum_flat at_place (places_under s) (places_of_kids s p) in
-      let r = sum_same (λ q. sum_by at_place (places_under s q)) (λ (q : Place). total s f q.node) (places_of_kids s p) (λ q i.
-      places_total n q (let low = kid_lower s fall p q h i in omega (arith, low, l)) (kid_there s fall p q h i)) in
-      omega (arith, a, b, d, r, kids_sum p, total_at s fall f p.node h)
+  contexts_total : (n : ℕ) (p : InContext) → rank s p.node < n → Has s p.node → sum_by at_context (contexts_under s p) ≡ total s f p.node
+  contexts_total zero p l h = absurd (omega (arith, l))
+  contexts_total (suc n) p l h =
+      let a = ap (λ (ps : List InContext). sum_by at_context ps) (under_at s fall p h) in
+      let b = sum_by-cons at_context p (flat_map (contexts_under s) (children_in_context s p)) in
+      let d = sum_flat at_context (contexts_under s) (children_in_context s p) in
+      let r = sum_same (λ q. sum_by at_context (contexts_under s q)) (λ (q : InContext). total s f q.node) (children_in_context s p) (λ q i.
+      contexts_total n q (let low = child_lower s fall p q h i in omega (arith, low, l)) (child_in_range s fall p q h i)) in
+      omega (arith, a, b, d, r, children_sum p, total_at s fall f p.node h)
 
-  pub placed_total : (tops : List Place) → ((p : Place) → In p tops → Has s p.node) → sum_by at_place (flat_map (places_under s) tops) ≡ sum_by (total s f) (map (λ (p : Place). p.node) tops)
-  placed_total tops there =
-      sum_flat at_place (places_under s) tops
-      ∙ (sum_same (λ q. sum_by at_place (places_under s q)) (λ (q : Place). total s f q.node) tops (λ q i. places_total (suc (rank s q.node)) q (omega arith) (there q i))
-      ∙ sym (sum_mapped (total s f) (λ (p : Place). p.node) tops))
+  pub context_total : (entry_nodes : List InContext) → ((p : InContext) → In p entry_nodes → Has s p.node) → sum_by at_context (flat_map (contexts_under s) entry_nodes) ≡ sum_by (total s f) (map (λ (p : InContext). p.node) entry_nodes)
+  context_total entry_nodes in_range =
+      sum_flat at_context (contexts_under s) entry_nodes
+      ∙ (sum_same (λ q. sum_by at_context (contexts_under s q)) (λ (q : InContext). total s f q.node) entry_nodes (λ q i. contexts_total (suc (rank s q.node)) q (omega arith) (in_range q i))
+      ∙ sym (sum_mapped (total s f) (λ (p : InContext). p.node) entry_nodes))
 
 -- As many expressions are listed by places as by nodes
 
 abbrev expr_one : NodeId → ℕ
 expr_one n = one_if (is_expr n)
 
-pub exprs_counted : (s : Nodes) → KidsFall s → ((n : NodeId) → nodes_under s n ≡ n ∷ flat_map (nodes_under s) (kids_of s n)) → (tops : List Place) (nodes : List NodeId) → nodes ≡ map (λ (p : Place). p.node) tops → ((p : Place) → In p tops → Has s p.node) → ((n : NodeId) → In n nodes → Has s n) → length (exprs_under s tops) ≡ expr_count (reached_nodes s nodes)
+pub exprs_counted : (s : Nodes) → RankDecreases s → ((n : NodeId) → nodes_under s n ≡ n ∷ flat_map (nodes_under s) (children_of s n)) → (entry_nodes : List InContext) (nodes : List NodeId) → nodes ≡ map (λ (p : InContext). p.node) entry_nodes → ((p : InContext) → In p entry_nodes → Has s p.node) → ((n : NodeId) → In n nodes → Has s n) → length (exprs_under s entry_nodes) ≡ expr_count (reached_nodes s nodes)
 unfolding exprs_under
-exprs_counted s fall listing tops nodes same there there_too =
-    length-filter (λ (p : Place). is_expr p.node) (flat_map (places_under s) tops)
-    ∙ (placed_total s fall expr_one tops there
+exprs_counted s fall listing entry_nodes nodes same in_range in_range_too =
+    length-filter (λ (p : InContext). is_expr p.node) (flat_map (contexts_under s) entry_nodes)
+    ∙ (context_total s fall expr_one entry_nodes in_range
     ∙ (ap (λ (ns : List NodeId). sum_by (total s expr_one) ns) (sym same)
-    ∙ (sym (reached_total s fall listing expr_one nodes there_too)
+    ∙ (sym (reached_total s fall listing expr_one nodes in_range_too)
     ∙ sym (length-filter is_expr (reached_nodes s nodes)))))
 
--- 4. What the frames of a node are, counted: as scopes, by its form; and as entries, by the patterns among its kids.
+-- 4. What the frames of a node are, counted: as scopes, by its form; and as entries, by the patterns among its children.
 
 -- the frames that a form opens, as it is met and by its tasks
-abbrev pub form_frames : Nodes → Around → ScopingForm → List Frame
-form_frames s around x = (opens_here s x ++ opens_constant x) ++ flat_map (task_frames s) (form_tasks around x)
+abbrev pub form_frames : Nodes → CurrentScopes → ScopingForm → List Frame
+form_frames s current x = (opened_frames s x ++ opened_const_frames x) ++ flat_map (task_frames s) (form_tasks current x)
 
-frames_split : (s : Nodes) (w : Frame → ℕ) (around : Around) (x : ScopingForm) → sum_by w (form_frames s around x) ≡ (sum_by w (opens_here s x) + sum_by w (opens_constant x)) + sum_by (λ t. sum_by w (task_frames s t)) (form_tasks around x)
-frames_split s w around x =
-    let b = sum_by-append w (opens_here s x ++ opens_constant x) (flat_map (task_frames s) (form_tasks around x)) in
-    omega (arith, b, sum_by-append w (opens_here s x) (opens_constant x), sum_flat w (task_frames s) (form_tasks around x))
+frames_split : (s : Nodes) (w : Frame → ℕ) (current : CurrentScopes) (x : ScopingForm) → sum_by w (form_frames s current x) ≡ (sum_by w (opened_frames s x) + sum_by w (opened_const_frames x)) + sum_by (λ t. sum_by w (task_frames s t)) (form_tasks current x)
+frames_split s w current x =
+    let b = sum_by-append w (opened_frames s x ++ opened_const_frames x) (flat_map (task_frames s) (form_tasks current x)) in
+    omega (arith, b, sum_by-append w (opened_frames s x) (opened_const_frames x), sum_flat w (task_frames s) (form_tasks current x))
 
 -- As scopes
 
@@ -205,28 +205,28 @@ module _ (s : Nodes) where
   arms_ones : (arms : List MatchArm) → sum_by (ones s) (flat_map one_arm arms) ≡ length arms
   arms_ones arms = sum_flat (ones s) one_arm arms ∙ sum_ones (λ arm. sum_by (ones s) (one_arm arm)) arms (λ arm i. let r = guarded_one arm.pat arm.expr arm.guard in omega (arith, r))
 
-  constants_one : (id : Option ℕ) → sum_by one (block_constants id) ≡ count_if_there id
+  constants_one : (id : Option ℕ) → sum_by one (block_const_frames id) ≡ count_if_some id
   constants_one None = refl
   constants_one (Some id) = refl
 
   -- the tasks of a form and what it opens as it is met, counted
-  tasks_ones : (around : Around) (x : ScopingForm) → (sum_by one (opens_here s x) + sum_by one (opens_constant x)) + sum_by (ones s) (form_tasks around x) ≡ form_scopes x
-  tasks_ones around (form.If c y f) =
-      let b = sum_by-append (ones s) (tasks_of (e c ++ e y)) (leave around ∷ tasks_of (opt e f)) in
-      omega (arith, b, sum_by-cons (ones s) (leave around) (tasks_of (opt e f)), calls_open one (e c ++ e y), calls_open one (opt e f))
-  tasks_ones around (form.Block id label xs tail) =
-      let b = sum_by-append (ones s) (flat_map statement_tasks xs) (tasks_of (opt e tail) ++ leave around ∷ []) in
-      omega (arith, b, sum_by-append (ones s) (tasks_of (opt e tail)) (leave around ∷ []), statements_ones xs, calls_open one (opt e tail), constants_one id)
-  tasks_ones around (form.Closure types ret args body) =
-      let b = sum_by-append (ones s) (tasks_of (met_in_closure types ret args body)) (leave around ∷ []) in
+  tasks_ones : (current : CurrentScopes) (x : ScopingForm) → (sum_by one (opened_frames s x) + sum_by one (opened_const_frames x)) + sum_by (ones s) (form_tasks current x) ≡ form_scopes x
+  tasks_ones current (form.If c y f) =
+      let b = sum_by-append (ones s) (tasks_of (e c ++ e y)) (leave current ∷ tasks_of (opt e f)) in
+      omega (arith, b, sum_by-cons (ones s) (leave current) (tasks_of (opt e f)), calls_open one (e c ++ e y), calls_open one (opt e f))
+  tasks_ones current (form.Block id label xs tail) =
+      let b = sum_by-append (ones s) (flat_map statement_tasks xs) (tasks_of (opt e tail) ++ leave current ∷ []) in
+      omega (arith, b, sum_by-append (ones s) (tasks_of (opt e tail)) (leave current ∷ []), statements_ones xs, calls_open one (opt e tail), constants_one id)
+  tasks_ones current (form.Closure types ret args body) =
+      let b = sum_by-append (ones s) (tasks_of (met_in_closure types ret args body)) (leave current ∷ []) in
       omega (arith, b, calls_open one (met_in_closure types ret args body))
-  tasks_ones around (form.Match x arms) = omega (arith, sum_by-cons (ones s) (Task.Expr x) (flat_map one_arm arms), arms_ones arms)
-  tasks_ones around (form.InTurn cs) = let r = calls_open one cs in omega (arith, r)
-  tasks_ones around _ = refl
+  tasks_ones current (form.Match x arms) = omega (arith, sum_by-cons (ones s) (Task.Expr x) (flat_map one_arm arms), arms_ones arms)
+  tasks_ones current (form.InTurn cs) = let r = calls_open one cs in omega (arith, r)
+  tasks_ones current _ = refl
 
   -- a node opens as many scopes as its form says
-  pub form_ones : (around : Around) (x : ScopingForm) → sum_by one (form_frames s around x) ≡ form_scopes x
-  form_ones around x = frames_split s one around x ∙ tasks_ones around x
+  pub form_ones : (current : CurrentScopes) (x : ScopingForm) → sum_by one (form_frames s current x) ≡ form_scopes x
+  form_ones current x = frames_split s one current x ∙ tasks_ones current x
 
 -- No pattern is among the calls of a node that is no scoping form, a pattern aside
 
@@ -324,7 +324,7 @@ module _ (s : Nodes) where
   one_frame : (q : ℕ) → length (frame s (q ∷ [])).entries ≡ length (binds s q)
   one_frame q = let r = frame_entries (q ∷ []) in omega (arith, r)
 
-  task_bound : (x : Task) → sum_by bound_by (task_kids x) ≡ weights_of x + rest_of x
+  task_bound : (x : Task) → sum_by bound_by (task_children x) ≡ weights_of x + rest_of x
   task_bound (Task.Bound id) = let r = one_frame id in omega (arith, r)
   task_bound (Task.Arm pat expr) = let r = one_frame pat in omega (arith, r)
   task_bound (Task.GuardedArm pat guard expr) = let r = one_frame pat in omega (arith, r)
@@ -332,8 +332,8 @@ module _ (s : Nodes) where
 
   tasks_bound : (ts : List Task) → sum_by bound_by (about ts) ≡ sum_by weights_of ts + sum_by rest_of ts
   tasks_bound ts =
-      sum_flat bound_by task_kids ts
-      ∙ (sum_same (λ x. sum_by bound_by (task_kids x)) (λ x. weights_of x + rest_of x) ts (λ x i. task_bound x)
+      sum_flat bound_by task_children ts
+      ∙ (sum_same (λ x. sum_by bound_by (task_children x)) (λ x. weights_of x + rest_of x) ts (λ x i. task_bound x)
       ∙ sum_plus weights_of rest_of ts)
 
   -- of calls, what the patterns among them bind
@@ -372,7 +372,7 @@ module _ (s : Nodes) where
   arms_rest : (arms : List MatchArm) → sum_by rest_of (flat_map one_arm arms) ≡ 0
   arms_rest arms = sum_flat rest_of one_arm arms ∙ sum_none (λ arm. sum_by rest_of (one_arm arm)) arms (λ arm. let r = guarded_rest arm.pat arm.expr arm.guard in omega (arith, r))
 
-  constants_empty : (id : Option ℕ) → sum_by count_entries (block_constants id) ≡ 0
+  constants_empty : (id : Option ℕ) → sum_by count_entries (block_const_frames id) ≡ 0
   constants_empty None = refl
   constants_empty (Some id) = refl
 
@@ -383,26 +383,26 @@ module _ (s : Nodes) where
       ∙ (flat_map-append pat_of_call (flat_map p args) (e body) ∙ (ap (λ (ps : List ℕ). ps ++ []) (pats-list args) ∙ append-nil args)))
 
   -- what the frames hold that are opened as a node is met is what patterns among its tasks bind that open none
-  opens_rest : (around : Around) (x : ScopingForm) → MeetsNone x → sum_by count_entries (opens_here s x) + sum_by count_entries (opens_constant x) ≡ sum_by rest_of (form_tasks around x)
-  opens_rest around (form.If c y f) h =
-      let b = sum_by-append rest_of (tasks_of (e c ++ e y)) (leave around ∷ tasks_of (opt e f)) in
-      omega (arith, b, sum_by-cons rest_of (leave around) (tasks_of (opt e f)), calls_none (e c ++ e y) refl, opt_none f)
-  opens_rest around (form.Block id label xs tail) h =
-      let b = sum_by-append rest_of (flat_map statement_tasks xs) (tasks_of (opt e tail) ++ leave around ∷ []) in
-      omega (arith, b, sum_by-append rest_of (tasks_of (opt e tail)) (leave around ∷ []), statements_rest xs, opt_none tail, constants_empty id)
-  opens_rest around (form.Closure types ret args body) h =
+  opens_rest : (current : CurrentScopes) (x : ScopingForm) → MeetsNone x → sum_by count_entries (opened_frames s x) + sum_by count_entries (opened_const_frames x) ≡ sum_by rest_of (form_tasks current x)
+  opens_rest current (form.If c y f) h =
+      let b = sum_by-append rest_of (tasks_of (e c ++ e y)) (leave current ∷ tasks_of (opt e f)) in
+      omega (arith, b, sum_by-cons rest_of (leave current) (tasks_of (opt e f)), calls_none (e c ++ e y) refl, opt_none f)
+  opens_rest current (form.Block id label xs tail) h =
+      let b = sum_by-append rest_of (flat_map statement_tasks xs) (tasks_of (opt e tail) ++ leave current ∷ []) in
+      omega (arith, b, sum_by-append rest_of (tasks_of (opt e tail)) (leave current ∷ []), statements_rest xs, opt_none tail, constants_empty id)
+  opens_rest current (form.Closure types ret args body) h =
       let cs = met_in_closure types ret args body in
       let b = calls_rest cs ∙ ap (λ (ps : List ℕ). sum_by (λ q. length (binds s q)) ps) (closure_pats types ret args body) in
-      omega (arith, sum_by-append rest_of (tasks_of cs) (leave around ∷ []), b, frame_entries args)
-  opens_rest around (form.Match x arms) h = omega (arith, sum_by-cons rest_of (Task.Expr x) (flat_map one_arm arms), arms_rest arms)
-  opens_rest around (form.Assignment target value) h = let r = one_frame target in omega (arith, r)
-  opens_rest around (form.InTurn cs) h = let r = calls_none cs h in omega (arith, r)
-  opens_rest around _ h = refl
+      omega (arith, sum_by-append rest_of (tasks_of cs) (leave current ∷ []), b, frame_entries args)
+  opens_rest current (form.Match x arms) h = omega (arith, sum_by-cons rest_of (Task.Expr x) (flat_map one_arm arms), arms_rest arms)
+  opens_rest current (form.Assignment target value) h = let r = one_frame target in omega (arith, r)
+  opens_rest current (form.InTurn cs) h = let r = calls_none cs h in omega (arith, r)
+  opens_rest current _ h = refl
 
-  -- so a node's frames hold what the patterns among its kids bind
-  pub form_entries : (around : Around) (x : ScopingForm) → MeetsNone x → sum_by count_entries (form_frames s around x) ≡ sum_by bound_by (about (form_tasks around x))
-  form_entries around x h = omega (arith, frames_split s count_entries around x, opens_rest around x h, tasks_bound (form_tasks around x))
+  -- so a node's frames hold what the patterns among its children bind
+  pub form_entries : (current : CurrentScopes) (x : ScopingForm) → MeetsNone x → sum_by count_entries (form_frames s current x) ≡ sum_by bound_by (about (form_tasks current x))
+  form_entries current x h = omega (arith, frames_split s count_entries current x, opens_rest current x h, tasks_bound (form_tasks current x))
 
   -- what is met in turn opens no frame
-  pub turn_entries : (around : Around) (cs : List Call) → sum_by count_entries (form_frames s around (form.InTurn cs)) ≡ 0
-  turn_entries around cs = omega (arith, frames_split s count_entries around (form.InTurn cs), calls_open s count_entries cs)
+  pub turn_entries : (current : CurrentScopes) (cs : List Call) → sum_by count_entries (form_frames s current (form.InTurn cs)) ≡ 0
+  turn_entries current cs = omega (arith, frames_split s count_entries current (form.InTurn cs), calls_open s count_entries cs)

@@ -3,79 +3,79 @@ use Rattle.std.proofs.Common.{◌≡◌, ℕ, suc, ◌<◌, List, [], ◌∷◌,
 use Rattle.std.proofs.lemmas.List.{Concat.flat_map-append, Elements.All-nil, Elements.All-cons}
 use Rattle.std.proofs.lemmas.List.Sorted.{IsPermutation-sym, Contains-permutation}
 use Rattle.std.specs.List.{All, flat_map, sum_by, slice_get}
-use Rattle.hir_node.specs.ChildCalls.{Call, OnLifetime, e, p, t, opt, kid, kids}
+use Rattle.hir_node.specs.ChildCalls.{Call, OnLifetime, e, p, t, opt, child, children}
 use Rattle.hir_node.specs.declared.expr_types.{Item.Item, MatchArm.MatchArm, Statement.Statement}
 use Rattle.hir_node.specs.declared.{node_id.NodeId.NodeId, pat.Pat.Pat, type_ref.TypeRef.TypeRef}
-use Rattle.hir_faults.specs.{Down.KidsFall, Nodes.Nodes, Nodes.Has, Nodes.kids_of}
-use Rattle.hir_scope.specs.Chains.{Place, place_kid}
-use Rattle.hir_scope.specs.Forms.{ScopingForm, form_of, form_at, pat_form, type_form}
-use Rattle.hir_scope.specs.Forms as form
+use Rattle.hir_faults.specs.{Recursion.RankDecreases, Nodes.Nodes, Nodes.Has, Nodes.children_of}
+use Rattle.hir_scope.specs.Chains.{InContext, child_in_context}
+use Rattle.hir_scope.specs.ScopingForms.{ScopingForm, form_of, form_at, pat_form, type_form}
+use Rattle.hir_scope.specs.ScopingForms as form
 use Rattle.hir_scope.specs.Frames.{Chain, frame, Frame, of_kind}
-use Rattle.hir_scope.specs.Leak.{leak, leak_of_form}
+use Rattle.hir_scope.specs.OpenFrames.{open_frames, open_frames_of_form}
 use Rattle.hir_scope.specs.Order.{met_in_closure, met_in_form, met_in_arm}
-use Rattle.hir_scope.specs.{Scopes.frame_of, Scopes.Scopes, Slots.slots, Slots.slots_of_form}
-use Rattle.hir_scope.specs.declared.{scope.ScopeKind.ScopeKind, tasks.Around.Around, tasks.Task.Task}
-use Rattle.hir_scope.specs.walk.Machine.{Over, Exceeds, about, AreThere, LeavesWithin, Machine, chain_of, IsReady, total, tasks_weight, node_frames, weight_left, node_turns, task_turns, turns_left, OpensScopes, Moves}
-use Rattle.hir_scope.specs.walk.Pending.{tasks_of, arm_task, one_arm, guarded_task, statement_tasks, form_tasks, task_kids, leave, opens_here, opens_constant, future, arm_with, task_frames}
-use Rattle.hir_scope.specs.walk.PlacesUnder.{place, exprs_under}
+use Rattle.hir_scope.specs.{Scopes.frame_of, Scopes.Scopes, ChildContexts.child_contexts, ChildContexts.child_contexts_of_form}
+use Rattle.hir_scope.specs.declared.{scope.ScopeKind.ScopeKind, tasks.CurrentScopes.CurrentScopes, tasks.Task.Task}
+use Rattle.hir_scope.specs.walk.WalkState.{Over, Exceeds, about, AreInRange, LeavesWithin, WalkState, chain_of, IsReady, total, tasks_weight, node_frames, weight_left, node_turns, task_turns, turns_left, OpensScopes, Step}
+use Rattle.hir_scope.specs.walk.Pending.{tasks_of, arm_task, one_arm, guarded_task, statement_tasks, form_tasks, task_children, leave, opened_frames, opened_const_frames, future, arm_with, task_frames}
+use Rattle.hir_scope.specs.walk.ContextsUnder.{in_context, exprs_under}
 use Rattle.hir_scope.proofs.CountLemmas.{left_cons, weight_met, turns_met}
 use Rattle.hir_scope.proofs.FutureLemmas.{future_form, turn_ended, future_arm_task}
-use Rattle.hir_scope.proofs.KidLemmas.{kids_of_form, kids_in, slots_kids, about_form}
+use Rattle.hir_scope.proofs.ChildLemmas.{children_of_form, children_in, child_contexts_children, about_form}
 use Rattle.hir_scope.proofs.MovingLemmas.{over_exceeds, at, opened_none, moves_opened, moves_still}
-use Rattle.hir_scope.proofs.UnderLemmas.{leak_at, exprs_under_expr, exprs_under_pat, exprs_under_type}
+use Rattle.hir_scope.proofs.UnderLemmas.{open_frames_at, exprs_under_expr, exprs_under_pat, exprs_under_type}
 
--- 1. What the tasks of a node name is there: the node's kids, and the scopes that are taken back.
+-- 1. What the tasks of a node name is there: the node's children, and the scopes that are taken back.
 
 -- Nodes
 
 module _ (s : Nodes) where
-  pub there_all : (ns : List NodeId) → ((k : NodeId) → Contains ns k → Has s k) → AreThere s ns
-  there_all [] h = tt
-  there_all (n ∷ ns) h = (h n (0, omega arith, refl), there_all ns (λ k m. h k (suc m.0, omega (arith, m.1), m.2)))
+  pub in_range_all : (ns : List NodeId) → ((k : NodeId) → Contains ns k → Has s k) → AreInRange s ns
+  in_range_all [] h = tt
+  in_range_all (n ∷ ns) h = (h n (0, omega arith, refl), in_range_all ns (λ k m. h k (suc m.0, omega (arith, m.1), m.2)))
 
-  pub there_join : (ns ms : List NodeId) → AreThere s ns → AreThere s ms → AreThere s (ns ++ ms)
-  there_join [] ms h k = k
-  there_join (n ∷ ns) ms h k = (h.0, there_join ns ms h.1 k)
+  pub in_range_join : (ns ms : List NodeId) → AreInRange s ns → AreInRange s ms → AreInRange s (ns ++ ms)
+  in_range_join [] ms h k = k
+  in_range_join (n ∷ ns) ms h k = (h.0, in_range_join ns ms h.1 k)
 
-  pub there_parts : (ns ms : List NodeId) → AreThere s (ns ++ ms) → AreThere s ns × AreThere s ms
-  there_parts [] ms h = (tt, h)
-  there_parts (n ∷ ns) ms h = let r = there_parts ns ms h.1 in ((h.0, r.0), r.1)
+  pub in_range_parts : (ns ms : List NodeId) → AreInRange s (ns ++ ms) → AreInRange s ns × AreInRange s ms
+  in_range_parts [] ms h = (tt, h)
+  in_range_parts (n ∷ ns) ms h = let r = in_range_parts ns ms h.1 in ((h.0, r.0), r.1)
 
-  -- the kids of a node that is there
-  pub kids_there : KidsFall s → (n : NodeId) → Has s n → AreThere s (kids (met_in_form (form_of s n)))
-  unfolding slots
-  kids_there fall n h =
-      subst (AreThere s) (kids_of_form s (form_of s n))
-      (there_all (kids_in (slots s n)) (λ k m. fall.there n h k
-      (Contains-permutation (kids_in (slots s n)) (kids_of s n) k (IsPermutation-sym (kids_of s n) (kids_in (slots s n)) (slots_kids s n)) m)))
+  -- the children of a node that is there
+  pub children_in_range : RankDecreases s → (n : NodeId) → Has s n → AreInRange s (children (met_in_form (form_of s n)))
+  unfolding child_contexts
+  children_in_range fall n h =
+      subst (AreInRange s) (children_of_form s (form_of s n))
+      (in_range_all (children_in (child_contexts s n)) (λ k m. fall.in_range n h k
+      (Contains-permutation (children_in (child_contexts s n)) (children_of s n) k (IsPermutation-sym (children_of s n) (children_in (child_contexts s n)) (child_contexts_children s n)) m)))
 
-  pats_there : (ps : List ℕ) → AreThere s (kids (flat_map p ps)) → AreThere s (map NodeId.Pat ps)
-  pats_there [] h = tt
-  pats_there (x ∷ ps) h = (h.0, pats_there ps h.1)
+  pats_in_range : (ps : List ℕ) → AreInRange s (children (flat_map p ps)) → AreInRange s (map NodeId.Pat ps)
+  pats_in_range [] h = tt
+  pats_in_range (x ∷ ps) h = (h.0, pats_in_range ps h.1)
 
-  pub all_there : (ps : List ℕ) → AreThere s (map NodeId.Pat ps) → All (λ p. p < length s.pats) ps
-  all_there [] h = All-nil (λ p. p < length s.pats)
-  all_there (x ∷ ps) h = All-cons (λ p. p < length s.pats) x ps h.0 (all_there ps h.1)
+  pub all_in_range : (ps : List ℕ) → AreInRange s (map NodeId.Pat ps) → All (λ p. p < length s.pats) ps
+  all_in_range [] h = All-nil (λ p. p < length s.pats)
+  all_in_range (x ∷ ps) h = All-cons (λ p. p < length s.pats) x ps h.0 (all_in_range ps h.1)
 
   -- the patterns that a closure binds
-  pub closure_pats : KidsFall s → (n : NodeId) (types : List (Option ℕ)) (ret : Option ℕ) (args : List ℕ) (body : ℕ) → Has s n → form_of s n ≡ form.Closure types ret args body → AreThere s (map NodeId.Pat args)
+  pub closure_pats : RankDecreases s → (n : NodeId) (types : List (Option ℕ)) (ret : Option ℕ) (args : List ℕ) (body : ℕ) → Has s n → form_of s n ≡ form.Closure types ret args body → AreInRange s (map NodeId.Pat args)
   closure_pats fall n types ret args body h q =
       let first = flat_map (opt t) types ++ opt t ret in
-      let all : AreThere s (kids (met_in_closure types ret args body)) = subst (λ (x : ScopingForm). AreThere s (kids (met_in_form x))) q (kids_there fall n h) in
-      let last = (there_parts (kids first) (kids (flat_map p args ++ e body)) (subst (AreThere s) (flat_map-append kid first (flat_map p args ++ e body)) all)).1 in
-      pats_there args (there_parts (kids (flat_map p args)) (kids (e body)) (subst (AreThere s) (flat_map-append kid (flat_map p args) (e body)) last)).0
+      let all : AreInRange s (children (met_in_closure types ret args body)) = subst (λ (x : ScopingForm). AreInRange s (children (met_in_form x))) q (children_in_range fall n h) in
+      let last = (in_range_parts (children first) (children (flat_map p args ++ e body)) (subst (AreInRange s) (flat_map-append child first (flat_map p args ++ e body)) all)).1 in
+      pats_in_range args (in_range_parts (children (flat_map p args)) (children (e body)) (subst (AreInRange s) (flat_map-append child (flat_map p args) (e body)) last)).0
 
   -- the pattern that is assigned to
-  pub target_pat : KidsFall s → (n : NodeId) (target value : ℕ) → Has s n → form_of s n ≡ form.Assignment target value → AreThere s (map NodeId.Pat (target ∷ []))
+  pub target_pat : RankDecreases s → (n : NodeId) (target value : ℕ) → Has s n → form_of s n ≡ form.Assignment target value → AreInRange s (map NodeId.Pat (target ∷ []))
   target_pat fall n target value h q =
-      let all : AreThere s (kids (met_in_form (form.Assignment target value))) = subst (λ (x : ScopingForm). AreThere s (kids (met_in_form x))) q (kids_there fall n h) in
+      let all : AreInRange s (children (met_in_form (form.Assignment target value))) = subst (λ (x : ScopingForm). AreInRange s (children (met_in_form x))) q (children_in_range fall n h) in
       (all.0, tt)
 
   -- what is inside a node, and then what was known before
-  pub known_met : KidsFall s → (a : Around) (n : NodeId) (ts : List Task) → Has s n → AreThere s (about ts) → AreThere s (about (form_tasks a (form_of s n) ++ ts))
+  pub known_met : RankDecreases s → (a : CurrentScopes) (n : NodeId) (ts : List Task) → Has s n → AreInRange s (about ts) → AreInRange s (about (form_tasks a (form_of s n) ++ ts))
   known_met fall a n ts h k =
-      subst (AreThere s) (sym (flat_map-append task_kids (form_tasks a (form_of s n)) ts))
-      (there_join (about (form_tasks a (form_of s n))) (about ts) (subst (AreThere s) (sym (about_form a (form_of s n))) (kids_there fall n h)) k)
+      subst (AreInRange s) (sym (flat_map-append task_children (form_tasks a (form_of s n)) ts))
+      (in_range_join (about (form_tasks a (form_of s n))) (about ts) (subst (AreInRange s) (sym (about_form a (form_of s n))) (children_in_range fall n h)) k)
 
 -- Scopes that are taken back
 
@@ -108,7 +108,7 @@ module _ (n : ℕ) where
   leaves_arms [] ts l = l
   leaves_arms (arm ∷ arms) ts l = leaves_arm arm.pat arm.expr arm.guard (flat_map one_arm arms ++ ts) (leaves_arms arms ts l)
 
-  pub leaves_met : (a : Around) (x : ScopingForm) (ts : List Task) → a.here < n → a.constant < n → LeavesWithin n ts → LeavesWithin n (form_tasks a x ++ ts)
+  pub leaves_met : (a : CurrentScopes) (x : ScopingForm) (ts : List Task) → a.scope < n → a.const_scope < n → LeavesWithin n ts → LeavesWithin n (form_tasks a x ++ ts)
   leaves_met a (form.If c y f) ts h k l = (h, k, leaves_calls (opt e f) ts l)
   leaves_met a (form.Let pat x) ts h k l = l
   leaves_met a (form.Block id label xs tail) ts h k l =
@@ -125,49 +125,49 @@ module _ (n : ℕ) where
 -- 2. A task that is done leaves what is still to do as it was, less the expression that is met.
 
 -- the scope of constants is around what is in it
-abbrev pub for_constants : Around → Around
-for_constants a = record { here = a.constant; constant = a.constant }
+abbrev pub for_const_frames : CurrentScopes → CurrentScopes
+for_const_frames a = record { scope = a.const_scope; const_scope = a.const_scope }
 
-module _ (s : Nodes) (fall : KidsFall s) (chain : ℕ → Chain) where
+module _ (s : Nodes) (fall : RankDecreases s) (chain : ℕ → Chain) where
   -- an expression is met, and then what is inside it
-  pub future_expr : (a : Around) (id : ℕ) (x : ScopingForm) (ts : List Task) → Has s (NodeId.Expr id) → form_of s (NodeId.Expr id) ≡ x → let h = chain a.here in let k = chain a.constant in future s chain h k (Task.Expr id ∷ ts) ≡ place (NodeId.Expr id) h k ∷ future s chain (opens_here s x ++ h) (opens_constant x ++ k) (form_tasks a x ++ ts)
+  pub future_expr : (a : CurrentScopes) (id : ℕ) (x : ScopingForm) (ts : List Task) → Has s (NodeId.Expr id) → form_of s (NodeId.Expr id) ≡ x → let h = chain a.scope in let k = chain a.const_scope in future s chain h k (Task.Expr id ∷ ts) ≡ in_context (NodeId.Expr id) h k ∷ future s chain (opened_frames s x ++ h) (opened_const_frames x ++ k) (form_tasks a x ++ ts)
   unfolding future
-  future_expr a id x ts there is =
-      let h = chain a.here in
-      let k = chain a.constant in
-      ap (λ (ps : List Place). ps ++ future s chain (leak s (NodeId.Expr id) ++ h) k ts) (exprs_under_expr s fall id h k there)
-      ∙ ap (λ (ps : List Place). place (NodeId.Expr id) h k ∷ ps)
-      (ap (λ (c : Chain). exprs_under s (map (place_kid h k) (slots_of_form s (form_of s (NodeId.Expr id)))) ++ future s chain (c ++ h) k ts) (leak_at s fall (NodeId.Expr id) there)
-      ∙ (ap (λ (y : ScopingForm). exprs_under s (map (place_kid h k) (slots_of_form s y)) ++ future s chain (leak_of_form s (leak s) y ++ h) k ts) is
+  future_expr a id x ts in_range is =
+      let h = chain a.scope in
+      let k = chain a.const_scope in
+      ap (λ (ps : List InContext). ps ++ future s chain (open_frames s (NodeId.Expr id) ++ h) k ts) (exprs_under_expr s fall id h k in_range)
+      ∙ ap (λ (ps : List InContext). in_context (NodeId.Expr id) h k ∷ ps)
+      (ap (λ (c : Chain). exprs_under s (map (child_in_context h k) (child_contexts_of_form s (form_of s (NodeId.Expr id)))) ++ future s chain (c ++ h) k ts) (open_frames_at s fall (NodeId.Expr id) in_range)
+      ∙ (ap (λ (y : ScopingForm). exprs_under s (map (child_in_context h k) (child_contexts_of_form s y)) ++ future s chain (open_frames_of_form s (open_frames s) y ++ h) k ts) is
       ∙ future_form s chain a x ts))
 
   -- a pattern is what is inside it
-  pub future_pat : (a : Around) (id : ℕ) (x : ScopingForm) (ts : List Task) → Has s (NodeId.Pat id) → form_of s (NodeId.Pat id) ≡ x → let h = chain a.here in let k = chain a.constant in future s chain h k (Task.Pat id ∷ ts) ≡ future s chain (opens_here s x ++ h) (opens_constant x ++ k) (form_tasks a x ++ ts)
+  pub future_pat : (a : CurrentScopes) (id : ℕ) (x : ScopingForm) (ts : List Task) → Has s (NodeId.Pat id) → form_of s (NodeId.Pat id) ≡ x → let h = chain a.scope in let k = chain a.const_scope in future s chain h k (Task.Pat id ∷ ts) ≡ future s chain (opened_frames s x ++ h) (opened_const_frames x ++ k) (form_tasks a x ++ ts)
   unfolding future
-  future_pat a id x ts there is =
-      let h = chain a.here in
-      let k = chain a.constant in
-      ap (λ (ps : List Place). ps ++ future s chain (leak s (NodeId.Pat id) ++ h) k ts) (exprs_under_pat s fall id h k there)
-      ∙ (ap (λ (c : Chain). exprs_under s (map (place_kid h k) (slots_of_form s (form_of s (NodeId.Pat id)))) ++ future s chain (c ++ h) k ts) (leak_at s fall (NodeId.Pat id) there)
-      ∙ (ap (λ (y : ScopingForm). exprs_under s (map (place_kid h k) (slots_of_form s y)) ++ future s chain (leak_of_form s (leak s) y ++ h) k ts) is
+  future_pat a id x ts in_range is =
+      let h = chain a.scope in
+      let k = chain a.const_scope in
+      ap (λ (ps : List InContext). ps ++ future s chain (open_frames s (NodeId.Pat id) ++ h) k ts) (exprs_under_pat s fall id h k in_range)
+      ∙ (ap (λ (c : Chain). exprs_under s (map (child_in_context h k) (child_contexts_of_form s (form_of s (NodeId.Pat id)))) ++ future s chain (c ++ h) k ts) (open_frames_at s fall (NodeId.Pat id) in_range)
+      ∙ (ap (λ (y : ScopingForm). exprs_under s (map (child_in_context h k) (child_contexts_of_form s y)) ++ future s chain (open_frames_of_form s (open_frames s) y ++ h) k ts) is
       ∙ future_form s chain a x ts))
 
   -- a type stands in the scope of constants
-  pub future_type : (a : Around) (id : ℕ) (x : ScopingForm) (ts : List Task) → Has s (NodeId.TypeRef id) → form_of s (NodeId.TypeRef id) ≡ x → let h = chain a.here in let k = chain a.constant in future s chain h k (Task.TypeRef id ∷ ts) ≡ future s chain (opens_here s x ++ k) (opens_constant x ++ k) (form_tasks (for_constants a) x ++ (leave a ∷ ts))
+  pub future_type : (a : CurrentScopes) (id : ℕ) (x : ScopingForm) (ts : List Task) → Has s (NodeId.TypeRef id) → form_of s (NodeId.TypeRef id) ≡ x → let h = chain a.scope in let k = chain a.const_scope in future s chain h k (Task.TypeRef id ∷ ts) ≡ future s chain (opened_frames s x ++ k) (opened_const_frames x ++ k) (form_tasks (for_const_frames a) x ++ (leave a ∷ ts))
   unfolding future
-  future_type a id x ts there is =
-      let h = chain a.here in
-      let k = chain a.constant in
-      ap (λ (ps : List Place). ps ++ future s chain h k ts) (exprs_under_type s fall id k k there)
-      ∙ (ap (λ (y : ScopingForm). exprs_under s (map (place_kid k k) (slots_of_form s y)) ++ future s chain h k ts) is
-      ∙ future_form s chain (for_constants a) x (leave a ∷ ts))
+  future_type a id x ts in_range is =
+      let h = chain a.scope in
+      let k = chain a.const_scope in
+      ap (λ (ps : List InContext). ps ++ future s chain h k ts) (exprs_under_type s fall id k k in_range)
+      ∙ (ap (λ (y : ScopingForm). exprs_under s (map (child_in_context k k) (child_contexts_of_form s y)) ++ future s chain h k ts) is
+      ∙ future_form s chain (for_const_frames a) x (leave a ∷ ts))
 
   -- an arm is met in the frame of its pattern, which ends with it
-  pub future_arm : (a : Around) (arm : MatchArm) (ts : List Task) → let h = chain a.here in let k = chain a.constant in future s chain h k (arm_task arm ∷ ts) ≡ future s chain (frame s (arm.pat ∷ []) ∷ h) k ((tasks_of (met_in_arm arm) ++ leave a ∷ []) ++ ts)
+  pub future_arm : (a : CurrentScopes) (arm : MatchArm) (ts : List Task) → let h = chain a.scope in let k = chain a.const_scope in future s chain h k (arm_task arm ∷ ts) ≡ future s chain (frame s (arm.pat ∷ []) ∷ h) k ((tasks_of (met_in_arm arm) ++ leave a ∷ []) ++ ts)
   unfolding future
   future_arm a arm ts =
-      future_arm_task s chain (chain a.here) (chain a.constant) arm.pat arm.expr arm.guard ts
-      ∙ turn_ended s chain (chain a.here) (chain a.constant) [] (frame s (arm.pat ∷ []) ∷ []) (met_in_arm arm) a ts refl refl
+      future_arm_task s chain (chain a.scope) (chain a.const_scope) arm.pat arm.expr arm.guard ts
+      ∙ turn_ended s chain (chain a.scope) (chain a.const_scope) [] (frame s (arm.pat ∷ []) ∷ []) (met_in_arm arm) a ts refl refl
 
 -- 3. How each task moves a walk on.
 
@@ -179,131 +179,131 @@ module _ (s : Nodes) where
   node_weight w n = sum_by w (node_frames s n)
 
   -- what tasks weigh, the first and then the others
-  weight_cons : (w : Frame → ℕ) (t : Task) (ts : List Task) → weight_left s w (t ∷ ts) ≡ frame_weight w t + (sum_by (total s (node_weight w)) (task_kids t) + weight_left s w ts)
+  weight_cons : (w : Frame → ℕ) (t : Task) (ts : List Task) → weight_left s w (t ∷ ts) ≡ frame_weight w t + (sum_by (total s (node_weight w)) (task_children t) + weight_left s w ts)
   weight_cons w t ts = left_cons s (node_weight w) (frame_weight w) t ts
 
-  turns_cons : (t : Task) (ts : List Task) → turns_left s (t ∷ ts) ≡ task_turns t + (sum_by (total s (node_turns s)) (task_kids t) + turns_left s ts)
+  turns_cons : (t : Task) (ts : List Task) → turns_left s (t ∷ ts) ≡ task_turns t + (sum_by (total s (node_turns s)) (task_children t) + turns_left s ts)
   turns_cons t ts = left_cons s (node_turns s) task_turns t ts
 
   -- Nodes
 
-  module _ (fall : KidsFall s) where
-    pub met_over : (S : Scopes) (a : Around) (id : ℕ) (ts : List Task) → AreThere s (about (Task.Expr id ∷ ts)) →
-        Over (map frame_of S.scopes ++ (opens_here s (form_of s (NodeId.Expr id)) ++ opens_constant (form_of s (NodeId.Expr id)))) →
+  module _ (fall : RankDecreases s) where
+    pub met_over : (S : Scopes) (a : CurrentScopes) (id : ℕ) (ts : List Task) → AreInRange s (about (Task.Expr id ∷ ts)) →
+        Over (map frame_of S.scopes ++ (opened_frames s (form_of s (NodeId.Expr id)) ++ opened_const_frames (form_of s (NodeId.Expr id)))) →
         Exceeds s (at S a (Task.Expr id ∷ ts))
     met_over S a id ts k =
-        over_exceeds s S a (Task.Expr id ∷ ts) (opens_here s (form_of s (NodeId.Expr id)) ++ opens_constant (form_of s (NodeId.Expr id)))
+        over_exceeds s S a (Task.Expr id ∷ ts) (opened_frames s (form_of s (NodeId.Expr id)) ++ opened_const_frames (form_of s (NodeId.Expr id)))
         (λ w. omega (arith, weight_met s fall w a (NodeId.Expr id) ts k.0, weight_cons w (Task.Expr id) ts))
 
-    pub expr_moves : (S : Scopes) (a : Around) (id : ℕ) (ts us : List Task) (new : Machine) → us ≡ form_tasks a (form_of s (NodeId.Expr id)) ++ ts →
-        OpensScopes (at S a us) new (opens_here s (form_of s (NodeId.Expr id))) (opens_constant (form_of s (NodeId.Expr id))) →
+    pub expr_moves : (S : Scopes) (a : CurrentScopes) (id : ℕ) (ts us : List Task) (new : WalkState) → us ≡ form_tasks a (form_of s (NodeId.Expr id)) ++ ts →
+        OpensScopes (at S a us) new (opened_frames s (form_of s (NodeId.Expr id))) (opened_const_frames (form_of s (NodeId.Expr id))) →
         IsReady s (at S a (Task.Expr id ∷ ts)) →
-        Moves s (at S a (Task.Expr id ∷ ts)) new (place (NodeId.Expr id) (chain_of S.scopes a.here) (chain_of S.scopes a.constant) ∷ [])
+        Step s (at S a (Task.Expr id ∷ ts)) new (in_context (NodeId.Expr id) (chain_of S.scopes a.scope) (chain_of S.scopes a.const_scope) ∷ [])
     expr_moves S a id ts us new e o r =
         let n = NodeId.Expr id in
         let x = form_of s n in
-        let h = chain_of S.scopes a.here in
-        let k = chain_of S.scopes a.constant in
-        moves_opened s S a (Task.Expr id) ts us new (opens_here s x) (opens_constant x) (place n h k ∷ []) o r
-        (subst (LeavesWithin (length S.scopes)) (sym e) (leaves_met (length S.scopes) a x ts r.here r.constant r.leaves))
-        (subst (λ (vs : List Task). AreThere s (about vs)) (sym e) (known_met s fall a n ts r.known.0 r.known.1))
+        let h = chain_of S.scopes a.scope in
+        let k = chain_of S.scopes a.const_scope in
+        moves_opened s S a (Task.Expr id) ts us new (opened_frames s x) (opened_const_frames x) (in_context n h k ∷ []) o r
+        (subst (LeavesWithin (length S.scopes)) (sym e) (leaves_met (length S.scopes) a x ts r.scope r.const_scope r.leaves))
+        (subst (λ (vs : List Task). AreInRange s (about vs)) (sym e) (known_met s fall a n ts r.known.0 r.known.1))
         (future_expr s fall (chain_of S.scopes) a id x ts r.known.0 refl
-        ∙ ap (λ (vs : List Task). place n h k ∷ future s (chain_of S.scopes) (opens_here s x ++ h) (opens_constant x ++ k) vs) (sym e))
+        ∙ ap (λ (vs : List Task). in_context n h k ∷ future s (chain_of S.scopes) (opened_frames s x ++ h) (opened_const_frames x ++ k) vs) (sym e))
         (λ w. omega (arith, weight_met s fall w a n ts r.known.0, weight_cons w (Task.Expr id) ts, ap (weight_left s w) e))
         (omega (arith, turns_met s fall a n ts r.known.0, turns_cons (Task.Expr id) ts, ap (turns_left s) e))
 
     -- an expression in which nothing is
-    pub empty_moves : (S : Scopes) (a : Around) (id : ℕ) (ts : List Task) → form_of s (NodeId.Expr id) ≡ form.InTurn [] → IsReady s (at S a (Task.Expr id ∷ ts)) →
-        Moves s (at S a (Task.Expr id ∷ ts)) (at S a ts) (place (NodeId.Expr id) (chain_of S.scopes a.here) (chain_of S.scopes a.constant) ∷ [])
+    pub empty_moves : (S : Scopes) (a : CurrentScopes) (id : ℕ) (ts : List Task) → form_of s (NodeId.Expr id) ≡ form.InTurn [] → IsReady s (at S a (Task.Expr id ∷ ts)) →
+        Step s (at S a (Task.Expr id ∷ ts)) (at S a ts) (in_context (NodeId.Expr id) (chain_of S.scopes a.scope) (chain_of S.scopes a.const_scope) ∷ [])
     empty_moves S a id ts e r =
         expr_moves S a id ts ts (at S a ts) (ap (λ (x : ScopingForm). form_tasks a x ++ ts) (sym e))
-        (subst (λ (x : ScopingForm). OpensScopes (at S a ts) (at S a ts) (opens_here s x) (opens_constant x)) (sym e) (opened_none (at S a ts) r.here r.constant)) r
+        (subst (λ (x : ScopingForm). OpensScopes (at S a ts) (at S a ts) (opened_frames s x) (opened_const_frames x)) (sym e) (opened_none (at S a ts) r.scope r.const_scope)) r
 
-    pat_opens : (x : Option Pat) → (opens_here s (form_at pat_form x) ≡ []) × (opens_constant (form_at pat_form x) ≡ [])
+    pat_opens : (x : Option Pat) → (opened_frames s (form_at pat_form x) ≡ []) × (opened_const_frames (form_at pat_form x) ≡ [])
     pat_opens None = (refl, refl)
     pat_opens (Some x) = (refl, refl)
 
-    type_opens : (x : Option TypeRef) → (opens_here s (form_at type_form x) ≡ []) × (opens_constant (form_at type_form x) ≡ [])
+    type_opens : (x : Option TypeRef) → (opened_frames s (form_at type_form x) ≡ []) × (opened_const_frames (form_at type_form x) ≡ [])
     type_opens None = (refl, refl)
     type_opens (Some (TypeRef.PatternType id pat)) = (refl, refl)
     type_opens (Some _) = (refl, refl)
 
-    pub pat_moves : (S : Scopes) (a : Around) (id : ℕ) (ts us : List Task) → us ≡ form_tasks a (form_of s (NodeId.Pat id)) ++ ts →
-        IsReady s (at S a (Task.Pat id ∷ ts)) → Moves s (at S a (Task.Pat id ∷ ts)) (at S a us) []
+    pub pat_moves : (S : Scopes) (a : CurrentScopes) (id : ℕ) (ts us : List Task) → us ≡ form_tasks a (form_of s (NodeId.Pat id)) ++ ts →
+        IsReady s (at S a (Task.Pat id ∷ ts)) → Step s (at S a (Task.Pat id ∷ ts)) (at S a us) []
     pat_moves S a id ts us e r =
         let n = NodeId.Pat id in
         let x = form_of s n in
-        let h = chain_of S.scopes a.here in
-        let k = chain_of S.scopes a.constant in
+        let h = chain_of S.scopes a.scope in
+        let k = chain_of S.scopes a.const_scope in
         let none = pat_opens (slice_get s.pats id) in
-        moves_still s S a a (Task.Pat id) ts us r r.here r.constant
-        (subst (LeavesWithin (length S.scopes)) (sym e) (leaves_met (length S.scopes) a x ts r.here r.constant r.leaves))
-        (subst (λ (vs : List Task). AreThere s (about vs)) (sym e) (known_met s fall a n ts r.known.0 r.known.1))
+        moves_still s S a a (Task.Pat id) ts us r r.scope r.const_scope
+        (subst (LeavesWithin (length S.scopes)) (sym e) (leaves_met (length S.scopes) a x ts r.scope r.const_scope r.leaves))
+        (subst (λ (vs : List Task). AreInRange s (about vs)) (sym e) (known_met s fall a n ts r.known.0 r.known.1))
         (future_pat s fall (chain_of S.scopes) a id x ts r.known.0 refl
-        ∙ (ap (λ (c : Chain). future s (chain_of S.scopes) (c ++ h) (opens_constant x ++ k) (form_tasks a x ++ ts)) none.0
+        ∙ (ap (λ (c : Chain). future s (chain_of S.scopes) (c ++ h) (opened_const_frames x ++ k) (form_tasks a x ++ ts)) none.0
         ∙ (ap (λ (c : Chain). future s (chain_of S.scopes) h (c ++ k) (form_tasks a x ++ ts)) none.1
         ∙ ap (λ (vs : List Task). future s (chain_of S.scopes) h k vs) (sym e))))
         (λ w.
         let c = weight_cons w (Task.Pat id) ts in
-        let b = ap (λ (c : Chain). sum_by w (c ++ opens_constant x)) none.0 ∙ ap (sum_by w) none.1 in
+        let b = ap (λ (c : Chain). sum_by w (c ++ opened_const_frames x)) none.0 ∙ ap (sum_by w) none.1 in
         omega (arith, weight_met s fall w a n ts r.known.0, c, ap (weight_left s w) e, b))
         (omega (arith, turns_met s fall a n ts r.known.0, turns_cons (Task.Pat id) ts, ap (turns_left s) e))
 
-    pub type_moves : (S : Scopes) (a : Around) (id : ℕ) (ts us : List Task) → us ≡ form_tasks (for_constants a) (form_of s (NodeId.TypeRef id)) ++ (leave a ∷ ts) →
-        IsReady s (at S a (Task.TypeRef id ∷ ts)) → Moves s (at S a (Task.TypeRef id ∷ ts)) (at S (for_constants a) us) []
+    pub type_moves : (S : Scopes) (a : CurrentScopes) (id : ℕ) (ts us : List Task) → us ≡ form_tasks (for_const_frames a) (form_of s (NodeId.TypeRef id)) ++ (leave a ∷ ts) →
+        IsReady s (at S a (Task.TypeRef id ∷ ts)) → Step s (at S a (Task.TypeRef id ∷ ts)) (at S (for_const_frames a) us) []
     type_moves S a id ts us e r =
         let n = NodeId.TypeRef id in
         let x = form_of s n in
-        let b : Around = for_constants a in
-        let k = chain_of S.scopes a.constant in
+        let b : CurrentScopes = for_const_frames a in
+        let k = chain_of S.scopes a.const_scope in
         let none = type_opens (slice_get s.types id) in
-        moves_still s S a b (Task.TypeRef id) ts us r r.constant r.constant
-        (subst (LeavesWithin (length S.scopes)) (sym e) (leaves_met (length S.scopes) b x (leave a ∷ ts) r.constant r.constant (r.here, r.constant, r.leaves)))
-        (subst (λ (vs : List Task). AreThere s (about vs)) (sym e) (known_met s fall b n (leave a ∷ ts) r.known.0 r.known.1))
+        moves_still s S a b (Task.TypeRef id) ts us r r.const_scope r.const_scope
+        (subst (LeavesWithin (length S.scopes)) (sym e) (leaves_met (length S.scopes) b x (leave a ∷ ts) r.const_scope r.const_scope (r.scope, r.const_scope, r.leaves)))
+        (subst (λ (vs : List Task). AreInRange s (about vs)) (sym e) (known_met s fall b n (leave a ∷ ts) r.known.0 r.known.1))
         (future_type s fall (chain_of S.scopes) a id x ts r.known.0 refl
-        ∙ (ap (λ (c : Chain). future s (chain_of S.scopes) (c ++ k) (opens_constant x ++ k) (form_tasks b x ++ (leave a ∷ ts))) none.0
+        ∙ (ap (λ (c : Chain). future s (chain_of S.scopes) (c ++ k) (opened_const_frames x ++ k) (form_tasks b x ++ (leave a ∷ ts))) none.0
         ∙ (ap (λ (c : Chain). future s (chain_of S.scopes) k (c ++ k) (form_tasks b x ++ (leave a ∷ ts))) none.1
         ∙ ap (λ (vs : List Task). future s (chain_of S.scopes) k k vs) (sym e))))
         (λ w.
         let c = weight_cons w (Task.TypeRef id) ts in
-        let d = ap (λ (c : Chain). sum_by w (c ++ opens_constant x)) none.0 ∙ ap (sum_by w) none.1 in
+        let d = ap (λ (c : Chain). sum_by w (c ++ opened_const_frames x)) none.0 ∙ ap (sum_by w) none.1 in
         omega (arith, weight_met s fall w b n (leave a ∷ ts) r.known.0, c, weight_cons w (leave a) ts, ap (weight_left s w) e, d))
         (omega (arith, turns_met s fall b n (leave a ∷ ts) r.known.0, turns_cons (Task.TypeRef id) ts, turns_cons (leave a) ts, ap (turns_left s) e))
 
   -- Other tasks
 
-  pub constant_moves : (S : Scopes) (a : Around) (id : ℕ) (ts us : List Task) → us ≡ Task.Expr id ∷ leave a ∷ ts →
-      IsReady s (at S a (Task.Constant id ∷ ts)) → Moves s (at S a (Task.Constant id ∷ ts)) (at S (for_constants a) us) []
+  pub constant_moves : (S : Scopes) (a : CurrentScopes) (id : ℕ) (ts us : List Task) → us ≡ Task.Expr id ∷ leave a ∷ ts →
+      IsReady s (at S a (Task.Constant id ∷ ts)) → Step s (at S a (Task.Constant id ∷ ts)) (at S (for_const_frames a) us) []
   unfolding future
   constant_moves S a id ts us e r =
-      let b : Around = record { here = a.constant; constant = a.constant } in
-      let k = chain_of S.scopes a.constant in
-      moves_still s S a b (Task.Constant id) ts us r r.constant r.constant
-      (subst (LeavesWithin (length S.scopes)) (sym e) (r.here, r.constant, r.leaves))
-      (subst (λ (vs : List Task). AreThere s (about vs)) (sym e) r.known)
+      let b : CurrentScopes = record { scope = a.const_scope; const_scope = a.const_scope } in
+      let k = chain_of S.scopes a.const_scope in
+      moves_still s S a b (Task.Constant id) ts us r r.const_scope r.const_scope
+      (subst (LeavesWithin (length S.scopes)) (sym e) (r.scope, r.const_scope, r.leaves))
+      (subst (λ (vs : List Task). AreInRange s (about vs)) (sym e) r.known)
       (ap (λ (vs : List Task). future s (chain_of S.scopes) k k vs) (sym e))
       (λ w. omega (arith, weight_cons w (Task.Constant id) ts, weight_cons w (Task.Expr id) (leave a ∷ ts), weight_cons w (leave a) ts, ap (weight_left s w) e))
       (omega (arith, turns_cons (Task.Constant id) ts, turns_cons (Task.Expr id) (leave a ∷ ts), turns_cons (leave a) ts, ap (turns_left s) e))
 
-  pub leave_moves : (S : Scopes) (a b : Around) (ts : List Task) → IsReady s (at S a (leave b ∷ ts)) → Moves s (at S a (leave b ∷ ts)) (at S b ts) []
+  pub leave_moves : (S : Scopes) (a b : CurrentScopes) (ts : List Task) → IsReady s (at S a (leave b ∷ ts)) → Step s (at S a (leave b ∷ ts)) (at S b ts) []
   unfolding future
   leave_moves S a b ts r =
       moves_still s S a b (leave b) ts ts r r.leaves.0 r.leaves.1 r.leaves.2 r.known refl
       (λ w. let l = weight_cons w (leave b) ts in omega (arith, l))
       (let l = turns_cons (leave b) ts in omega (arith, l))
 
-  pub bound_over : (S : Scopes) (a : Around) (id : ℕ) (ts : List Task) → Over (map frame_of S.scopes ++ frame s (id ∷ []) ∷ []) → Exceeds s (at S a (Task.Bound id ∷ ts))
+  pub bound_over : (S : Scopes) (a : CurrentScopes) (id : ℕ) (ts : List Task) → Over (map frame_of S.scopes ++ frame s (id ∷ []) ∷ []) → Exceeds s (at S a (Task.Bound id ∷ ts))
   bound_over S a id ts = over_exceeds s S a (Task.Bound id ∷ ts) (frame s (id ∷ []) ∷ []) (λ w. omega (arith, weight_cons w (Task.Bound id) ts))
 
-  pub bound_moves : (S : Scopes) (a : Around) (id : ℕ) (ts us : List Task) (new : Machine) → us ≡ Task.Pat id ∷ ts → OpensScopes (at S a us) new (frame s (id ∷ []) ∷ []) [] →
-      IsReady s (at S a (Task.Bound id ∷ ts)) → Moves s (at S a (Task.Bound id ∷ ts)) new []
+  pub bound_moves : (S : Scopes) (a : CurrentScopes) (id : ℕ) (ts us : List Task) (new : WalkState) → us ≡ Task.Pat id ∷ ts → OpensScopes (at S a us) new (frame s (id ∷ []) ∷ []) [] →
+      IsReady s (at S a (Task.Bound id ∷ ts)) → Step s (at S a (Task.Bound id ∷ ts)) new []
   unfolding future
   bound_moves S a id ts us new e o r =
-      let h = chain_of S.scopes a.here in
-      let k = chain_of S.scopes a.constant in
+      let h = chain_of S.scopes a.scope in
+      let k = chain_of S.scopes a.const_scope in
       moves_opened s S a (Task.Bound id) ts us new (frame s (id ∷ []) ∷ []) [] [] o r
       (subst (LeavesWithin (length S.scopes)) (sym e) r.leaves)
-      (subst (λ (vs : List Task). AreThere s (about vs)) (sym e) r.known)
+      (subst (λ (vs : List Task). AreInRange s (about vs)) (sym e) r.known)
       (ap (λ (vs : List Task). future s (chain_of S.scopes) (frame s (id ∷ []) ∷ h) k vs) (sym e))
       (λ w. omega (arith, weight_cons w (Task.Bound id) ts, weight_cons w (Task.Pat id) ts, ap (weight_left s w) e))
       (omega (arith, turns_cons (Task.Bound id) ts, turns_cons (Task.Pat id) ts, ap (turns_left s) e))
@@ -312,7 +312,7 @@ module _ (s : Nodes) where
   abbrev pub in_arm : ℕ → Option ℕ → ℕ → Task → List Task → List Task
   in_arm pat guard expr last ts = Task.Pat pat ∷ (tasks_of (opt e guard) ++ (Task.Expr expr ∷ last ∷ ts))
 
-  left_arm : (u : NodeId → ℕ) (v : Task → ℕ) (pat : ℕ) (guard : Option ℕ) (expr : ℕ) (a : Around) (ts : List Task) → v (Task.Pat pat) ≡ 0 → ((x : ℕ) → v (Task.Expr x) ≡ 0) →
+  left_arm : (u : NodeId → ℕ) (v : Task → ℕ) (pat : ℕ) (guard : Option ℕ) (expr : ℕ) (a : CurrentScopes) (ts : List Task) → v (Task.Pat pat) ≡ 0 → ((x : ℕ) → v (Task.Expr x) ≡ 0) →
       tasks_weight s u v (guarded_task pat expr guard ∷ ts) + v (leave a) ≡ v (guarded_task pat expr guard) + tasks_weight s u v (in_arm pat guard expr (leave a) ts)
   left_arm u v pat None expr a ts z y =
       let b = left_cons s u v (Task.Pat pat) (Task.Expr expr ∷ leave a ∷ ts) in
@@ -331,44 +331,44 @@ module _ (s : Nodes) where
   arm_turns pat expr None = refl
   arm_turns pat expr (Some guard) = refl
 
-  arm_leaves : (n : ℕ) (pat expr : ℕ) (guard : Option ℕ) (a : Around) (ts : List Task) → a.here < n → a.constant < n → LeavesWithin n (guarded_task pat expr guard ∷ ts) → LeavesWithin n (in_arm pat guard expr (leave a) ts)
+  arm_leaves : (n : ℕ) (pat expr : ℕ) (guard : Option ℕ) (a : CurrentScopes) (ts : List Task) → a.scope < n → a.const_scope < n → LeavesWithin n (guarded_task pat expr guard ∷ ts) → LeavesWithin n (in_arm pat guard expr (leave a) ts)
   arm_leaves n pat expr None a ts h k l = (h, k, l)
   arm_leaves n pat expr (Some guard) a ts h k l = (h, k, l)
 
-  arm_known : (pat expr : ℕ) (guard : Option ℕ) (a : Around) (ts : List Task) → AreThere s (about (guarded_task pat expr guard ∷ ts)) → AreThere s (about (in_arm pat guard expr (leave a) ts))
+  arm_known : (pat expr : ℕ) (guard : Option ℕ) (a : CurrentScopes) (ts : List Task) → AreInRange s (about (guarded_task pat expr guard ∷ ts)) → AreInRange s (about (in_arm pat guard expr (leave a) ts))
   arm_known pat expr None a ts k = k
   arm_known pat expr (Some guard) a ts k = k
 
-  arm_future : KidsFall s → (chain : ℕ → Chain) (pat expr : ℕ) (guard : Option ℕ) (a : Around) (ts : List Task) → let h = chain a.here in let k = chain a.constant in
+  arm_future : RankDecreases s → (chain : ℕ → Chain) (pat expr : ℕ) (guard : Option ℕ) (a : CurrentScopes) (ts : List Task) → let h = chain a.scope in let k = chain a.const_scope in
       future s chain h k (guarded_task pat expr guard ∷ ts) ≡ future s chain (frame s (pat ∷ []) ∷ h) k (in_arm pat guard expr (leave a) ts)
   arm_future fall chain pat expr None a ts = future_arm s fall chain a (arm_with pat expr None) ts
   arm_future fall chain pat expr (Some guard) a ts = future_arm s fall chain a (arm_with pat expr (Some guard)) ts
 
-  pub arm_over : (S : Scopes) (a : Around) (pat expr : ℕ) (guard : Option ℕ) (ts : List Task) → Over (map frame_of S.scopes ++ frame s (pat ∷ []) ∷ []) → Exceeds s (at S a (guarded_task pat expr guard ∷ ts))
+  pub arm_over : (S : Scopes) (a : CurrentScopes) (pat expr : ℕ) (guard : Option ℕ) (ts : List Task) → Over (map frame_of S.scopes ++ frame s (pat ∷ []) ∷ []) → Exceeds s (at S a (guarded_task pat expr guard ∷ ts))
   arm_over S a pat expr guard ts =
       over_exceeds s S a (guarded_task pat expr guard ∷ ts) (frame s (pat ∷ []) ∷ [])
       (λ w. omega (arith, weight_cons w (guarded_task pat expr guard) ts, arm_weight w pat expr guard))
 
-  pub arm_moves : KidsFall s → (S : Scopes) (a : Around) (pat expr : ℕ) (guard : Option ℕ) (ts us : List Task) (new : Machine) → us ≡ in_arm pat guard expr (leave a) ts →
-      OpensScopes (at S a us) new (frame s (pat ∷ []) ∷ []) [] → IsReady s (at S a (guarded_task pat expr guard ∷ ts)) → Moves s (at S a (guarded_task pat expr guard ∷ ts)) new []
+  pub arm_moves : RankDecreases s → (S : Scopes) (a : CurrentScopes) (pat expr : ℕ) (guard : Option ℕ) (ts us : List Task) (new : WalkState) → us ≡ in_arm pat guard expr (leave a) ts →
+      OpensScopes (at S a us) new (frame s (pat ∷ []) ∷ []) [] → IsReady s (at S a (guarded_task pat expr guard ∷ ts)) → Step s (at S a (guarded_task pat expr guard ∷ ts)) new []
   arm_moves fall S a pat expr guard ts us new e o r =
-      let h = chain_of S.scopes a.here in
-      let k = chain_of S.scopes a.constant in
+      let h = chain_of S.scopes a.scope in
+      let k = chain_of S.scopes a.const_scope in
       let t = guarded_task pat expr guard in
       moves_opened s S a t ts us new (frame s (pat ∷ []) ∷ []) [] [] o r
-      (subst (LeavesWithin (length S.scopes)) (sym e) (arm_leaves (length S.scopes) pat expr guard a ts r.here r.constant r.leaves))
-      (subst (λ (vs : List Task). AreThere s (about vs)) (sym e) (arm_known pat expr guard a ts r.known))
+      (subst (LeavesWithin (length S.scopes)) (sym e) (arm_leaves (length S.scopes) pat expr guard a ts r.scope r.const_scope r.leaves))
+      (subst (λ (vs : List Task). AreInRange s (about vs)) (sym e) (arm_known pat expr guard a ts r.known))
       (arm_future fall (chain_of S.scopes) pat expr guard a ts ∙ ap (λ (vs : List Task). future s (chain_of S.scopes) (frame s (pat ∷ []) ∷ h) k vs) (sym e))
       (λ w. omega (arith, left_arm (node_weight w) (frame_weight w) pat guard expr a ts refl (λ x. refl), arm_weight w pat expr guard, ap (weight_left s w) e))
       (omega (arith, left_arm (node_turns s) task_turns pat guard expr a ts refl (λ x. refl), arm_turns pat expr guard, ap (turns_left s) e))
 
-  pub macro_over : (S : Scopes) (a : Around) (id : ℕ) (ts : List Task) → let f = of_kind (ScopeKind.MacroDef id) in Over (map frame_of S.scopes ++ f ∷ f ∷ []) → Exceeds s (at S a (Task.MacroDef id ∷ ts))
+  pub macro_over : (S : Scopes) (a : CurrentScopes) (id : ℕ) (ts : List Task) → let f = of_kind (ScopeKind.MacroDef id) in Over (map frame_of S.scopes ++ f ∷ f ∷ []) → Exceeds s (at S a (Task.MacroDef id ∷ ts))
   macro_over S a id ts =
       let f = of_kind (ScopeKind.MacroDef id) in
       over_exceeds s S a (Task.MacroDef id ∷ ts) (f ∷ f ∷ []) (λ w. omega (arith, weight_cons w (Task.MacroDef id) ts))
 
-  pub macro_moves : (S : Scopes) (a : Around) (id : ℕ) (ts : List Task) (new : Machine) → OpensScopes (at S a ts) new (of_kind (ScopeKind.MacroDef id) ∷ []) (of_kind (ScopeKind.MacroDef id) ∷ []) →
-      IsReady s (at S a (Task.MacroDef id ∷ ts)) → Moves s (at S a (Task.MacroDef id ∷ ts)) new []
+  pub macro_moves : (S : Scopes) (a : CurrentScopes) (id : ℕ) (ts : List Task) (new : WalkState) → OpensScopes (at S a ts) new (of_kind (ScopeKind.MacroDef id) ∷ []) (of_kind (ScopeKind.MacroDef id) ∷ []) →
+      IsReady s (at S a (Task.MacroDef id ∷ ts)) → Step s (at S a (Task.MacroDef id ∷ ts)) new []
   unfolding future
   macro_moves S a id ts new o r =
       let f = of_kind (ScopeKind.MacroDef id) in

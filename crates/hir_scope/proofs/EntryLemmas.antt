@@ -4,21 +4,21 @@ use Rattle.std.proofs.lemmas.{Bool.ltb-true, List.Concat.length-flat_map, List.E
 use Rattle.std.proofs.lemmas.List.{Sorted.sum_by-IsPermutation, Sums.AllPass-from_list_all}
 use Rattle.std.specs.Cmp.{first_so, second_so}
 use Rattle.std.specs.{List.flat_map, List.slice_get, List.sum_by, List.list_all, Prelude.nat_lt}
-use Rattle.hir_node.specs.ChildCalls.{Call, OnLifetime, kid, kids, pat_of_call, pat_calls}
+use Rattle.hir_node.specs.ChildCalls.{Call, OnLifetime, child, children, pat_of_call, pat_calls}
 use Rattle.hir_node.specs.{OtherIds.pat_bindings, declared.binding.Binding.Binding, declared.expr.Expr.Expr}
 use Rattle.hir_node.specs.declared.{node_id.NodeId.NodeId, pat.Pat.Pat, type_ref.TypeRef.TypeRef}
-use Rattle.hir_faults.specs.{Down.rank, Down.KidsFall, Nodes.Nodes, Nodes.Has, Nodes.kids_of, Nodes.calls_of}
+use Rattle.hir_faults.specs.{Recursion.rank, Recursion.RankDecreases, Nodes.Nodes, Nodes.Has, Nodes.children_of, Nodes.calls_of}
 use Rattle.hir_faults.specs.{Sound.IsSoundNode, TestedParts.all_of, TestedParts.tested_pat}
 use Rattle.hir_faults.proofs.SoundLemmas.{item_at}
 use Rattle.hir_expr_store.specs.PatLists.{pats, bindings_at, bindings_in, child_pats_of}
 use Rattle.hir_scope.specs.Counts.{node_entries}
-use Rattle.hir_scope.specs.Forms.{form_at, form_of, expr_form, pat_form, type_form}
+use Rattle.hir_scope.specs.ScopingForms.{form_at, form_of, expr_form, pat_form, type_form}
 use Rattle.hir_scope.specs.Frames.{entry_at, entry_of, binds}
-use Rattle.hir_scope.specs.{Slots.slots, declared.tasks.Around.Around}
-use Rattle.hir_scope.specs.walk.Machine.{about, count_entries, total, node_frames}
+use Rattle.hir_scope.specs.{ChildContexts.child_contexts, declared.tasks.CurrentScopes.CurrentScopes}
+use Rattle.hir_scope.specs.walk.WalkState.{about, count_entries, total, node_frames}
 use Rattle.hir_scope.specs.walk.Pending.{form_tasks}
 use Rattle.hir_scope.proofs.CountLemmas.{MeetsNone, expr_meets, type_meets, bound_by, form_entries, turn_entries, form_frames, total_at}
-use Rattle.hir_scope.proofs.KidLemmas.{kids_of_form, kids_in, slots_kids, about_form}
+use Rattle.hir_scope.proofs.ChildLemmas.{children_of_form, children_in, child_contexts_children, about_form}
 use Rattle.hir_scope.proofs.MemberLemmas.{In, contains_in, flat_map_in, sum_flat, sum_same, sum_plus, sum_ones}
 
 -- 1. Each binding of a pattern is there, and is one entry
@@ -33,7 +33,7 @@ binding_known : (s : Nodes) → PatsSound s → (id b : ℕ) → In b (bindings_
 binding_known s sound id b = at (slice_get s.pats id) refl where
   at : (o : Option Pat) → slice_get s.pats id ≡ o → In b (all_of pat_bindings o) → b < length s.bindings
   at None e i = absurd i
-  at (Some x) e i = all_below (length s.bindings) (pat_bindings x) (second_so _ _ (first_so _ _ (sound id x e).there)) b i
+  at (Some x) e i = all_below (length s.bindings) (pat_bindings x) (second_so _ _ (first_so _ _ (sound id x e).in_range)) b i
 
 pub one_entry : (s : Nodes) (b : ℕ) → b < length s.bindings → length (entry_at s b) ≡ 1
 one_entry s b h = let x = item_at s.bindings b h in ap (λ (o : Option Binding). length (all_of (λ (y : Binding). entry_of b y ∷ []) o)) x.1
@@ -47,19 +47,19 @@ binds_length s sound id =
 
 -- 2. What a node tells by itself
 
-abbrev pub no_around : Around
-no_around = record { here = 0; constant = 0 }
+abbrev pub no_around : CurrentScopes
+no_around = record { scope = 0; const_scope = 0 }
 
 abbrev pub entries_of_node : Nodes → NodeId → ℕ
 entries_of_node s n = sum_by count_entries (node_frames s n)
 
-module _ (s : Nodes) (fall : KidsFall s) where
-  -- over the kids of a node, or those that its tasks are about
-  kids_bound : (n : NodeId) → sum_by (bound_by s) (about (form_tasks no_around (form_of s n))) ≡ sum_by (bound_by s) (kids_of s n)
-  unfolding slots
-  kids_bound n =
-      ap (λ (ns : List NodeId). sum_by (bound_by s) ns) (about_form no_around (form_of s n) ∙ sym (kids_of_form s (form_of s n)))
-      ∙ sum_by-IsPermutation (bound_by s) (kids_of s n) (kids_in (slots s n)) (slots_kids s n)
+module _ (s : Nodes) (fall : RankDecreases s) where
+  -- over the children of a node, or those that its tasks are about
+  children_bound : (n : NodeId) → sum_by (bound_by s) (about (form_tasks no_around (form_of s n))) ≡ sum_by (bound_by s) (children_of s n)
+  unfolding child_contexts
+  children_bound n =
+      ap (λ (ns : List NodeId). sum_by (bound_by s) ns) (about_form no_around (form_of s n) ∙ sym (children_of_form s (form_of s n)))
+      ∙ sum_by-IsPermutation (bound_by s) (children_of s n) (children_in (child_contexts s n)) (child_contexts_children s n)
 
   expr_meets_at : (id : ℕ) → MeetsNone (form_of s (NodeId.Expr id))
   expr_meets_at id = at (slice_get s.exprs id) where
@@ -74,14 +74,14 @@ module _ (s : Nodes) (fall : KidsFall s) where
     at (Some x) = type_meets x
 
   -- over calls, what their patterns bind
-  call_bound : (c : Call) → sum_by (bound_by s) (kid c) ≡ sum_by (λ q. length (binds s q)) (pat_of_call c)
+  call_bound : (c : Call) → sum_by (bound_by s) (child c) ≡ sum_by (λ q. length (binds s q)) (pat_of_call c)
   call_bound (OnLifetime x) = refl
   call_bound _ = refl
 
-  calls_bound : (cs : List Call) → sum_by (bound_by s) (kids cs) ≡ sum_by (λ q. length (binds s q)) (flat_map pat_of_call cs)
+  calls_bound : (cs : List Call) → sum_by (bound_by s) (children cs) ≡ sum_by (λ q. length (binds s q)) (flat_map pat_of_call cs)
   calls_bound cs =
-      sum_flat (bound_by s) kid cs
-      ∙ (sum_same (λ c. sum_by (bound_by s) (kid c)) (λ c. sum_by (λ q. length (binds s q)) (pat_of_call c)) cs (λ c i. call_bound c)
+      sum_flat (bound_by s) child cs
+      ∙ (sum_same (λ c. sum_by (bound_by s) (child c)) (λ c. sum_by (λ q. length (binds s q)) (pat_of_call c)) cs (λ c i. call_bound c)
       ∙ sym (sum_flat (λ q. length (binds s q)) pat_of_call cs))
 
   pat_empty : (id : ℕ) → entries_of_node s (NodeId.Pat id) ≡ 0
@@ -97,9 +97,9 @@ module _ (s : Nodes) (fall : KidsFall s) where
         let b = sum_same (λ q. length (bindings_in s q)) (λ q. length (binds s q)) (child_pats_of s id) (λ q i. sym (binds_length s sound q)) in
         omega (arith, binds_length s sound id, a, length-flat_map (bindings_in s) (child_pats_of s id), b)
 
-    node_told : (n : NodeId) → Has s n → node_entries s n + sum_by (bound_by s) (kids_of s n) ≡ bound_by s n + entries_of_node s n
-    node_told (NodeId.Expr id) h = omega (arith, form_entries s no_around (form_of s (NodeId.Expr id)) (expr_meets_at id), kids_bound (NodeId.Expr id))
-    node_told (NodeId.TypeRef id) h = omega (arith, form_entries s no_around (form_of s (NodeId.TypeRef id)) (type_meets_at id), kids_bound (NodeId.TypeRef id))
+    node_told : (n : NodeId) → Has s n → node_entries s n + sum_by (bound_by s) (children_of s n) ≡ bound_by s n + entries_of_node s n
+    node_told (NodeId.Expr id) h = omega (arith, form_entries s no_around (form_of s (NodeId.Expr id)) (expr_meets_at id), children_bound (NodeId.Expr id))
+    node_told (NodeId.TypeRef id) h = omega (arith, form_entries s no_around (form_of s (NodeId.TypeRef id)) (type_meets_at id), children_bound (NodeId.TypeRef id))
     node_told (NodeId.Pat id) h = omega (arith, bound_told id h, calls_bound (calls_of s (NodeId.Pat id)), pat_empty id)
 
     -- 3. With all nodes under it
@@ -110,13 +110,13 @@ module _ (s : Nodes) (fall : KidsFall s) where
         let a = total_at s fall (node_entries s) m h in
         let b = total_at s fall (entries_of_node s) m h in
         let d = node_told m h in
-        let r = sum_same (total s (node_entries s)) (λ k. bound_by s k + total s (entries_of_node s) k) (kids_of s m) (λ k i.
-        let c = contains_in (kids_of s m) k i in
-        entries_under n k (let low = fall.lower m h k c in omega (arith, low, l)) (fall.there m h k c)) in
-        omega (arith, a, b, d, r, sum_plus (bound_by s) (total s (entries_of_node s)) (kids_of s m))
+        let r = sum_same (total s (node_entries s)) (λ k. bound_by s k + total s (entries_of_node s) k) (children_of s m) (λ k i.
+        let c = contains_in (children_of s m) k i in
+        entries_under n k (let low = fall.lower m h k c in omega (arith, low, l)) (fall.in_range m h k c)) in
+        omega (arith, a, b, d, r, sum_plus (bound_by s) (total s (entries_of_node s)) (children_of s m))
 
-    -- over some tops: what they bind themselves, and what is in the frames of all nodes under them
-    pub entries_total : (tops : List NodeId) → ((n : NodeId) → In n tops → Has s n) → sum_by (total s (node_entries s)) tops ≡ sum_by (bound_by s) tops + sum_by (total s (entries_of_node s)) tops
-    entries_total tops there =
-        sum_same (total s (node_entries s)) (λ k. bound_by s k + total s (entries_of_node s) k) tops (λ k i. entries_under (suc (rank s k)) k (omega arith) (there k i))
-        ∙ sum_plus (bound_by s) (total s (entries_of_node s)) tops
+    -- over some entry nodes: what they bind themselves, and what is in the frames of all nodes under them
+    pub entries_total : (entry_nodes : List NodeId) → ((n : NodeId) → In n entry_nodes → Has s n) → sum_by (total s (node_entries s)) entry_nodes ≡ sum_by (bound_by s) entry_nodes + sum_by (total s (entries_of_node s)) entry_nodes
+    entries_total entry_nodes in_range =
+        sum_same (total s (node_entries s)) (λ k. bound_by s k + total s (entries_of_node s) k) entry_nodes (λ k i. entries_under (suc (rank s k)) k (omega arith) (in_range k i))
+        ∙ sum_plus (bound_by s) (total s (entries_of_node s)) entry_nodes

@@ -1,9 +1,9 @@
 pub mod DoneLemmas
 pub mod FutureLemmas
 pub mod MovingLemmas
-pub mod KidLemmas
+pub mod ChildLemmas
 pub mod UnderLemmas
-pub mod PutLemmas
+pub mod DeferLemmas
 pub mod SameLemmas
 pub mod PathLemmas
 pub mod ResolveLemmas

@@ -10,17 +10,17 @@ use Rattle.std.specs.{Ordering.nat_cmp, Prelude.Result, Prelude.OnOk}
 use Rattle.hir_node.specs.declared.node_id.NodeId.{NodeId}
 use Rattle.hir_faults.specs.{Nodes.Nodes, TestedParts.all_of}
 use Rattle.hir_faults.proofs.SoundLemmas.{item_at}
-use Rattle.hir_scope.specs.Chains.{Place, place_kid, within_own}
-use Rattle.hir_scope.specs.Forms.{ScopingForm, form_of}
-use Rattle.hir_scope.specs.Forms as form
+use Rattle.hir_scope.specs.Chains.{InContext, child_in_context, within_own}
+use Rattle.hir_scope.specs.ScopingForms.{ScopingForm, form_of}
+use Rattle.hir_scope.specs.ScopingForms as form
 use Rattle.hir_scope.specs.Frames.{Frame, Chain, frame, of_kind}
-use Rattle.hir_scope.specs.{Leak.leak, Paths.path, Paths.frame_at, Paths.chain}
-use Rattle.hir_scope.specs.{Scopes.Scope, Scopes.frame_of, Scopes.Scopes, Scopes.entry_count, Slots.arm_slots}
+use Rattle.hir_scope.specs.{OpenFrames.open_frames, Paths.path, Paths.frame_at, Paths.chain}
+use Rattle.hir_scope.specs.{Scopes.Scope, Scopes.frame_of, Scopes.Scopes, Scopes.entry_count, ChildContexts.arm_child_contexts}
 use Rattle.hir_scope.specs.declared.scope.{ScopeEntry.ScopeEntry, ScopeKind.ScopeKind}
-use Rattle.hir_scope.specs.declared.{tasks.Around.Around, tasks.Task.Task, walk.Walk.Walk}
-use Rattle.hir_scope.specs.walk.Machine.{doing, chain_of, LeavesWithin, HasFrames, Machine, here_of, constant_of, future_of, about, AreThere, IsReady, weight_left, one, count_entries, Over, Exceeds, turns_left, OpensScopes, Moves, scope_within, ScopeGift, place_given, write_all, IsRight, Progress, Goes}
-use Rattle.hir_scope.specs.walk.Pending.{future, arm_with, opens_here}
-use Rattle.hir_scope.specs.walk.PlacesUnder.{place, exprs_under}
+use Rattle.hir_scope.specs.declared.{tasks.CurrentScopes.CurrentScopes, tasks.Task.Task, walk.Walk.Walk}
+use Rattle.hir_scope.specs.walk.WalkState.{with_next, chain_of, LeavesWithin, HasFrames, WalkState, frames_of_scope, frames_of_const_scope, future_of, about, AreInRange, IsReady, weight_left, one, count_entries, Over, Exceeds, turns_left, OpensScopes, Step, scope_within, ScopeAssigned, context_assigned, write_all, IsRight, WalkSteps, CountedStep}
+use Rattle.hir_scope.specs.walk.Pending.{future, arm_with, opened_frames}
+use Rattle.hir_scope.specs.walk.ContextsUnder.{in_context, exprs_under}
 use Rattle.hir_scope.proofs.MemberLemmas.{sum_mapped, sum_ones}
 use Rattle.hir_scope.proofs.PathLemmas.{path_kept, path_new, path_members}
 
@@ -75,16 +75,16 @@ leaves_more m n (_ ∷ ts) l h = leaves_more m n ts l h
 pub future_agrees : (s : Nodes) (f g : ℕ → Chain) (n : ℕ) → ((i : ℕ) → i < n → f i ≡ g i) → (h k : Chain) (ts : List Task) → LeavesWithin n ts → future s f h k ts ≡ future s g h k ts
 unfolding future
 future_agrees s f g n agree h k [] l = refl
-future_agrees s f g n agree h k (Task.Expr id ∷ ts) l = ap (λ (ps : List Place). exprs_under s (place (NodeId.Expr id) h k ∷ []) ++ ps) (future_agrees s f g n agree (leak s (NodeId.Expr id) ++ h) k ts l)
-future_agrees s f g n agree h k (Task.Constant id ∷ ts) l = ap (λ (ps : List Place). exprs_under s (place (NodeId.Expr id) k k ∷ []) ++ ps) (future_agrees s f g n agree h k ts l)
-future_agrees s f g n agree h k (Task.Pat id ∷ ts) l = ap (λ (ps : List Place). exprs_under s (place (NodeId.Pat id) h k ∷ []) ++ ps) (future_agrees s f g n agree (leak s (NodeId.Pat id) ++ h) k ts l)
-future_agrees s f g n agree h k (Task.TypeRef id ∷ ts) l = ap (λ (ps : List Place). exprs_under s (place (NodeId.TypeRef id) k k ∷ []) ++ ps) (future_agrees s f g n agree h k ts l)
+future_agrees s f g n agree h k (Task.Expr id ∷ ts) l = ap (λ (ps : List InContext). exprs_under s (in_context (NodeId.Expr id) h k ∷ []) ++ ps) (future_agrees s f g n agree (open_frames s (NodeId.Expr id) ++ h) k ts l)
+future_agrees s f g n agree h k (Task.Constant id ∷ ts) l = ap (λ (ps : List InContext). exprs_under s (in_context (NodeId.Expr id) k k ∷ []) ++ ps) (future_agrees s f g n agree h k ts l)
+future_agrees s f g n agree h k (Task.Pat id ∷ ts) l = ap (λ (ps : List InContext). exprs_under s (in_context (NodeId.Pat id) h k ∷ []) ++ ps) (future_agrees s f g n agree (open_frames s (NodeId.Pat id) ++ h) k ts l)
+future_agrees s f g n agree h k (Task.TypeRef id ∷ ts) l = ap (λ (ps : List InContext). exprs_under s (in_context (NodeId.TypeRef id) k k ∷ []) ++ ps) (future_agrees s f g n agree h k ts l)
 future_agrees s f g n agree h k (Task.Bound id ∷ ts) l =
-    ap (λ (ps : List Place). exprs_under s (place (NodeId.Pat id) (frame s (id ∷ []) ∷ h) k ∷ []) ++ ps) (future_agrees s f g n agree (leak s (NodeId.Pat id) ++ (frame s (id ∷ []) ∷ h)) k ts l)
+    ap (λ (ps : List InContext). exprs_under s (in_context (NodeId.Pat id) (frame s (id ∷ []) ∷ h) k ∷ []) ++ ps) (future_agrees s f g n agree (open_frames s (NodeId.Pat id) ++ (frame s (id ∷ []) ∷ h)) k ts l)
 future_agrees s f g n agree h k (Task.Arm p x ∷ ts) l =
-    ap (λ (ps : List Place). exprs_under s (map (place_kid h k) (arm_slots s [] (arm_with p x None))) ++ ps) (future_agrees s f g n agree h k ts l)
+    ap (λ (ps : List InContext). exprs_under s (map (child_in_context h k) (arm_child_contexts s [] (arm_with p x None))) ++ ps) (future_agrees s f g n agree h k ts l)
 future_agrees s f g n agree h k (Task.GuardedArm p y x ∷ ts) l =
-    ap (λ (ps : List Place). exprs_under s (map (place_kid h k) (arm_slots s [] (arm_with p x (Some y)))) ++ ps) (future_agrees s f g n agree h k ts l)
+    ap (λ (ps : List InContext). exprs_under s (map (child_in_context h k) (arm_child_contexts s [] (arm_with p x (Some y)))) ++ ps) (future_agrees s f g n agree h k ts l)
 future_agrees s f g n agree h k (Task.MacroDef id ∷ ts) l = future_agrees s f g n agree (of_kind (ScopeKind.MacroDef id) ∷ h) (of_kind (ScopeKind.MacroDef id) ∷ k) ts l
 future_agrees s f g n agree h k (Task.Leave a b ∷ ts) l =
     ap (λ (c : Chain). future s f c (f b) ts) (agree a l.0)
@@ -93,8 +93,8 @@ future_agrees s f g n agree h k (Task.Leave a b ∷ ts) l =
 
 -- 2. How a walk goes on: scopes that are opened, and a task that is done.
 
-abbrev pub at : Scopes → Around → List Task → Machine
-at scopes around tasks = record { scopes = scopes; around = around; tasks = tasks }
+abbrev pub at : Scopes → CurrentScopes → List Task → WalkState
+at scopes current tasks = record { scopes = scopes; current = current; tasks = tasks }
 
 -- Scopes that are opened
 
@@ -105,37 +105,37 @@ child_frames : (scopes grown : List Scope) (p s : ℕ) (k : ScopeKind) (es : Lis
 child_frames scopes grown p s k es g i =
     rw g (record { within = omega (arith, i, length_push scopes (child p k es)); is = chain_new scopes (child p k es) s i })
 
-pub opened_here : (old new : Machine) (k : ScopeKind) (es : List ScopeEntry) → new.scopes.scopes ≡ old.scopes.scopes ++ child old.around.here k es ∷ [] → new.scopes.scope_by_expr ≡ old.scopes.scope_by_expr → new.around.here ≡ length old.scopes.scopes → new.around.constant ≡ old.around.constant → new.tasks ≡ old.tasks → old.around.constant < length old.scopes.scopes → OpensScopes old new (record { kind = k; entries = es } ∷ []) []
-opened_here old new k es g same i c ts l =
+pub opened_frames_are : (old new : WalkState) (k : ScopeKind) (es : List ScopeEntry) → new.scopes.scopes ≡ old.scopes.scopes ++ child old.current.scope k es ∷ [] → new.scopes.scope_by_expr ≡ old.scopes.scope_by_expr → new.current.scope ≡ length old.scopes.scopes → new.current.const_scope ≡ old.current.const_scope → new.tasks ≡ old.tasks → old.current.const_scope < length old.scopes.scopes → OpensScopes old new (record { kind = k; entries = es } ∷ []) []
+opened_frames_are old new k es g same i c ts l =
     record {
-      more = child old.around.here k es ∷ [];
+      more = child old.current.scope k es ∷ [];
       grows = g;
       same = same;
       tasks = ts;
       frames = λ w. refl;
-      here = child_frames old.scopes.scopes new.scopes.scopes old.around.here new.around.here k es g i;
-      constant = frames_grown old.scopes.scopes new.scopes.scopes (child old.around.here k es ∷ []) new.around.constant (constant_of old) g
-          (subst (λ (s : ℕ). HasFrames old.scopes.scopes s (constant_of old)) (sym c) (record { within = l; is = refl }));
+      scope = child_frames old.scopes.scopes new.scopes.scopes old.current.scope new.current.scope k es g i;
+      const_scope = frames_grown old.scopes.scopes new.scopes.scopes (child old.current.scope k es ∷ []) new.current.const_scope (frames_of_const_scope old) g
+          (subst (λ (s : ℕ). HasFrames old.scopes.scopes s (frames_of_const_scope old)) (sym c) (record { within = l; is = refl }));
     }
 
-pub opened_constant : (old new : Machine) (k : ScopeKind) (es : List ScopeEntry) → new.scopes.scopes ≡ old.scopes.scopes ++ child old.around.constant k es ∷ [] → new.scopes.scope_by_expr ≡ old.scopes.scope_by_expr → new.around.constant ≡ length old.scopes.scopes → new.around.here ≡ old.around.here → new.tasks ≡ old.tasks → old.around.here < length old.scopes.scopes → OpensScopes old new [] (record { kind = k; entries = es } ∷ [])
-opened_constant old new k es g same i h ts l =
+pub opened_const_frames_are : (old new : WalkState) (k : ScopeKind) (es : List ScopeEntry) → new.scopes.scopes ≡ old.scopes.scopes ++ child old.current.const_scope k es ∷ [] → new.scopes.scope_by_expr ≡ old.scopes.scope_by_expr → new.current.const_scope ≡ length old.scopes.scopes → new.current.scope ≡ old.current.scope → new.tasks ≡ old.tasks → old.current.scope < length old.scopes.scopes → OpensScopes old new [] (record { kind = k; entries = es } ∷ [])
+opened_const_frames_are old new k es g same i h ts l =
     record {
-      more = child old.around.constant k es ∷ [];
+      more = child old.current.const_scope k es ∷ [];
       grows = g;
       same = same;
       tasks = ts;
       frames = λ w. refl;
-      constant = child_frames old.scopes.scopes new.scopes.scopes old.around.constant new.around.constant k es g i;
-      here = frames_grown old.scopes.scopes new.scopes.scopes (child old.around.constant k es ∷ []) new.around.here (here_of old) g
-          (subst (λ (s : ℕ). HasFrames old.scopes.scopes s (here_of old)) (sym h) (record { within = l; is = refl }));
+      const_scope = child_frames old.scopes.scopes new.scopes.scopes old.current.const_scope new.current.const_scope k es g i;
+      scope = frames_grown old.scopes.scopes new.scopes.scopes (child old.current.const_scope k es ∷ []) new.current.scope (frames_of_scope old) g
+          (subst (λ (s : ℕ). HasFrames old.scopes.scopes s (frames_of_scope old)) (sym h) (record { within = l; is = refl }));
     }
 
 frames_sum_grown : (w : Frame → ℕ) (scopes grown more : List Scope) → grown ≡ scopes ++ more → sum_by w (map frame_of grown) ≡ sum_by w (map frame_of scopes) + sum_by w (map frame_of more)
 frames_sum_grown w scopes grown more g =
     ap (λ (xs : List Scope). sum_by w (map frame_of xs)) g ∙ (ap (sum_by w) (map-append frame_of scopes more) ∙ sum_by-append w (map frame_of scopes) (map frame_of more))
 
-pub opened_then : (old mid new : Machine) (f : Frame) (gs : Chain) → OpensScopes old mid (f ∷ []) [] → OpensScopes mid new [] gs → OpensScopes old new (f ∷ []) gs
+pub opened_then : (old mid new : WalkState) (f : Frame) (gs : Chain) → OpensScopes old mid (f ∷ []) [] → OpensScopes mid new [] gs → OpensScopes old new (f ∷ []) gs
 opened_then old mid new f gs a b =
     record {
       more = a.more ++ b.more;
@@ -144,12 +144,12 @@ opened_then old mid new f gs a b =
       tasks = b.tasks ∙ a.tasks;
       frames = λ w.
           omega (arith, a.frames w, b.frames w, frames_sum_grown w a.more (a.more ++ b.more) b.more refl, sum_by-append w (f ∷ []) gs);
-      here = subst (HasFrames new.scopes.scopes new.around.here) a.here.is b.here;
-      constant = subst (λ (c : Chain). HasFrames new.scopes.scopes new.around.constant (gs ++ c)) a.constant.is b.constant;
+      scope = subst (HasFrames new.scopes.scopes new.current.scope) a.scope.is b.scope;
+      const_scope = subst (λ (c : Chain). HasFrames new.scopes.scopes new.current.const_scope (gs ++ c)) a.const_scope.is b.const_scope;
     }
 
 -- the same machine, where none is opened
-pub opened_none : (m : Machine) → m.around.here < length m.scopes.scopes → m.around.constant < length m.scopes.scopes → OpensScopes m m [] []
+pub opened_none : (m : WalkState) → m.current.scope < length m.scopes.scopes → m.current.const_scope < length m.scopes.scopes → OpensScopes m m [] []
 opened_none m h c =
     record {
       more = [];
@@ -157,12 +157,12 @@ opened_none m h c =
       same = refl;
       tasks = refl;
       frames = λ w. refl;
-      here = record { within = h; is = refl };
-      constant = record { within = c; is = refl };
+      scope = record { within = h; is = refl };
+      const_scope = record { within = c; is = refl };
     }
 
 -- the scope of an expression is that of its chain
-pub own_frames : (s : Nodes) (x : ScopingForm) (scopes : List Scope) (inside outside : ℕ) (h : Chain) → HasFrames scopes inside (opens_here s x ++ h) → HasFrames scopes outside h → HasFrames scopes (scope_within x inside outside) (within_own x h)
+pub own_frames : (s : Nodes) (x : ScopingForm) (scopes : List Scope) (inside outside : ℕ) (h : Chain) → HasFrames scopes inside (opened_frames s x ++ h) → HasFrames scopes outside h → HasFrames scopes (scope_within x inside outside) (within_own x h)
 own_frames s (form.Block id label xs tail) scopes inside outside h i o = i
 own_frames s _ scopes inside outside h i o = o
 
@@ -181,7 +181,7 @@ over_new scopes f o =
     (λ l. inr (let a = sum_by-append count_entries (map frame_of scopes) (f ∷ []) in let b = entries_weigh scopes in omega (arith, l, a, b))) o
 
 -- what is over with the frames so far is over with those from before
-pub over_after : (old mid : Machine) (f : Frame) (gs : List Frame) → OpensScopes old mid (f ∷ []) [] → Over (map frame_of mid.scopes.scopes ++ gs) → Over (map frame_of old.scopes.scopes ++ f ∷ gs)
+pub over_after : (old mid : WalkState) (f : Frame) (gs : List Frame) → OpensScopes old mid (f ∷ []) [] → Over (map frame_of mid.scopes.scopes ++ gs) → Over (map frame_of old.scopes.scopes ++ f ∷ gs)
 over_after old mid f gs a o =
     ⊎_elim (λ l. inl (let x = same one in omega (arith, l, x))) (λ l. inr (let x = same count_entries in omega (arith, l, x))) o where
       same : (w : Frame → ℕ) → sum_by w (map frame_of mid.scopes.scopes ++ gs) ≡ sum_by w (map frame_of old.scopes.scopes ++ f ∷ gs)
@@ -198,7 +198,7 @@ over_more fs f gs o =
       rises w = omega (arith, sum_by-append w fs (f ∷ []), sum_by-append w fs (f ∷ gs), sum_by-cons w f gs)
 
 module _ (s : Nodes) where
-  pub over_exceeds : (S : Scopes) (a : Around) (ts : List Task) (fs : List Frame) → ((w : Frame → ℕ) → sum_by w fs ≤ weight_left s w ts) → Over (map frame_of S.scopes ++ fs) → Exceeds s (at S a ts)
+  pub over_exceeds : (S : Scopes) (a : CurrentScopes) (ts : List Task) (fs : List Frame) → ((w : Frame → ℕ) → sum_by w fs ≤ weight_left s w ts) → Over (map frame_of S.scopes ++ fs) → Exceeds s (at S a ts)
   over_exceeds S a ts fs h o =
       ⊎_elim (λ l. inl (let x = h one in let y = sum_by-append one (map frame_of S.scopes) fs in omega (arith, l, x, y)))
       (λ l. inr (let x = h count_entries in let y = sum_by-append count_entries (map frame_of S.scopes) fs in omega (arith, l, x, y))) o
@@ -206,45 +206,45 @@ module _ (s : Nodes) where
   -- A task that is done
 
   -- one that opens scopes
-  pub moves_opened : (S : Scopes) (a : Around) (t : Task) (ts us : List Task) (new : Machine) (fs gs : Chain) (met : List Place) →
-      OpensScopes (at S a us) new fs gs → IsReady s (at S a (t ∷ ts)) → LeavesWithin (length S.scopes) us → AreThere s (about us) →
-      future_of s (at S a (t ∷ ts)) ≡ met ++ future s (chain_of S.scopes) (fs ++ chain_of S.scopes a.here) (gs ++ chain_of S.scopes a.constant) us →
+  pub moves_opened : (S : Scopes) (a : CurrentScopes) (t : Task) (ts us : List Task) (new : WalkState) (fs gs : Chain) (met : List InContext) →
+      OpensScopes (at S a us) new fs gs → IsReady s (at S a (t ∷ ts)) → LeavesWithin (length S.scopes) us → AreInRange s (about us) →
+      future_of s (at S a (t ∷ ts)) ≡ met ++ future s (chain_of S.scopes) (fs ++ chain_of S.scopes a.scope) (gs ++ chain_of S.scopes a.const_scope) us →
       ((w : Frame → ℕ) → weight_left s w (t ∷ ts) ≡ sum_by w (fs ++ gs) + weight_left s w us) →
-      turns_left s us < turns_left s (t ∷ ts) → Moves s (at S a (t ∷ ts)) new met
+      turns_left s us < turns_left s (t ∷ ts) → Step s (at S a (t ∷ ts)) new met
   moves_opened S a t ts us new fs gs met o r l k f w d =
-      let h = fs ++ chain_of S.scopes a.here in
-      let c = gs ++ chain_of S.scopes a.constant in
+      let h = fs ++ chain_of S.scopes a.scope in
+      let c = gs ++ chain_of S.scopes a.const_scope in
       let N = new.scopes.scopes in
       let long : length S.scopes ≤ length N = omega (arith, length-append S.scopes o.more, ap (length {A = Scope}) o.grows) in
       record {
         ready = record {
-          here = o.here.within;
-          constant = o.constant.within;
+          scope = o.scope.within;
+          const_scope = o.const_scope.within;
           leaves = subst (LeavesWithin (length N)) (sym o.tasks) (leaves_more (length S.scopes) (length N) us long l);
-          known = subst (λ (ts : List Task). AreThere s (about ts)) (sym o.tasks) k;
+          known = subst (λ (ts : List Task). AreInRange s (about ts)) (sym o.tasks) k;
         };
         more = o.more;
         grows = o.grows;
         same = o.same;
-        in_order = f ∙ ap (λ (ps : List Place). met ++ ps)
+        in_order = f ∙ ap (λ (ps : List InContext). met ++ ps)
             (sym (future_agrees s (chain_of (S.scopes ++ o.more)) (chain_of S.scopes) (length S.scopes) (chain_kept S.scopes o.more) h c us l)
             ∙ (ap (λ (xs : List Scope). future s (chain_of xs) h c us) (sym o.grows)
-            ∙ (ap (λ (x : Chain). future s (chain_of N) x c us) (sym o.here.is)
-            ∙ (ap (λ (x : Chain). future s (chain_of N) (here_of new) x us) (sym o.constant.is)
-            ∙ ap (λ (vs : List Task). future s (chain_of N) (here_of new) (constant_of new) vs) (sym o.tasks)))));
+            ∙ (ap (λ (x : Chain). future s (chain_of N) x c us) (sym o.scope.is)
+            ∙ (ap (λ (x : Chain). future s (chain_of N) (frames_of_scope new) x us) (sym o.const_scope.is)
+            ∙ ap (λ (vs : List Task). future s (chain_of N) (frames_of_scope new) (frames_of_const_scope new) vs) (sym o.tasks)))));
         weights = λ v.
             omega (arith, w v, o.frames v, frames_sum_grown v S.scopes N o.more o.grows, ap (weight_left s v) o.tasks);
         shorter = subst (λ (vs : List Task). turns_left s vs < turns_left s (t ∷ ts)) (sym o.tasks) d;
       }
 
   -- one that opens none
-  pub moves_still : (S : Scopes) (a b : Around) (t : Task) (ts us : List Task) → IsReady s (at S a (t ∷ ts)) →
-      b.here < length S.scopes → b.constant < length S.scopes → LeavesWithin (length S.scopes) us → AreThere s (about us) →
+  pub moves_still : (S : Scopes) (a b : CurrentScopes) (t : Task) (ts us : List Task) → IsReady s (at S a (t ∷ ts)) →
+      b.scope < length S.scopes → b.const_scope < length S.scopes → LeavesWithin (length S.scopes) us → AreInRange s (about us) →
       future_of s (at S a (t ∷ ts)) ≡ future_of s (at S b us) → ((w : Frame → ℕ) → weight_left s w (t ∷ ts) ≡ weight_left s w us) →
-      turns_left s us < turns_left s (t ∷ ts) → Moves s (at S a (t ∷ ts)) (at S b us) []
+      turns_left s us < turns_left s (t ∷ ts) → Step s (at S a (t ∷ ts)) (at S b us) []
   moves_still S a b t ts us r h c l k f w d =
       record {
-        ready = record { here = h; constant = c; leaves = l; known = k };
+        ready = record { scope = h; const_scope = c; leaves = l; known = k };
         more = [];
         grows = sym (append-nil S.scopes);
         same = refl;
@@ -255,12 +255,12 @@ module _ (s : Nodes) where
 
 -- 3. What a walk has done, from its start on.
 
-write_all-append : (m : finmap.FinMap nat_cmp ℕ) (xs ys : List ScopeGift) → write_all m (xs ++ ys) ≡ write_all (write_all m xs) ys
+write_all-append : (m : finmap.FinMap nat_cmp ℕ) (xs ys : List ScopeAssigned) → write_all m (xs ++ ys) ≡ write_all (write_all m xs) ys
 write_all-append m [] ys = refl
-write_all-append m (x ∷ xs) ys = write_all-append (finmap.insert m x.expr x.scope) xs ys
+write_all-append m (x ∷ xs) ys = write_all-append (finmap.insert m x.expr x.assigned) xs ys
 
 module _ (s : Nodes) where
-  pub gone_start : (m : Machine) (n : ℕ) → IsReady s m → Progress s m m n n
+  pub gone_start : (m : WalkState) (n : ℕ) → IsReady s m → WalkSteps s m m n n
   gone_start m n r =
       record {
         ready = r;
@@ -274,7 +274,7 @@ module _ (s : Nodes) where
         grows = sym (append-nil m.scopes.scopes);
       }
 
-  pub gone_moved : (old new : Machine) (n : ℕ) → Moves s old new [] → Progress s old new n n
+  pub gone_moved : (old new : WalkState) (n : ℕ) → Step s old new [] → WalkSteps s old new n n
   gone_moved old new n m =
       record {
         ready = m.ready;
@@ -289,16 +289,16 @@ module _ (s : Nodes) where
       }
 
   -- an expression is met, and then given its scope
-  pub gone_given : (old new : Machine) (last : Scopes) (id scope : ℕ) (h k : Chain) (n : ℕ) → Moves s old new (place (NodeId.Expr id) h k ∷ []) →
+  pub gone_given : (old new : WalkState) (last : Scopes) (id scope : ℕ) (h k : Chain) (n : ℕ) → Step s old new (in_context (NodeId.Expr id) h k ∷ []) →
       HasFrames new.scopes.scopes scope (within_own (form_of s (NodeId.Expr id)) h) →
       last ≡ record { scopes = new.scopes.scopes; scope_by_expr = finmap.insert new.scopes.scope_by_expr id scope } →
-      Progress s old (at last new.around new.tasks) n (n + 1)
+      WalkSteps s old (at last new.current new.tasks) n (n + 1)
   gone_given old new last id scope h k n m has e =
-      let x : ScopeGift = record { expr = id; here = h; constant = k; scope = scope } in
-      let P : Scopes → Type 0 = λ (S : Scopes). Progress s old (at S new.around new.tasks) n (n + 1) in
+      let x : ScopeAssigned = record { expr = id; scope = h; const_scope = k; assigned = scope } in
+      let P : Scopes → Type 0 = λ (S : Scopes). WalkSteps s old (at S new.current new.tasks) n (n + 1) in
       subst P (sym e)
       (record {
-        ready = record { here = m.ready.here; constant = m.ready.constant; leaves = m.ready.leaves; known = m.ready.known };
+        ready = record { scope = m.ready.scope; const_scope = m.ready.const_scope; leaves = m.ready.leaves; known = m.ready.known };
         given = x ∷ [];
         written = ap (λ (b : finmap.FinMap nat_cmp ℕ). finmap.insert b id scope) m.same;
         in_order = m.in_order;
@@ -310,32 +310,32 @@ module _ (s : Nodes) where
       })
 
   -- a task that is known to be this one, where what it calls has an answer
-  pub goes_task : {E : Type 0} (w : Walk) (t u : Task) (n : ℕ) (r : Result (Unit {0}) E) (new : Machine) → t ≡ u → OnOk r (Moves s (doing w u) new []) → OnOk r (Goes s (doing w t) new n n)
+  pub goes_task : {E : Type 0} (w : Walk) (t u : Task) (n : ℕ) (r : Result (Unit {0}) E) (new : WalkState) → t ≡ u → OnOk r (Step s (with_next w u) new []) → OnOk r (CountedStep s (with_next w t) new n n)
   goes_task w t u n r new e moves =
-      let P : Task → Type 0 = λ x. Goes s (doing w x) new n n in
-      on_ok_weaker r (λ (m : Moves s (doing w u) new []). subst P (sym e) (record { gone = gone_moved (doing w u) new n m; shorter = m.shorter })) moves
+      let P : Task → Type 0 = λ x. CountedStep s (with_next w x) new n n in
+      on_ok_weaker r (λ (m : Step s (with_next w u) new []). subst P (sym e) (record { gone = gone_moved (with_next w u) new n m; shorter = m.shorter })) moves
 
-  pub goes_given : (S : Scopes) (a : Around) (t : Task) (ts : List Task) (mid : Machine) (last : Scopes) (around : Around) (tasks : List Task) (id scope : ℕ) (n m : ℕ) → t ≡ Task.Expr id →
-      Moves s (at S a (Task.Expr id ∷ ts)) mid (place (NodeId.Expr id) (chain_of S.scopes a.here) (chain_of S.scopes a.constant) ∷ []) →
-      HasFrames mid.scopes.scopes scope (within_own (form_of s (NodeId.Expr id)) (chain_of S.scopes a.here)) →
-      last ≡ record { scopes = mid.scopes.scopes; scope_by_expr = finmap.insert mid.scopes.scope_by_expr id scope } → around ≡ mid.around → tasks ≡ mid.tasks → m ≡ n + 1 →
-      Goes s (at S a (t ∷ ts)) (at last around tasks) n m
-  goes_given S a t ts mid last around tasks id scope n m is moves has e ea et i =
+  pub goes_given : (S : Scopes) (a : CurrentScopes) (t : Task) (ts : List Task) (mid : WalkState) (last : Scopes) (current : CurrentScopes) (tasks : List Task) (id scope : ℕ) (n m : ℕ) → t ≡ Task.Expr id →
+      Step s (at S a (Task.Expr id ∷ ts)) mid (in_context (NodeId.Expr id) (chain_of S.scopes a.scope) (chain_of S.scopes a.const_scope) ∷ []) →
+      HasFrames mid.scopes.scopes scope (within_own (form_of s (NodeId.Expr id)) (chain_of S.scopes a.scope)) →
+      last ≡ record { scopes = mid.scopes.scopes; scope_by_expr = finmap.insert mid.scopes.scope_by_expr id scope } → current ≡ mid.current → tasks ≡ mid.tasks → m ≡ n + 1 →
+      CountedStep s (at S a (t ∷ ts)) (at last current tasks) n m
+  goes_given S a t ts mid last current tasks id scope n m is moves has e ea et i =
       let old = at S a (Task.Expr id ∷ ts) in
-      let h = chain_of S.scopes a.here in
-      let k = chain_of S.scopes a.constant in
-      let gone : Progress s old (at last mid.around mid.tasks) n m =
-      subst (λ (x : ℕ). Progress s old (at last mid.around mid.tasks) n x) (sym i) (gone_given old mid last id scope h k n moves has e) in
-      let goes : Goes s old (at last mid.around mid.tasks) n m = record { gone = gone; shorter = moves.shorter } in
-      subst (λ (x : Task). Goes s (at S a (x ∷ ts)) (at last around tasks) n m) (sym is)
-      (subst (λ (x : Around). Goes s old (at last x tasks) n m) (sym ea)
-      (subst (λ (x : List Task). Goes s old (at last mid.around x) n m) (sym et) goes))
+      let h = chain_of S.scopes a.scope in
+      let k = chain_of S.scopes a.const_scope in
+      let gone : WalkSteps s old (at last mid.current mid.tasks) n m =
+      subst (λ (x : ℕ). WalkSteps s old (at last mid.current mid.tasks) n x) (sym i) (gone_given old mid last id scope h k n moves has e) in
+      let goes : CountedStep s old (at last mid.current mid.tasks) n m = record { gone = gone; shorter = moves.shorter } in
+      subst (λ (x : Task). CountedStep s (at S a (x ∷ ts)) (at last current tasks) n m) (sym is)
+      (subst (λ (x : CurrentScopes). CountedStep s old (at last x tasks) n m) (sym ea)
+      (subst (λ (x : List Task). CountedStep s old (at last mid.current x) n m) (sym et) goes))
 
-  right_grown : (scopes grown more : List Scope) (gs : List ScopeGift) → grown ≡ scopes ++ more → All (IsRight s scopes) gs → All (IsRight s grown) gs
+  right_grown : (scopes grown more : List Scope) (gs : List ScopeAssigned) → grown ≡ scopes ++ more → All (IsRight s scopes) gs → All (IsRight s grown) gs
   right_grown scopes grown more gs e h =
-      All-weaker (IsRight s scopes) (IsRight s grown) (λ g i. frames_grown scopes grown more g.scope (within_own (form_of s (NodeId.Expr g.expr)) g.here) e i) gs h
+      All-weaker (IsRight s scopes) (IsRight s grown) (λ g i. frames_grown scopes grown more g.assigned (within_own (form_of s (NodeId.Expr g.expr)) g.scope) e i) gs h
 
-  pub gone_then : (old mid new : Machine) (n0 n1 n2 : ℕ) → Progress s old mid n0 n1 → Progress s mid new n1 n2 → Progress s old new n0 n2
+  pub gone_then : (old mid new : WalkState) (n0 n1 n2 : ℕ) → WalkSteps s old mid n0 n1 → WalkSteps s mid new n1 n2 → WalkSteps s old new n0 n2
   gone_then old mid new n0 n1 n2 a b =
       record {
         ready = b.ready;
@@ -343,9 +343,9 @@ module _ (s : Nodes) where
         written =
             b.written ∙ (ap (λ (m : finmap.FinMap nat_cmp ℕ). write_all m b.given) a.written ∙ sym (write_all-append old.scopes.scope_by_expr a.given b.given));
         in_order =
-            a.in_order ∙ (ap (λ (ps : List Place). map place_given a.given ++ ps) b.in_order
-            ∙ (sym (append_assoc (map place_given a.given) (map place_given b.given) (future_of s new))
-            ∙ ap (λ (ps : List Place). ps ++ future_of s new) (sym (map-append place_given a.given b.given))));
+            a.in_order ∙ (ap (λ (ps : List InContext). map context_assigned a.given ++ ps) b.in_order
+            ∙ (sym (append_assoc (map context_assigned a.given) (map context_assigned b.given) (future_of s new))
+            ∙ ap (λ (ps : List InContext). ps ++ future_of s new) (sym (map-append context_assigned a.given b.given))));
         right = All-append (IsRight s new.scopes.scopes) a.given b.given (right_grown mid.scopes.scopes new.scopes.scopes b.more a.given b.grows a.right) b.right;
         ticks = omega (arith, a.ticks, b.ticks, length-append a.given b.given);
         weights = λ w. a.weights w ∙ b.weights w;

@@ -5,7 +5,7 @@ use Rattle.std.proofs.lemmas.List.Elements.{All-nil, All-cons, All-append, All-w
 use Rattle.std.specs.List.{slice_get, All, range_with_len}
 use Rattle.hir_faults.proofs.SoundLemmas.{item_at}
 use Rattle.hir_scope.specs.Paths.{path_among, with_path, paths, path}
-use Rattle.hir_scope.specs.Scopes.{Scope, IsBelow, IsIn, ParentsStandEarlier}
+use Rattle.hir_scope.specs.Scopes.{Scope, IsBelow, ScopeIsInRange, ParentsStandEarlier}
 
 length_with : (earlier : List (List ℕ)) (more : List Scope) → length (fold with_path earlier more) ≡ length earlier + length more
 length_with earlier [] = omega arith
@@ -68,7 +68,7 @@ path_short scopes earlier (suc n) (Some s) l h =
     omega (arith, shorter, long)
 
 -- a path has at most as many members as there are scopes
-pub path_fits : (scopes : List Scope) → ParentsStandEarlier scopes → (o : Option ℕ) → IsIn scopes o → length (path scopes o) ≤ length scopes
+pub path_fits : (scopes : List Scope) → ParentsStandEarlier scopes → (o : Option ℕ) → ScopeIsInRange scopes o → length (path scopes o) ≤ length scopes
 path_fits scopes earlier o h = path_short scopes earlier (length scopes) o (omega arith) h
 
 -- each member of a path is there

@@ -92,8 +92,8 @@ row_seen es rows m seen scope i row view l is e =
 abbrev pub AreBelow : finmap.FinMap nat_cmp ℕ → ℕ → Type 0
 AreBelow m n = (expr scope : ℕ) → finmap.get m expr ≡ Some scope → scope < n
 
-pub there_seen : (es : List ScopeEntry) (rows : List ScopeData) (m : finmap.FinMap nat_cmp ℕ) → AreBelow m (length rows) → AreBelow m (length (scopes_of es rows))
-there_seen es rows m h expr scope e = subst (λ n. scope < n) (sym (length_seen es rows)) (h expr scope e)
+pub in_range_seen : (es : List ScopeEntry) (rows : List ScopeData) (m : finmap.FinMap nat_cmp ℕ) → AreBelow m (length rows) → AreBelow m (length (scopes_of es rows))
+in_range_seen es rows m h expr scope e = subst (λ n. scope < n) (sym (length_seen es rows)) (h expr scope e)
 
 -- a value that was written is the one written, or that from before
 pub at_or_before : (b : Bool) (v : ℕ) (o : Option ℕ) (w : ℕ) → cond b (Some v) o ≡ Some w → ((b ≡ true) × (v ≡ w)) ⊎ (o ≡ Some w)
@@ -111,14 +111,14 @@ pub flat_empty : IsFlat [] [] finmap.empty
 flat_empty = record {
   fill = refl;
   parents = λ i row e. absurd cc;
-  there = λ expr scope e. absurd (none-some scope (sym (finmap.get-empty nat_cmp expr) ∙ e));
+  in_range = λ expr scope e. absurd (none-some scope (sym (finmap.get-empty nat_cmp expr) ∙ e));
   few_scopes = omega arith;
   few_entries = omega arith;
 }
 
 pub flat_set : (es : List ScopeEntry) (rows : List ScopeData) (m : finmap.FinMap nat_cmp ℕ) (e s : ℕ) → IsFlat es rows m → s < length rows → IsFlat es rows (finmap.insert m e s)
 flat_set es rows m e s f l =
-    record { fill = f.fill; parents = f.parents; there = below_inserted m (length rows) e s f.there l; few_scopes = f.few_scopes; few_entries = f.few_entries }
+    record { fill = f.fill; parents = f.parents; in_range = below_inserted m (length rows) e s f.in_range l; few_scopes = f.few_scopes; few_entries = f.few_entries }
 
 below_with_one : (rows : List ScopeData) (row : ScopeData) (n : ℕ) → ((i : ℕ) (x : ScopeData) → slice_get rows i ≡ Some x → IsBelow (n + i) x.parent) → IsBelow (n + length rows) row.parent → (i : ℕ) (x : ScopeData) → slice_get (rows ++ row ∷ []) i ≡ Some x → IsBelow (n + i) x.parent
 below_with_one [] row n h b zero x q = let k : row ≡ x = cc in subst (λ (y : ScopeData). IsBelow (n + 0) y.parent) k b
@@ -136,7 +136,7 @@ pub flat_push : (es more : List ScopeEntry) (rows : List ScopeData) (m : finmap.
 flat_push es more rows m row f s e b n k = record {
   fill = subst (FollowEachOther 0 (rows ++ row ∷ [])) (e ∙ sym (length-append es more)) (follow_push 0 rows (length es) row f.fill s (omega (arith, e)));
   parents = λ i x q. parent_pushed i x q;
-  there = λ expr scope q. let l = f.there expr scope q in omega (arith, l, length_push rows row);
+  in_range = λ expr scope q. let l = f.in_range expr scope q in omega (arith, l, length_push rows row);
   few_scopes = omega (arith, n, length_push rows row);
   few_entries = omega (arith, k, length-append es more);
 } where

@@ -1,17 +1,17 @@
--- Each node that stands in a place stands in one alone, where nothing lies under two tops or under two kids of a node.
+-- Each node that stands in a place stands in one alone, where nothing lies under two entry nodes or under two children of a node.
 use Rattle.std.proofs.Common.{◌≡◌, ℕ, zero, suc, ◌<◌, ◌≤◌, List, [], ◌∷◌, map, refl, sym, ap, ◌∙◌, arith, subst, inl, inr, ◌⊎◌, ⊎_elim, Some, Contains, eqb}
 use Rattle.std.proofs.lemmas.{Bool.cases_lt, Bool.Decides.eqb_tells, List.Sorted.sum_by-IsPermutation}
 use Rattle.std.proofs.lemmas.{List.Sums.sum_by-cons, Option.slice_get-map}
 use Rattle.std.specs.{List.slice_get, List.sum_by, Prelude.option_map}
 use Rattle.hir_node.specs.declared.node_id.NodeId.{NodeId}
-use Rattle.hir_faults.specs.{Down.rank, Down.KidsFall, Nodes.Nodes, Nodes.Has, Nodes.kids_of}
-use Rattle.hir_expr_store.specs.Under.{Under, itself, below, LieApart}
+use Rattle.hir_faults.specs.{Recursion.rank, Recursion.RankDecreases, Nodes.Nodes, Nodes.Has, Nodes.children_of}
+use Rattle.hir_expr_store.specs.Under.{Under, itself, below, AreDisjoint}
 use Rattle.hir_expr_store.proofs.UnderLemmas.{under_more}
-use Rattle.hir_scope.specs.Chains.{Place, place_kid, places_of_kids, Stands, top, kid, HasChain, within_own}
-use Rattle.hir_scope.specs.{Forms.form_of, Frames.Chain, Slots.Slot, Slots.slots}
-use Rattle.hir_scope.proofs.{CountLemmas.one_if, KidLemmas.kids_in, KidLemmas.slots_kids}
+use Rattle.hir_scope.specs.Chains.{InContext, child_in_context, children_in_context, Occurs, entry_node, child, HasChain, within_own}
+use Rattle.hir_scope.specs.{ScopingForms.form_of, Frames.Chain, ChildContexts.ChildContext, ChildContexts.child_contexts}
+use Rattle.hir_scope.proofs.{CountLemmas.one_if, ChildLemmas.children_in, ChildLemmas.child_contexts_children}
 use Rattle.hir_scope.proofs.MemberLemmas.{In, in_contains, contains_in, get_in, sum_mapped}
-use Rattle.hir_scope.proofs.UnderLemmas.{kid_of_place, stands_reached, stands_there}
+use Rattle.hir_scope.proofs.UnderLemmas.{child_of_context, occurs_reached, occurs_in_range}
 
 -- 1. How often a node stands in a list
 
@@ -56,98 +56,98 @@ once m (x ∷ xs) h =
     (λ z. let r = absent m xs (λ j b e. h 0 (suc j) x b (omega arith) refl e z.1) in let one = z.0 in omega (arith, a, r, one))
     (is_or_not m x)
 
-present : (m : NodeId) (ps : List Place) (j : ℕ) (q : Place) → slice_get ps j ≡ Some q → m ≡ q.node → 1 ≤ sum_by (λ (p : Place). is m p.node) ps
+present : (m : NodeId) (ps : List InContext) (j : ℕ) (q : InContext) → slice_get ps j ≡ Some q → m ≡ q.node → 1 ≤ sum_by (λ (p : InContext). is m p.node) ps
 present m [] j q e n = absurd cc
 present m (p ∷ ps) zero q e n =
-    let a = sum_by-cons (λ (x : Place). is m x.node) p ps in
+    let a = sum_by-cons (λ (x : InContext). is m x.node) p ps in
     let same : p ≡ q = cc in
-    let one : is m p.node ≡ 1 = ap (λ (x : Place). is m x.node) same ∙ (ap (is m) (sym n) ∙ is_itself m) in
+    let one : is m p.node ≡ 1 = ap (λ (x : InContext). is m x.node) same ∙ (ap (is m) (sym n) ∙ is_itself m) in
     omega (arith, a, one)
-present m (p ∷ ps) (suc j) q e n = omega (arith, sum_by-cons (λ (x : Place). is m x.node) p ps, present m ps j q e n)
+present m (p ∷ ps) (suc j) q e n = omega (arith, sum_by-cons (λ (x : InContext). is m x.node) p ps, present m ps j q e n)
 
 -- it stands there twice
-twice : (m : NodeId) (ps : List Place) (i j : ℕ) (p q : Place) → i < j → slice_get ps i ≡ Some p → slice_get ps j ≡ Some q → m ≡ p.node → m ≡ q.node → 2 ≤ sum_by (λ (x : Place). is m x.node) ps
+twice : (m : NodeId) (ps : List InContext) (i j : ℕ) (p q : InContext) → i < j → slice_get ps i ≡ Some p → slice_get ps j ≡ Some q → m ≡ p.node → m ≡ q.node → 2 ≤ sum_by (λ (x : InContext). is m x.node) ps
 twice m [] i j p q l e f n o = absurd cc
 twice m (x ∷ ps) i zero p q l e f n o = absurd (omega (arith, l))
 twice m (x ∷ ps) zero (suc j) p q l e f n o =
-    let a = sum_by-cons (λ (x : Place). is m x.node) x ps in
+    let a = sum_by-cons (λ (x : InContext). is m x.node) x ps in
     let same : x ≡ p = cc in
-    let one : is m x.node ≡ 1 = ap (λ (y : Place). is m y.node) same ∙ (ap (is m) (sym n) ∙ is_itself m) in
+    let one : is m x.node ≡ 1 = ap (λ (y : InContext). is m y.node) same ∙ (ap (is m) (sym n) ∙ is_itself m) in
     omega (arith, a, one, present m ps j q f o)
-twice m (x ∷ ps) (suc i) (suc j) p q l e f n o = omega (arith, sum_by-cons (λ (x : Place). is m x.node) x ps, twice m ps i j p q (omega (arith, l)) e f n o)
+twice m (x ∷ ps) (suc i) (suc j) p q l e f n o = omega (arith, sum_by-cons (λ (x : InContext). is m x.node) x ps, twice m ps i j p q (omega (arith, l)) e f n o)
 
 -- 2. Places
 
 -- no two of these places are of one node
-abbrev OneEach : List Place → Type 0
-OneEach ps = (i j : ℕ) (p q : Place) → i < j → slice_get ps i ≡ Some p → slice_get ps j ≡ Some q → p.node ≡ q.node → ⊥
+abbrev OneEach : List InContext → Type 0
+OneEach ps = (i j : ℕ) (p q : InContext) → i < j → slice_get ps i ≡ Some p → slice_get ps j ≡ Some q → p.node ≡ q.node → ⊥
 
 level : (i j : ℕ) → (i < j → ⊥) → (j < i → ⊥) → i ≡ j
 level i j f g = ⊎_elim (λ l. absurd (f l)) (λ l. ⊎_elim (λ m. absurd (g m)) (λ m. omega (arith, l, m)) (cases_lt j i)) (cases_lt i j)
 
-same_place : (ps : List Place) → OneEach ps → (p q : Place) → In p ps → In q ps → p.node ≡ q.node → p ≡ q
-same_place ps one p q i j n =
+same_context : (ps : List InContext) → OneEach ps → (p q : InContext) → In p ps → In q ps → p.node ≡ q.node → p ≡ q
+same_context ps one p q i j n =
     let a = get_in ps p i in
     let b = get_in ps q j in
     let e = level a.0 b.0 (λ l. one a.0 b.0 p q l a.1 b.1 n) (λ l. one b.0 a.0 q p l b.1 a.1 (sym n)) in
     let x : Some p ≡ Some q = sym a.1 ∙ (ap (slice_get ps) e ∙ b.1) in
     cc
 
-node_get : (ps : List Place) (k : ℕ) (p : Place) → slice_get ps k ≡ Some p → slice_get (map (λ (q : Place). q.node) ps) k ≡ Some p.node
-node_get ps k p e = slice_get-map (λ (q : Place). q.node) ps k ∙ ap (option_map (λ (q : Place). q.node)) e
+node_get : (ps : List InContext) (k : ℕ) (p : InContext) → slice_get ps k ≡ Some p → slice_get (map (λ (q : InContext). q.node) ps) k ≡ Some p.node
+node_get ps k p e = slice_get-map (λ (q : InContext). q.node) ps k ∙ ap (option_map (λ (q : InContext). q.node)) e
 
-module _ (s : Nodes) (fall : KidsFall s)
-    (parent : (n m k : NodeId) → Contains (kids_of s n) k → Contains (kids_of s m) k → n ≡ m)
-    (apart : (n : NodeId) → Has s n → LieApart s (kids_of s n)) where
-  lie_once : (ns : List NodeId) → LieApart s ns → (m : NodeId) → sum_by (is m) ns ≤ 1
+module _ (s : Nodes) (fall : RankDecreases s)
+    (parent : (n m k : NodeId) → Contains (children_of s n) k → Contains (children_of s m) k → n ≡ m)
+    (apart : (n : NodeId) → Has s n → AreDisjoint s (children_of s n)) where
+  lie_once : (ns : List NodeId) → AreDisjoint s ns → (m : NodeId) → sum_by (is m) ns ≤ 1
   lie_once ns h m = once m ns (λ i j a b l e f n o. h i j a b m l e f (subst (Under s m) n itself) (subst (Under s m) o itself))
 
-  kids_once : (p : Place) → Has s p.node → OneEach (places_of_kids s p)
-  kids_once p has i j q r l e f n =
-      let ps = places_of_kids s p in
-      let g = sum_mapped (λ (x : Place). is q.node x.node) (place_kid p.here p.constant) (slots s p.node) in
-      let u = sum_mapped (is q.node) (λ (x : Slot). x.kid) (slots s p.node) in
-      let d = sum_by-IsPermutation (is q.node) (kids_of s p.node) (kids_in (slots s p.node)) (slots_kids s p.node) in
-      omega (arith, twice q.node ps i j q r l e f refl n, g, u, d, lie_once (kids_of s p.node) (apart p.node has) q.node)
+  children_once : (p : InContext) → Has s p.node → OneEach (children_in_context s p)
+  children_once p has i j q r l e f n =
+      let ps = children_in_context s p in
+      let g = sum_mapped (λ (x : InContext). is q.node x.node) (child_in_context p.scope p.const_scope) (child_contexts s p.node) in
+      let u = sum_mapped (is q.node) (λ (x : ChildContext). x.child) (child_contexts s p.node) in
+      let d = sum_by-IsPermutation (is q.node) (children_of s p.node) (children_in (child_contexts s p.node)) (child_contexts_children s p.node) in
+      omega (arith, twice q.node ps i j q r l e f refl n, g, u, d, lie_once (children_of s p.node) (apart p.node has) q.node)
 
   under_low : (n r : NodeId) → Under s n r → Has s r → rank s n ≤ rank s r
   under_low n r itself has = omega arith
-  under_low n r (below {k = k} c u) has = omega (arith, fall.lower r has k c, under_low n k u (fall.there r has k c))
+  under_low n r (below {k = k} c u) has = omega (arith, fall.lower r has k c, under_low n k u (fall.in_range r has k c))
 
-  module _ (tops : List Place) (there : (p : Place) → In p tops → Has s p.node) (tops_apart : LieApart s (map (λ (p : Place). p.node) tops)) where
-    tops_once : OneEach tops
-    tops_once i j p q l e f n = tops_apart i j p.node q.node p.node l (node_get tops i p e) (node_get tops j q f) itself (subst (Under s p.node) n itself)
+  module _ (entry_nodes : List InContext) (in_range : (p : InContext) → In p entry_nodes → Has s p.node) (entry_nodes_apart : AreDisjoint s (map (λ (p : InContext). p.node) entry_nodes)) where
+    entry_nodes_once : OneEach entry_nodes
+    entry_nodes_once i j p q l e f n = entry_nodes_apart i j p.node q.node p.node l (node_get entry_nodes i p e) (node_get entry_nodes j q f) itself (subst (Under s p.node) n itself)
 
-    -- a top is no kid of what stands in a place
-    top_free : (p r q : Place) → Contains tops p → Stands s tops r → In q (places_of_kids s r) → p.node ≡ q.node → ⊥
+    -- a top is no child of what stands in a place
+    top_free : (p r q : InContext) → Contains entry_nodes p → Occurs s entry_nodes r → In q (children_in_context s r) → p.node ≡ q.node → ⊥
     top_free p r q c h i n =
-        let up = stands_reached s tops r h in
-        let kid_c = kid_of_place s r q (contains_in (places_of_kids s r) q i) in
-        let has = stands_there s fall tops there r h in
-        let lies = under_more s q.node r.node up.2 kid_c in
-        let a = get_in tops p (in_contains tops p c) in
-        let b = get_in (map (λ (x : Place). x.node) tops) up.0 (in_contains (map (λ (x : Place). x.node) tops) up.0 up.1) in
-        let pa = node_get tops a.0 p a.1 in
+        let up = occurs_reached s entry_nodes r h in
+        let child_c = child_of_context s r q (contains_in (children_in_context s r) q i) in
+        let has = occurs_in_range s fall entry_nodes in_range r h in
+        let lies = under_more s q.node r.node up.2 child_c in
+        let a = get_in entry_nodes p (in_contains entry_nodes p c) in
+        let b = get_in (map (λ (x : InContext). x.node) entry_nodes) up.0 (in_contains (map (λ (x : InContext). x.node) entry_nodes) up.0 up.1) in
+        let pa = node_get entry_nodes a.0 p a.1 in
         let own = subst (λ m. Under s m p.node) n itself in
-        let e = level a.0 b.0 (λ l. tops_apart a.0 b.0 p.node up.0 q.node l pa b.1 own lies) (λ l. tops_apart b.0 a.0 up.0 p.node q.node l b.1 pa lies own) in
-        let x : Some p.node ≡ Some up.0 = sym pa ∙ (ap (slice_get (map (λ (y : Place). y.node) tops)) e ∙ b.1) in
+        let e = level a.0 b.0 (λ l. entry_nodes_apart a.0 b.0 p.node up.0 q.node l pa b.1 own lies) (λ l. entry_nodes_apart b.0 a.0 up.0 p.node q.node l b.1 pa lies own) in
+        let x : Some p.node ≡ Some up.0 = sym pa ∙ (ap (slice_get (map (λ (y : InContext). y.node) entry_nodes)) e ∙ b.1) in
         let same : p.node ≡ up.0 = cc in
-        let d = under_low r.node p.node (subst (Under s r.node) (sym same) up.2) (there p (in_contains tops p c)) in
-        omega (arith, d, fall.lower r.node has q.node kid_c, ap (rank s) n)
+        let d = under_low r.node p.node (subst (Under s r.node) (sym same) up.2) (in_range p (in_contains entry_nodes p c)) in
+        omega (arith, d, fall.lower r.node has q.node child_c, ap (rank s) n)
 
-    pub stands_once : (p : Place) → Stands s tops p → (q : Place) → Stands s tops q → p.node ≡ q.node → p ≡ q
-    stands_once p (top c) q (top d) n = same_place tops tops_once p q (in_contains tops p c) (in_contains tops q d) n
-    stands_once p (top c) q (kid {parent = r} h d) n = absurd (top_free p r q c h (in_contains (places_of_kids s r) q d) n)
-    stands_once p (kid {parent = r} h c) q (top d) n = absurd (top_free q r p d h (in_contains (places_of_kids s r) p c) (sym n))
-    stands_once p (kid {parent = r} h c) q (kid {parent = t} k d) n =
-        let a = kid_of_place s r p c in
-        let b = kid_of_place s t q d in
-        let one = stands_once r h t k (parent r.node t.node p.node a (subst (Contains (kids_of s t.node)) (sym n) b)) in
-        let d' = subst (λ (x : Place). In q (places_of_kids s x)) (sym one) (in_contains (places_of_kids s t) q d) in
-        same_place (places_of_kids s r) (kids_once r (stands_there s fall tops there r h)) p q (in_contains (places_of_kids s r) p c) d' n
+    pub occurs_once : (p : InContext) → Occurs s entry_nodes p → (q : InContext) → Occurs s entry_nodes q → p.node ≡ q.node → p ≡ q
+    occurs_once p (entry_node c) q (entry_node d) n = same_context entry_nodes entry_nodes_once p q (in_contains entry_nodes p c) (in_contains entry_nodes q d) n
+    occurs_once p (entry_node c) q (child {parent = r} h d) n = absurd (top_free p r q c h (in_contains (children_in_context s r) q d) n)
+    occurs_once p (child {parent = r} h c) q (entry_node d) n = absurd (top_free q r p d h (in_contains (children_in_context s r) p c) (sym n))
+    occurs_once p (child {parent = r} h c) q (child {parent = t} k d) n =
+        let a = child_of_context s r p c in
+        let b = child_of_context s t q d in
+        let one = occurs_once r h t k (parent r.node t.node p.node a (subst (Contains (children_of s t.node)) (sym n) b)) in
+        let d' = subst (λ (x : InContext). In q (children_in_context s x)) (sym one) (in_contains (children_in_context s t) q d) in
+        same_context (children_in_context s r) (children_once r (occurs_in_range s fall entry_nodes in_range r h)) p q (in_contains (children_in_context s r) p c) d' n
 
     -- so an expression has one chain
-    pub one_chain : (expr : ℕ) (c d : Chain) → HasChain s tops expr c → HasChain s tops expr d → c ≡ d
+    pub one_chain : (expr : ℕ) (c d : Chain) → HasChain s entry_nodes expr c → HasChain s entry_nodes expr d → c ≡ d
     one_chain expr c d h k =
-        let same = stands_once h.at h.stands k.at k.stands (h.is_node ∙ sym k.is_node) in
-        h.is_chain ∙ (ap (λ (x : Place). within_own (form_of s (NodeId.Expr expr)) x.here) same ∙ sym k.is_chain)
+        let same = occurs_once h.at h.occurs k.at k.occurs (h.is_node ∙ sym k.is_node) in
+        h.is_chain ∙ (ap (λ (x : InContext). within_own (form_of s (NodeId.Expr expr)) x.scope) same ∙ sym k.is_chain)

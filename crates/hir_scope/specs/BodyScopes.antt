@@ -9,37 +9,37 @@ use Rattle.hir_faults.specs.Nodes.{Nodes}
 use Rattle.hir_expr_store.specs.Contents.{Contents}
 use Rattle.hir_items.specs.Bodies.{BodyContents, BodyReaches, body_nodes, formals_of, last_root}
 use Rattle.hir_items.specs.Signatures.{SignatureReaches, signature_nodes}
-use Rattle.hir_scope.specs.Chains.{Place, HasChain}
+use Rattle.hir_scope.specs.Chains.{InContext, HasChain}
 use Rattle.hir_scope.specs.Counts.{body_scope_count, body_entry_count, signature_scope_count, signature_entry_count}
 use Rattle.hir_scope.specs.{Paths.chain, Scopes.Scopes, Scopes.entry_count}
-use Rattle.hir_scope.specs.Tops.{body_tops, signature_tops}
+use Rattle.hir_scope.specs.EntryNodes.{body_entry_nodes, signature_entry_nodes}
 
--- what the nodes of a body are reached from, in their places
-abbrev pub tops_of_body : BodyContents → List Place
-tops_of_body b =
+-- the entry nodes of a body, in their contexts
+abbrev pub entry_nodes_of_body : BodyContents → List InContext
+entry_nodes_of_body b =
     let self_binding = option_map (λ p. p.formal) b.self_param in
-    body_tops b.store.nodes self_binding (formals_of b.params) (last_root b.store)
+    body_entry_nodes b.store.nodes self_binding (formals_of b.params) (last_root b.store)
 
--- and those of a signature
-abbrev pub tops_of_signature : Contents → List Place
-tops_of_signature c = signature_tops (root_nodes c.roots)
+-- the entry nodes of a signature, in their contexts
+abbrev pub entry_nodes_of_signature : Contents → List InContext
+entry_nodes_of_signature c = signature_entry_nodes (root_nodes c.roots)
 
 -- along the chain of each expression's scope are the lexical frames around the expression
-abbrev pub ChainsAreFrames : Nodes → List Place → Scopes → Type 0
-ChainsAreFrames s tops scopes =
+abbrev pub ChainsAreFrames : Nodes → List InContext → Scopes → Type 0
+ChainsAreFrames s entry_nodes scopes =
     (expr scope : ℕ) → map.get scopes.scope_by_expr expr ≡ Some scope
-    → HasChain s tops expr (chain scopes.scopes (Some scope))
+    → HasChain s entry_nodes expr (chain scopes.scopes (Some scope))
 
 pub record AreBodyScopes (b : BodyContents) (result : Scopes) : Type 0 where
   pub reached : (expr : ℕ) → IsSome (map.get result.scope_by_expr expr) ↔ BodyReaches b (NodeId.Expr expr)
-  pub chains : ChainsAreFrames b.store.nodes (tops_of_body b) result
+  pub chains : ChainsAreFrames b.store.nodes (entry_nodes_of_body b) result
   pub scopes : length result.scopes ≡ body_scope_count b.store.nodes (body_nodes b)
   pub entries : entry_count result.scopes ≡ body_entry_count b.store.nodes b.self_param (body_nodes b)
 
 pub record AreSignatureScopes (c : Contents) (result : Scopes) : Type 0 where
   pub reached : (expr : ℕ)
       → IsSome (map.get result.scope_by_expr expr) ↔ SignatureReaches c (NodeId.Expr expr)
-  pub chains : ChainsAreFrames c.nodes (tops_of_signature c) result
+  pub chains : ChainsAreFrames c.nodes (entry_nodes_of_signature c) result
   pub scopes : length result.scopes ≡ signature_scope_count c.nodes (length c.roots) (signature_nodes c)
   pub entries : entry_count result.scopes ≡ signature_entry_count c.nodes (signature_nodes c)
 

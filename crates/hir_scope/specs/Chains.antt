@@ -1,44 +1,44 @@
--- The chain of an expression: the lexical frames around it, innermost first, found by going down from some tops in their places.
+-- The chain of an expression: the lexical frames around it, innermost first, found by going down from entry nodes in their contexts.
 use Rattle.std.specs.Prelude.{◌≡◌, ℕ, List, ◌∷◌, ◌++◌, map, Contains}
 use Rattle.hir_node.specs.declared.node_id.NodeId.{NodeId}
 use Rattle.hir_faults.specs.Nodes.{Nodes}
-use Rattle.hir_scope.specs.{Forms.ScopingForm, Forms.form_of, Frames.Chain}
-use Rattle.hir_scope.specs.Forms as form
-use Rattle.hir_scope.specs.Slots.{Base, Here, Const, Slot, slots, own_frame}
+use Rattle.hir_scope.specs.{ScopingForms.ScopingForm, ScopingForms.form_of, Frames.Chain}
+use Rattle.hir_scope.specs.ScopingForms as form
+use Rattle.hir_scope.specs.ChildContexts.{Base, Scope, ConstScope, ChildContext, child_contexts, own_frame}
 
--- a node with the frames around it, and those around the constants in it
-pub record Place : Type 0 where
+-- a node in its context: the frames around it, and those around the constants in it
+pub record InContext : Type 0 where
   pub node : NodeId
-  pub here : Chain
-  pub constant : Chain
+  pub scope : Chain
+  pub const_scope : Chain
 
 abbrev pub on_base : Base → Chain → Chain → Chain
-on_base Here here constant = here
-on_base Const here constant = constant
+on_base Scope scope const_scope = scope
+on_base ConstScope scope const_scope = const_scope
 
--- a kid, by its slot, of a node with these chains
-abbrev pub place_kid : Chain → Chain → Slot → Place
-place_kid here constant slot =
-    let constants = slot.constants ++ constant in
-    record { node = slot.kid; here = slot.add ++ on_base slot.base here constants; constant = constants }
+-- a child in context, by its child context, of a node with these chains
+abbrev pub child_in_context : Chain → Chain → ChildContext → InContext
+child_in_context scope const_scope child_context =
+    let const_frames = child_context.const_frames ++ const_scope in
+    record { node = child_context.child; scope = child_context.frames ++ on_base child_context.base scope const_frames; const_scope = const_frames }
 
--- the places of a node's kids
-abbrev pub places_of_kids : Nodes → Place → List Place
-places_of_kids s at = map (place_kid at.here at.constant) (slots s at.node)
+-- the children of a node in their contexts
+abbrev pub children_in_context : Nodes → InContext → List InContext
+children_in_context s at = map (child_in_context at.scope at.const_scope) (child_contexts s at.node)
 
--- A node *stands* in a place: it is a top in its place, or a kid, in its slot, of a node that stands in its place.
-pub data Stands (s : Nodes) (tops : List Place) : Place → Type 0 where
-  top : {at : Place} → Contains tops at → Stands s tops at
-  kid : {parent at : Place} → Stands s tops parent → Contains (places_of_kids s parent) at → Stands s tops at
+-- A node *occurs* in a context: it is an entry node in its context, or a child, in its context, of a node that occurs in its own.
+pub data Occurs (s : Nodes) (entry_nodes : List InContext) : InContext → Type 0 where
+  entry_node : {at : InContext} → Contains entry_nodes at → Occurs s entry_nodes at
+  child : {parent at : InContext} → Occurs s entry_nodes parent → Contains (children_in_context s parent) at → Occurs s entry_nodes at
 
 -- a block is seen within its own frame
 abbrev pub within_own : ScopingForm → Chain → Chain
-within_own (form.Block id label statements tail) here = own_frame id label ∷ here
-within_own x here = here
+within_own (form.Block id label statements tail) scope = own_frame id label ∷ scope
+within_own x scope = scope
 
--- an expression has a chain: that of its place, with its own frame on it where it is a block
-pub record HasChain (s : Nodes) (tops : List Place) (expr : ℕ) (chain : Chain) : Type 0 where
-  pub at : Place
-  pub stands : Stands s tops at
+-- an expression has a chain: that of its context, with its own frame on it where it is a block
+pub record HasChain (s : Nodes) (entry_nodes : List InContext) (expr : ℕ) (chain : Chain) : Type 0 where
+  pub at : InContext
+  pub occurs : Occurs s entry_nodes at
   pub is_node : at.node ≡ NodeId.Expr expr
-  pub is_chain : chain ≡ within_own (form_of s (NodeId.Expr expr)) at.here
+  pub is_chain : chain ≡ within_own (form_of s (NodeId.Expr expr)) at.scope

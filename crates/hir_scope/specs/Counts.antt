@@ -5,12 +5,12 @@ use Rattle.hir_node.specs.declared.expr_types.{Item.Item, Statement.Statement}
 use Rattle.hir_node.specs.declared.node_id.NodeId.{NodeId}
 use Rattle.hir_faults.specs.Nodes.{Nodes}
 use Rattle.hir_expr_store.specs.PatLists.{bindings_at}
-use Rattle.hir_scope.specs.Forms.{ScopingForm, form_of}
-use Rattle.hir_scope.specs.Forms as form
+use Rattle.hir_scope.specs.ScopingForms.{ScopingForm, form_of}
+use Rattle.hir_scope.specs.ScopingForms as form
 
-abbrev pub count_if_there : {X : Type 0} → Option X → ℕ
-count_if_there None = 0
-count_if_there (Some x) = 1
+abbrev pub count_if_some : {X : Type 0} → Option X → ℕ
+count_if_some None = 0
+count_if_some (Some x) = 1
 
 -- a macro's definition opens a scope for what follows, and one for the constants in it
 abbrev pub item_scopes : Item → ℕ
@@ -24,7 +24,7 @@ statement_scopes (Statement.Item item) = item_scopes item
 
 -- the scopes that a node opens: a block one, with an id one more, and those of its statements; a match one for each arm
 abbrev pub form_scopes : ScopingForm → ℕ
-form_scopes (form.Block id label statements tail) = 1 + count_if_there id + sum_by statement_scopes statements
+form_scopes (form.Block id label statements tail) = 1 + count_if_some id + sum_by statement_scopes statements
 form_scopes (form.Match scrutinee arms) = length arms
 form_scopes (form.If condition then_branch else_branch) = 1
 form_scopes (form.Let pat expr) = 1
@@ -46,7 +46,7 @@ body_scope_count s reached = 1 + sum_by (λ n. form_scopes (form_of s n)) reache
 
 -- that of `self`, where there is one, and those of the nodes
 abbrev pub body_entry_count : {Self : Type 0} → Nodes → Option Self → List NodeId → ℕ
-body_entry_count s self_param reached = count_if_there self_param + sum_by (node_entries s) reached
+body_entry_count s self_param reached = count_if_some self_param + sum_by (node_entries s) reached
 
 -- over the nodes that a signature with this many roots reaches: the root scope, one for each root, and those that the nodes open
 abbrev pub signature_scope_count : Nodes → ℕ → List NodeId → ℕ

@@ -27,6 +27,6 @@ pub record IsFlat (entries : List ScopeEntry) (scopes : List ScopeData)
     (scope_by_expr : finmap.FinMap nat_cmp ℕ) : Type 0 where
   pub fill : FollowEachOther 0 scopes (length entries)
   pub parents : (i : ℕ) (range : ScopeData) → slice_get scopes i ≡ Some range → IsBelow i range.parent
-  pub there : (expr scope : ℕ) → finmap.get scope_by_expr expr ≡ Some scope → scope < length scopes
+  pub in_range : (expr scope : ℕ) → finmap.get scope_by_expr expr ≡ Some scope → scope < length scopes
   pub few_scopes : length scopes ≤ 4294967295
   pub few_entries : length entries ≤ 4294967295

@@ -1,12 +1,12 @@
 pub mod Frames
-pub mod Forms
-pub mod Leak
+pub mod ScopingForms
+pub mod OpenFrames
 pub mod Order
-pub mod Slots
+pub mod ChildContexts
 pub mod Chains
-pub mod Tops
+pub mod EntryNodes
 pub mod Resolution
-pub mod Meanings
+pub mod PathResolution
 pub mod Macros
 pub mod Counts
 pub mod Scopes

@@ -5,7 +5,7 @@ use Rattle.std.specs.Prelude.{ℕ, List, [], ◌∷◌, Option, Some, None, nat_
 use Rattle.std.specs.declared.hash.{BuildHasherDefault.BuildHasherDefault, FoldHasher.FoldHasher}
 use Rattle.hir_base.specs.{Hygiene.is_root, declared.hygiene.SyntaxContext.SyntaxContext}
 use Rattle.hir_base.specs.contracts.hygiene.HygieneIdPartialEq.TheImpl as hygienes
-use Rattle.hir_scope.specs.{Frames.Chain, Resolution.first_asked, Scopes.macro_def_of}
+use Rattle.hir_scope.specs.{Frames.Chain, Resolution.find_entry, Scopes.macro_def_of}
 use Rattle.hir_scope.specs.declared.{macros.Expansion.Expansion, scope.ScopeEntry.ScopeEntry}
 
 -- for hygienes the expansions that they come from
@@ -28,5 +28,5 @@ abbrev pub resolve_through : (SyntaxContext → Option Expansion) → Chain → 
     → Option ScopeEntry
 resolve_through from [] name hygiene = None
 resolve_through from (frame ∷ outer) name hygiene =
-    option_or (first_asked name hygiene frame.entries)
+    option_or (find_entry name hygiene frame.entries)
     (resolve_through from outer name (outward (macro_def_of frame.kind) (from hygiene) hygiene))

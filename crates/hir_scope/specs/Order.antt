@@ -3,8 +3,8 @@
 use Rattle.std.specs.{List.flat_map, Prelude.ℕ, Prelude.List, Prelude.[], Prelude.◌++◌, Prelude.Option}
 use Rattle.hir_node.specs.ChildCalls.{Call, e, p, t, opt}
 use Rattle.hir_node.specs.declared.expr_types.{MatchArm.MatchArm, Statement.Statement}
-use Rattle.hir_scope.specs.Forms.{ScopingForm}
-use Rattle.hir_scope.specs.Forms as form
+use Rattle.hir_scope.specs.ScopingForms.{ScopingForm}
+use Rattle.hir_scope.specs.ScopingForms as form
 
 abbrev pub met_in_statement : Statement → List Call
 met_in_statement (Statement.Let pat type_ref initializer else_branch) =

@@ -8,26 +8,26 @@ use Rattle.hir_scope.specs.Frames.{Frame, Chain}
 use Rattle.hir_scope.specs.{Paths.path, Paths.frame_at, Scopes.Scope, declared.scope.ScopeEntry.ScopeEntry}
 
 -- the entry has this name and this hygiene
-abbrev pub is_asked : List ℕ → SyntaxContext → ScopeEntry → Bool
-is_asked name hygiene entry = hygienes.ghosts.eq entry.hygiene hygiene && names.ghosts.eq entry.name name
+abbrev pub matches : List ℕ → SyntaxContext → ScopeEntry → Bool
+matches name hygiene entry = hygienes.ghosts.eq entry.hygiene hygiene && names.ghosts.eq entry.name name
 
-abbrev pub first_asked : List ℕ → SyntaxContext → List ScopeEntry → Option ScopeEntry
-first_asked name hygiene [] = None
-first_asked name hygiene (entry ∷ entries) =
-    if is_asked name hygiene entry then Some entry else first_asked name hygiene entries
+abbrev pub find_entry : List ℕ → SyntaxContext → List ScopeEntry → Option ScopeEntry
+find_entry name hygiene [] = None
+find_entry name hygiene (entry ∷ entries) =
+    if matches name hygiene entry then Some entry else find_entry name hygiene entries
 
 -- the entries of a chain, one after the other
 abbrev pub entries_of : Chain → List ScopeEntry
 entries_of chain = flat_map (λ (f : Frame). f.entries) chain
 
 abbrev pub resolve : Chain → List ℕ → SyntaxContext → Option ScopeEntry
-resolve chain name hygiene = first_asked name hygiene (entries_of chain)
+resolve chain name hygiene = find_entry name hygiene (entries_of chain)
 
 -- An entry is found in a scope on the way outward from another: it is the first of that scope with the name and the hygiene, and the
 -- scopes before that one have none.
 pub record IsFound (scopes : List Scope) (from : ℕ) (name : List ℕ) (hygiene : SyntaxContext)
     (scope : ℕ) (entry : ScopeEntry) : Type 0 where
-  pub there : scope < length scopes
+  pub in_range : scope < length scopes
   pub before : List ℕ
   pub on_the_way : path scopes (Some from) ≡ before ++ path scopes (Some scope)
   pub none_before : resolve (flat_map (frame_at scopes) before) name hygiene ≡ None

@@ -27,8 +27,8 @@ IsBelow n None = ⊤
 IsBelow n (Some scope) = scope < n
 
 -- the scope, if any, is there
-abbrev pub IsIn : List Scope → Option ℕ → Type 0
-IsIn scopes scope = IsBelow (length scopes) scope
+abbrev pub ScopeIsInRange : List Scope → Option ℕ → Type 0
+ScopeIsInRange scopes scope = IsBelow (length scopes) scope
 
 -- each scope's parent, if any, comes before it
 abbrev pub ParentsStandEarlier : List Scope → Type 0

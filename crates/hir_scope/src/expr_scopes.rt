@@ -61,7 +61,7 @@ impl Model for ExprScopes {
 const LIMIT: usize = 4_294_967_295;
 
 impl ExprScopes {
-    ghost use Rattle.hir_scope.specs.Scopes.{Scope, entry_count, block_of, label_of, macro_def_of, IsBelow, IsIn, ParentsStandEarlier};
+    ghost use Rattle.hir_scope.specs.Scopes.{Scope, entry_count, block_of, label_of, macro_def_of, IsBelow, ScopeIsInRange, ParentsStandEarlier};
     ghost use Rattle.hir_scope.specs.Paths.{path};
     ghost use Rattle.std.specs.List.{All, range_with_len};
 
@@ -160,7 +160,7 @@ impl ExprScopes {
     pub fn parent(&self, scope: ScopeId) -> Option<ScopeId>
         requires { scope < length self.now.scopes }
         ensures is { option_map (λ s. s.parent) (slice_get self.now.scopes scope) ≡ Some result }
-        ensures there { IsIn self.now.scopes result }
+        ensures in_range { ScopeIsInRange self.now.scopes result }
         ensures earlier { IsBelow scope result }
         ensures parents { ParentsStandEarlier self.now.scopes }
     {
@@ -171,7 +171,7 @@ impl ExprScopes {
     /// nothing.
     pub fn parents_stand_earlier(&self)
         ensures parents { ParentsStandEarlier self.now.scopes }
-        ensures there { (expr scope : ℕ) → map.get self.now.scope_by_expr expr ≡ Some scope
+        ensures in_range { (expr scope : ℕ) → map.get self.now.scope_by_expr expr ≡ Some scope
             → scope < length self.now.scopes }
     {
         let _ = &self.scopes;
@@ -180,7 +180,7 @@ impl ExprScopes {
     /// The scope of an expression, where it has one.
     pub fn scope_for(&self, expr: ExprId) -> Option<ScopeId>
         ensures scope { result ≡ map.get self.now.scope_by_expr expr }
-        ensures there { IsIn self.now.scopes result }
+        ensures in_range { ScopeIsInRange self.now.scopes result }
     {
         match self.scope_by_expr.get(expr) {
             Some(scope) => Some(*scope),
@@ -205,7 +205,7 @@ impl ExprScopes {
         kind: ScopeKind,
         entries: &mut Vec<ScopeEntry>,
     ) -> Result<ScopeId, ScopesFault>
-        requires { IsIn self.old.scopes parent }
+        requires { ScopeIsInRange self.old.scopes parent }
         ensures id { IfOk result (λ id. id ≡ length self.old.scopes) }
         ensures ok { OnOk result (self.new ≡ record {
           scopes = self.old.scopes ++ record {
@@ -261,7 +261,7 @@ impl ExprScopes {
     /// The scopes, in the order in which they were made.
     pub fn scopes(&self) -> ScopeIds
         ensures all { result ≡ range_with_len 0 (length self.now.scopes) }
-        ensures there { All (λ scope. scope < length self.now.scopes) result }
+        ensures in_range { All (λ scope. scope < length self.now.scopes) result }
     {
         ScopeIds {
             next: 0,
@@ -271,9 +271,9 @@ impl ExprScopes {
 
     /// A scope and those around it, innermost first; no scope for `None`. The scope has to be there: `has_scope` tests it.
     pub fn scope_chain(&self, scope: Option<ScopeId>) -> ScopeChain<'_>
-        requires { IsIn self.now.scopes scope }
+        requires { ScopeIsInRange self.now.scopes scope }
         ensures is { result ≡ path self.now.scopes scope }
-        ensures there { All (λ around. around < length self.now.scopes) result }
+        ensures in_range { All (λ current. current < length self.now.scopes) result }
     {
         self.parents_stand_earlier();
         a_chain_goes_outward();

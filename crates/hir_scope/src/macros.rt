@@ -5,7 +5,7 @@ ghost use Rattle.hir_base.specs.Exact.{exact};
 ghost use Rattle.hir_scope.specs.Macros.{expansion_of, outward};
 
 use crate::expr_scopes::ExprScopes;
-use crate::resolve::first_asked;
+use crate::resolve::find_entry;
 use crate::scope::{ScopeEntry, ScopeId};
 use hir_base::{ExactEq, HygieneId, MacroDefId, TryClone};
 use std::collections::HashMap;
@@ -81,7 +81,7 @@ impl ExprScopes {
         let mut hygiene = hygiene;
         while let Some(inner) = current {
             let outer = self.parent(inner);
-            if let Some(entry) = first_asked(self.entries(inner), name, hygiene) {
+            if let Some(entry) = find_entry(self.entries(inner), name, hygiene) {
                 return Some(entry);
             }
             hygiene = outward(self.macro_def(inner), hygiene, expansions);

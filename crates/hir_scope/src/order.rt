@@ -5,7 +5,7 @@ ghost use Rattle.std.specs.Prelude.{List};
 ghost use Rattle.std.specs.List.{flat_map};
 ghost use Rattle.hir_node.specs.ChildCalls.{Call};
 ghost use Rattle.hir_node.specs.Runs.{Runs, MayRun};
-ghost use Rattle.hir_scope.specs.Forms.{expr_form};
+ghost use Rattle.hir_scope.specs.ScopingForms.{expr_form};
 ghost use Rattle.hir_scope.specs.Order.{met_in_form};
 
 use hir_node::{Expr, MatchArm, Statement, StoreVisitor, StoreVisitorExt, TypeRefId};

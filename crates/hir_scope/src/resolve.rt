@@ -2,8 +2,8 @@
 ghost use Rattle.std.specs.Prelude.{◌≡◌, ◌<◌, length, option_map, IfSome, None, Some};
 ghost use Rattle.std.specs.Option.{option_copied};
 ghost use Rattle.hir_scope.specs.Paths.{chain};
-ghost use Rattle.hir_scope.specs.Resolution.{IsFound, first_asked, resolve};
-ghost use Rattle.hir_scope.specs.Meanings.{asked_name, binding_at, meaning, target_binding_at};
+ghost use Rattle.hir_scope.specs.Resolution.{IsFound, find_entry, resolve};
+ghost use Rattle.hir_scope.specs.PathResolution.{local_name, binding_at, resolve_path, target_binding_at};
 
 use crate::expr_scopes::ExprScopes;
 use crate::scope::{ScopeEntry, ScopeId};
@@ -12,8 +12,8 @@ use hir_expr_store::ExpressionStore;
 use hir_node::{BindingId, Expr, ExprId, Pat, PatId, Path};
 
 /// The name by which a path may mean a local variable: that of a path of one name without arguments, and `self` for the path `self`.
-pub fn asked_name(path: &Path) -> Option<&str>
-    ensures { option_map (λ name. name.now) result ≡ asked_name path.now }
+pub fn local_name(path: &Path) -> Option<&str>
+    ensures { option_map (λ name. name.now) result ≡ local_name path.now }
 {
     let Path::BarePath(path) = path else {
         return None;
@@ -28,12 +28,12 @@ pub fn asked_name(path: &Path) -> Option<&str>
 
 /// The first of these entries with this name and this hygiene.
 // The hygiene first: it is compared in less time.
-pub(crate) fn first_asked<'a>(
+pub(crate) fn find_entry<'a>(
     entries: &'a [ScopeEntry],
     name: &str,
     hygiene: HygieneId,
 ) -> Option<&'a ScopeEntry>
-    ensures { option_copied result ≡ first_asked name.now hygiene entries.now }
+    ensures { option_copied result ≡ find_entry name.now hygiene entries.now }
 {
     for entry in entries {
         if entry.hygiene() == hygiene && entry.name().as_str() == name {
@@ -62,7 +62,7 @@ impl ExprScopes {
         let mut current = Some(scope);
         while let Some(inner) = current {
             let outer = self.parent(inner);
-            if let Some(entry) = first_asked(self.entries(inner), name, hygiene) {
+            if let Some(entry) = find_entry(self.entries(inner), name, hygiene) {
                 return Some((inner, entry));
             }
             current = outer;
@@ -97,17 +97,17 @@ impl ExprScopes {
     }
 
     /// The binding of the store that a path of this hygiene means at an expression.
-    fn meaning_of(
+    fn resolve_path(
         &self,
         store: &ExpressionStore,
         at: ExprId,
         path: &Path,
         hygiene: HygieneId,
     ) -> Option<BindingId>
-        ensures is { result ≡ meaning store.now self.now at hygiene (asked_name path.now) }
-        ensures there { IfSome result (λ id. id < length store.now.nodes.bindings) }
+        ensures is { result ≡ resolve_path store.now self.now at hygiene (local_name path.now) }
+        ensures in_range { IfSome result (λ id. id < length store.now.nodes.bindings) }
     {
-        let name = asked_name(path)?;
+        let name = local_name(path)?;
         let scope = self.scope_for(at)?;
         let binding = self.entry_in_scope(scope, name, hygiene)?.binding();
         store.has_binding(binding).then_some(binding)
@@ -117,7 +117,7 @@ impl ExprScopes {
     /// a binding of the store. In the scopes of the store's own body, or of its signature, each entry's binding is one of the store.
     pub fn binding_at(&self, store: &ExpressionStore, expr: ExprId) -> Option<BindingId>
         ensures is { result ≡ binding_at store.now self.now expr }
-        ensures there { IfSome result (λ id. id < length store.now.nodes.bindings) }
+        ensures in_range { IfSome result (λ id. id < length store.now.nodes.bindings) }
     {
         if !store.has_expr(expr) {
             return None;
@@ -125,7 +125,7 @@ impl ExprScopes {
         let Expr::Path(path) = &store[expr] else {
             return None;
         };
-        self.meaning_of(store, expr, path, store.expr_path_hygiene(expr))
+        self.resolve_path(store, expr, path, store.expr_path_hygiene(expr))
     }
 
     /// The binding that a pattern in the target of an assignment means, as `binding_at` answers for an expression. It is looked up where
@@ -137,7 +137,7 @@ impl ExprScopes {
         pat: PatId,
     ) -> Option<BindingId>
         ensures is { result ≡ target_binding_at store.now self.now assignment pat }
-        ensures there { IfSome result (λ id. id < length store.now.nodes.bindings) }
+        ensures in_range { IfSome result (λ id. id < length store.now.nodes.bindings) }
     {
         if !store.has_pat(pat) {
             return None;
@@ -145,6 +145,6 @@ impl ExprScopes {
         let Pat::Path(path) = &store[pat] else {
             return None;
         };
-        self.meaning_of(store, assignment, path, store.pat_path_hygiene(pat))
+        self.resolve_path(store, assignment, path, store.pat_path_hygiene(pat))
     }
 }

@@ -15,14 +15,14 @@ pub struct ScopeChain<'a> {
 
 impl<'a> Model for ScopeChain<'a> {
     ghost use Rattle.std.specs.Prelude.{List, ℕ};
-    ghost use Rattle.hir_scope.specs.Scopes.{IsIn};
+    ghost use Rattle.hir_scope.specs.Scopes.{ScopeIsInRange};
     ghost use Rattle.hir_scope.specs.Paths.{path};
 
     ghost Value = { List ℕ };
 
     ghost view = { λ it. path it.scopes.now.scopes it.next };
 
-    ghost invariant = { λ it. IsIn it.scopes.now.scopes it.next };
+    ghost invariant = { λ it. ScopeIsInRange it.scopes.now.scopes it.next };
 }
 
 impl<'a> Iterator for ScopeChain<'a> {

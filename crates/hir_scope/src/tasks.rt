@@ -1,13 +1,13 @@
 //! What a walk has still to do: tasks, and those that a node brings.
-#![tactic(auto, using(crate::proofs::PutLemmas::puts))]
+#![tactic(auto, using(crate::proofs::DeferLemmas::defers))]
 
 ghost use Rattle.std.specs.Prelude.{◌≡◌, List, [], ◌∷◌, ◌++◌, false, Err, None, OnErr, OnOk, IfSome};
 ghost use Rattle.std.specs.List.{flat_map};
 ghost use Rattle.hir_node.specs.ChildCalls.{e, opt, pat_calls};
 ghost use Rattle.hir_node.specs.Runs.{Runs};
 ghost use Rattle.hir_scope.specs.declared.tasks.Task.{Task};
-ghost use Rattle.hir_scope.specs.Forms.{expr_form, type_form};
-ghost use Rattle.hir_scope.specs.walk.Pending.{PutsTask, task_of, tasks_of, form_tasks, leave};
+ghost use Rattle.hir_scope.specs.ScopingForms.{expr_form, type_form};
+ghost use Rattle.hir_scope.specs.walk.Pending.{DefersTask, task_of, tasks_of, form_tasks, leave};
 
 use crate::fault::ScopesFault;
 use crate::order::visit_in_scope_order;
@@ -19,11 +19,11 @@ use hir_node::{
 };
 use hir_stack::Stack;
 
-/// The scope around what is met next, and that around the constants in it.
+/// The current scopes: that of what is entered next, and that of the constants in it.
 #[derive(Clone, Copy)]
-pub(crate) struct Around {
-    pub(crate) here: ScopeId,
-    pub(crate) constant: ScopeId,
+pub(crate) struct CurrentScopes {
+    pub(crate) scope: ScopeId,
+    pub(crate) const_scope: ScopeId,
 }
 
 /// What a walk has still to do.
@@ -58,22 +58,22 @@ pub(crate) struct Tasks {
 
 /// Each child of a node becomes a task.
 impl StoreVisitor for Tasks {
-    ghost step = { λ v c w. Runs PutsTask v.stack (task_of c) w.stack };
+    ghost step = { λ v c w. Runs DefersTask v.stack (task_of c) w.stack };
 
     fn on_expr(&mut self, expr: ExprId) {
-        self.stack.put(Task::Expr(expr));
+        self.stack.defer(Task::Expr(expr));
     }
 
     fn on_anon_const_expr(&mut self, expr: ExprId) {
-        self.stack.put(Task::Constant(expr));
+        self.stack.defer(Task::Constant(expr));
     }
 
     fn on_pat(&mut self, pat: PatId) {
-        self.stack.put(Task::Pat(pat));
+        self.stack.defer(Task::Pat(pat));
     }
 
     fn on_type(&mut self, type_ref: TypeRefId) {
-        self.stack.put(Task::TypeRef(type_ref));
+        self.stack.defer(Task::TypeRef(type_ref));
     }
 
     fn on_lifetime(&mut self, _lifetime: LifetimeRefId) {}
@@ -84,16 +84,16 @@ trait Brings {
     // its tasks, in order
     ghost tasks: { Self → List Task };
 
-    fn put(&self, onto: &mut Tasks)
-        ensures { Runs PutsTask onto.old.stack (tasks self.now) onto.new.stack };
+    fn defer(&self, onto: &mut Tasks)
+        ensures { Runs DefersTask onto.old.stack (tasks self.now) onto.new.stack };
 }
 
 /// Puts the tasks of each item, in order.
-fn put_each<T: Brings>(onto: &mut Tasks, items: &[T])
-    ensures { Runs PutsTask onto.old.stack (flat_map T.tasks items.now) onto.new.stack }
+fn defer_each<T: Brings>(onto: &mut Tasks, items: &[T])
+    ensures { Runs DefersTask onto.old.stack (flat_map T.tasks items.now) onto.new.stack }
 {
     for item in items {
-        item.put(onto);
+        item.defer(onto);
     }
 }
 
@@ -103,7 +103,7 @@ impl Brings for Statement {
 
     ghost tasks = { statement_tasks };
 
-    fn put(&self, onto: &mut Tasks) {
+    fn defer(&self, onto: &mut Tasks) {
         match self {
             Statement::Let {
                 pat,
@@ -114,10 +114,10 @@ impl Brings for Statement {
                 onto.on_type_opt(*type_ref);
                 onto.on_expr_opt(*initializer);
                 onto.on_expr_opt(*else_branch);
-                onto.stack.put(Task::Bound(*pat));
+                onto.stack.defer(Task::Bound(*pat));
             }
             Statement::Expr { expr, .. } => onto.on_expr(*expr),
-            Statement::Item(Item::MacroDef(id)) => onto.stack.put(Task::MacroDef(*id)),
+            Statement::Item(Item::MacroDef(id)) => onto.stack.defer(Task::MacroDef(*id)),
             Statement::Item(Item::Other) => {}
         }
     }
@@ -128,10 +128,10 @@ impl Brings for MatchArm {
 
     ghost tasks = { one_arm };
 
-    fn put(&self, onto: &mut Tasks) {
+    fn defer(&self, onto: &mut Tasks) {
         match self.guard {
-            None => onto.stack.put(Task::Arm(self.pat, self.expr)),
-            Some(guard) => onto.stack.put(Task::GuardedArm(self.pat, guard, self.expr)),
+            None => onto.stack.defer(Task::Arm(self.pat, self.expr)),
+            Some(guard) => onto.stack.defer(Task::GuardedArm(self.pat, guard, self.expr)),
         }
     }
 }
@@ -158,16 +158,16 @@ impl Tasks {
     }
 
     /// Puts a task that restores these scopes.
-    fn put_leave(&mut self, around: Around)
-        ensures { Runs PutsTask self.old.stack (leave around ∷ []) self.new.stack }
+    fn defer_leave(&mut self, current: CurrentScopes)
+        ensures { Runs DefersTask self.old.stack (leave current ∷ []) self.new.stack }
     {
-        self.stack.put(Task::Leave(around.here, around.constant));
+        self.stack.defer(Task::Leave(current.scope, current.const_scope));
     }
 
-    /// Puts the tasks of what is inside an expression. Leaving the expression restores `around`.
+    /// Puts the tasks of what is inside an expression. Leaving the expression restores `current`.
     // One arm a form: split, the function would name variants twice.
-    fn put_in_expr(&mut self, expr: &Expr, around: Around)
-        ensures { Runs PutsTask self.old.stack (form_tasks around (expr_form expr.now)) self.new.stack }
+    fn defer_in_expr(&mut self, expr: &Expr, current: CurrentScopes)
+        ensures { Runs DefersTask self.old.stack (form_tasks current (expr_form expr.now)) self.new.stack }
     {
         match expr {
             Expr::If {
@@ -177,37 +177,37 @@ impl Tasks {
             } => {
                 self.on_expr(*condition);
                 self.on_expr(*then_branch);
-                self.put_leave(around);
+                self.defer_leave(current);
                 self.on_expr_opt(*else_branch);
             }
             Expr::Let { pat, expr } => {
                 self.on_expr(*expr);
-                self.stack.put(Task::Bound(*pat));
+                self.stack.defer(Task::Bound(*pat));
             }
             Expr::Block {
                 statements,
                 tail,
                 ..
             } => {
-                put_each(self, statements.as_slice());
+                defer_each(self, statements.as_slice());
                 self.on_expr_opt(*tail);
-                self.put_leave(around);
+                self.defer_leave(current);
             }
             Expr::Loop { body, .. } => {
                 self.on_expr(*body);
-                self.put_leave(around);
+                self.defer_leave(current);
             }
             Expr::Closure { .. } => {
                 visit_in_scope_order(expr, self);
-                self.put_leave(around);
+                self.defer_leave(current);
             }
             Expr::Match { expr, arms } => {
                 self.on_expr(*expr);
-                put_each(self, arms.as_slice());
+                defer_each(self, arms.as_slice());
             }
             Expr::Assignment { target, value } => {
                 self.on_pat(*target);
-                self.put_leave(around);
+                self.defer_leave(current);
                 self.on_expr(*value);
             }
             Expr::Missing
@@ -238,15 +238,15 @@ impl Tasks {
         }
     }
 
-    /// Puts the tasks of what is inside a type. Leaving the type restores `around`.
-    fn put_in_type(&mut self, type_ref: &TypeRef, around: Around)
-        ensures { Runs PutsTask self.old.stack (form_tasks around (type_form type_ref.now)) self.new.stack }
+    /// Puts the tasks of what is inside a type. Leaving the type restores `current`.
+    fn defer_in_type(&mut self, type_ref: &TypeRef, current: CurrentScopes)
+        ensures { Runs DefersTask self.old.stack (form_tasks current (type_form type_ref.now)) self.new.stack }
     {
         match type_ref {
             TypeRef::PatternType(inner, pat) => {
                 self.on_type(*inner);
-                self.stack.put(Task::Bound(*pat));
-                self.put_leave(around);
+                self.stack.defer(Task::Bound(*pat));
+                self.defer_leave(current);
             }
             TypeRef::Never
             | TypeRef::Placeholder
@@ -265,14 +265,14 @@ impl Tasks {
     }
 
     /// Pushes the tasks of what is inside an expression, the first on top.
-    pub(crate) fn push_in_expr(&mut self, expr: &Expr, around: Around) -> Result<(), ScopesFault>
+    pub(crate) fn push_in_expr(&mut self, expr: &Expr, current: CurrentScopes) -> Result<(), ScopesFault>
         ensures ok { OnOk result (self.new.stack.items
-            ≡ form_tasks around (expr_form expr.now) ++ self.old.stack.items) }
+            ≡ form_tasks current (expr_form expr.now) ++ self.old.stack.items) }
         ensures memory { OnErr result (result ≡ Err ScopesFault.Memory) }
     {
         let below = self.stack.len();
-        self.put_in_expr(expr, around);
-        self.stack.turn_over(below)?;
+        self.defer_in_expr(expr, current);
+        self.stack.push_deferred(below)?;
         Ok(())
     }
 
@@ -284,7 +284,7 @@ impl Tasks {
     {
         let below = self.stack.len();
         pat.visit_children(self);
-        self.stack.turn_over(below)?;
+        self.stack.push_deferred(below)?;
         Ok(())
     }
 
@@ -292,15 +292,15 @@ impl Tasks {
     pub(crate) fn push_in_type(
         &mut self,
         type_ref: &TypeRef,
-        around: Around,
+        current: CurrentScopes,
     ) -> Result<(), ScopesFault>
         ensures ok { OnOk result (self.new.stack.items
-            ≡ form_tasks around (type_form type_ref.now) ++ self.old.stack.items) }
+            ≡ form_tasks current (type_form type_ref.now) ++ self.old.stack.items) }
         ensures memory { OnErr result (result ≡ Err ScopesFault.Memory) }
     {
         let below = self.stack.len();
-        self.put_in_type(type_ref, around);
-        self.stack.turn_over(below)?;
+        self.defer_in_type(type_ref, current);
+        self.stack.push_deferred(below)?;
         Ok(())
     }
 }

@@ -1,24 +1,24 @@
 //! The walk that gives each expression its scope: one loop over what is still to do.
 ghost use Rattle.std.specs.Prelude.{◌≡◌, ◌≤◌, ◌+◌, [], length, Err, IfOk, IsTrue, OnErr};
 ghost use Rattle.hir_faults.specs.Nodes.{Nodes};
-ghost use Rattle.hir_scope.specs.Forms.{InTurn, expr_form};
+ghost use Rattle.hir_scope.specs.ScopingForms.{InTurn, expr_form};
 ghost use Rattle.hir_scope.specs.walk.Pending.{guarded_task};
-ghost use Rattle.hir_scope.specs.walk.Machine.{doing, machine, state, future_of, scope_within, IsReady, Exceeds, Meets, Moves, Goes, Progress};
+ghost use Rattle.hir_scope.specs.walk.WalkState.{with_next, walk_state, state, future_of, scope_within, IsReady, Exceeds, EntersExpr, Step, CountedStep, WalkSteps};
 
 use crate::expr_scopes::ExprScopes;
 use crate::fault::ScopesFault;
 use crate::scope::{ScopeEntry, ScopeId, ScopeKind};
-use crate::tasks::{Around, Task, Tasks};
+use crate::tasks::{CurrentScopes, Task, Tasks};
 use hir_base::Steps;
 use hir_expr_store::ExpressionStore;
-use hir_expr_store::laws::kids_fall;
+use hir_expr_store::laws::rank_decreases;
 use hir_node::{Expr, ExprId, PatId, Path, TypeRefId};
 
 /// A walk: the scopes so far, those around what is met next, and what is still to do.
 #[derive(Drop)]
 pub(crate) struct Walk {
     pub(crate) scopes: ExprScopes,
-    pub(crate) around: Around,
+    pub(crate) current: CurrentScopes,
     pub(crate) tasks: Tasks,
     /// The entries of what patterns bind, until a scope takes them.
     pub(crate) entries: Vec<ScopeEntry>,
@@ -46,75 +46,75 @@ fn scope_within(expr: &Expr, inside: ScopeId, outside: ScopeId) -> ScopeId
 }
 
 impl Walk {
-    /// Meets an expression, and answers its scope: what is inside it comes next.
-    fn meet_expr(&mut self, store: &ExpressionStore, expr: ExprId) -> Result<ScopeId, ScopesFault>
-        requires ready { IsReady store.now.nodes (doing self.old (Task.Expr expr)) }
-        ensures meets { IfOk result (Meets store.now.nodes self.old expr self.new) }
+    /// Enters an expression, and returns its scope: what is inside it comes next.
+    fn enter_expr(&mut self, store: &ExpressionStore, expr: ExprId) -> Result<ScopeId, ScopesFault>
+        requires ready { IsReady store.now.nodes (with_next self.old (Task.Expr expr)) }
+        ensures meets { IfOk result (EntersExpr store.now.nodes self.old expr self.new) }
         ensures full { result ≡ Err ScopesFault.Full
-            → Exceeds store.now.nodes (doing self.old (Task.Expr expr)) }
+            → Exceeds store.now.nodes (with_next self.old (Task.Expr expr)) }
         ensures missing { result ≡ Err ScopesFault.Missing → ⊥ }
     {
         store.has_no_fault();
-        kids_fall();
-        let outside = self.around.here;
+        rank_decreases();
+        let outside = self.current.scope;
         let inner = &store[expr];
         if is_alone(inner) {
             return Ok(outside);
         }
-        self.tasks.push_in_expr(inner, self.around)?;
+        self.tasks.push_in_expr(inner, self.current)?;
         self.open_inside(store, expr)?;
-        Ok(scope_within(inner, self.around.here, outside))
+        Ok(scope_within(inner, self.current.scope, outside))
     }
 
-    /// Meets an anonymous constant.
-    fn meet_constant(&mut self, expr: ExprId) -> Result<(), ScopesFault>
-        ensures moves { IfOk result (λ _. (s : Nodes) → IsReady s (doing self.old (Task.Constant expr))
-            → Moves s (doing self.old (Task.Constant expr)) (state self.new) []) }
+    /// Enters an anonymous constant.
+    fn enter_const(&mut self, expr: ExprId) -> Result<(), ScopesFault>
+        ensures moves { IfOk result (λ _. (s : Nodes) → IsReady s (with_next self.old (Task.Constant expr))
+            → Step s (with_next self.old (Task.Constant expr)) (state self.new) []) }
         ensures memory { OnErr result (result ≡ Err ScopesFault.Memory) }
     {
-        let before = self.around;
-        self.tasks.push(Task::Leave(before.here, before.constant))?;
+        let before = self.current;
+        self.tasks.push(Task::Leave(before.scope, before.const_scope))?;
         self.tasks.push(Task::Expr(expr))?;
-        self.around.here = before.constant;
+        self.current.scope = before.const_scope;
         Ok(())
     }
 
-    /// Meets a pattern.
-    fn meet_pat(&mut self, store: &ExpressionStore, pat: PatId) -> Result<(), ScopesFault>
-        requires ready { IsReady store.now.nodes (doing self.old (Task.Pat pat)) }
-        ensures moves { IfOk result (λ _. Moves store.now.nodes
-            (doing self.old (Task.Pat pat)) (state self.new) []) }
+    /// Enters a pattern.
+    fn enter_pat(&mut self, store: &ExpressionStore, pat: PatId) -> Result<(), ScopesFault>
+        requires ready { IsReady store.now.nodes (with_next self.old (Task.Pat pat)) }
+        ensures moves { IfOk result (λ _. Step store.now.nodes
+            (with_next self.old (Task.Pat pat)) (state self.new) []) }
         ensures memory { OnErr result (result ≡ Err ScopesFault.Memory) }
     {
         store.has_no_fault();
-        kids_fall();
+        rank_decreases();
         self.tasks.push_in_pat(&store[pat])?;
         Ok(())
     }
 
-    /// Meets a type, in the scope of constants.
-    fn meet_type(&mut self, store: &ExpressionStore, type_ref: TypeRefId) -> Result<(), ScopesFault>
-        requires ready { IsReady store.now.nodes (doing self.old (Task.TypeRef type_ref)) }
-        ensures moves { IfOk result (λ _. Moves store.now.nodes
-            (doing self.old (Task.TypeRef type_ref)) (state self.new) []) }
+    /// Enters a type, in the scope of constants.
+    fn enter_type(&mut self, store: &ExpressionStore, type_ref: TypeRefId) -> Result<(), ScopesFault>
+        requires ready { IsReady store.now.nodes (with_next self.old (Task.TypeRef type_ref)) }
+        ensures moves { IfOk result (λ _. Step store.now.nodes
+            (with_next self.old (Task.TypeRef type_ref)) (state self.new) []) }
         ensures memory { OnErr result (result ≡ Err ScopesFault.Memory) }
     {
         store.has_no_fault();
-        kids_fall();
-        let Around { here, constant } = self.around;
-        self.tasks.push(Task::Leave(here, constant))?;
-        self.around.here = constant;
-        self.tasks.push_in_type(&store[type_ref], self.around)?;
+        rank_decreases();
+        let CurrentScopes { scope, const_scope } = self.current;
+        self.tasks.push(Task::Leave(scope, const_scope))?;
+        self.current.scope = const_scope;
+        self.tasks.push_in_type(&store[type_ref], self.current)?;
         Ok(())
     }
 
-    /// Meets a pattern in a scope of its own, which stays.
+    /// Enters a pattern in a scope of its own, which stays.
     fn bind(&mut self, store: &ExpressionStore, bound: PatId) -> Result<(), ScopesFault>
-        requires ready { IsReady store.now.nodes (doing self.old (Task.Bound bound)) }
-        ensures moves { IfOk result (λ _. Moves store.now.nodes
-            (doing self.old (Task.Bound bound)) (state self.new) []) }
+        requires ready { IsReady store.now.nodes (with_next self.old (Task.Bound bound)) }
+        ensures moves { IfOk result (λ _. Step store.now.nodes
+            (with_next self.old (Task.Bound bound)) (state self.new) []) }
         ensures full { result ≡ Err ScopesFault.Full
-            → Exceeds store.now.nodes (doing self.old (Task.Bound bound)) }
+            → Exceeds store.now.nodes (with_next self.old (Task.Bound bound)) }
         ensures missing { result ≡ Err ScopesFault.Missing → ⊥ }
     {
         self.tasks.push(Task::Pat(bound))?;
@@ -122,25 +122,25 @@ impl Walk {
         Ok(())
     }
 
-    /// Meets an arm in a scope of its own, which ends with it.
-    fn meet_arm(
+    /// Enters an arm in a scope of its own, which ends with it.
+    fn enter_arm(
         &mut self,
         store: &ExpressionStore,
         pat: PatId,
         guard: Option<ExprId>,
         expr: ExprId,
     ) -> Result<(), ScopesFault>
-        requires ready { IsReady store.now.nodes (doing self.old (guarded_task pat expr guard)) }
-        ensures moves { IfOk result (λ _. Moves store.now.nodes
-            (doing self.old (guarded_task pat expr guard)) (state self.new) []) }
+        requires ready { IsReady store.now.nodes (with_next self.old (guarded_task pat expr guard)) }
+        ensures moves { IfOk result (λ _. Step store.now.nodes
+            (with_next self.old (guarded_task pat expr guard)) (state self.new) []) }
         ensures full { result ≡ Err ScopesFault.Full → Exceeds store.now.nodes
-            (doing self.old (guarded_task pat expr guard)) }
+            (with_next self.old (guarded_task pat expr guard)) }
         ensures missing { result ≡ Err ScopesFault.Missing → ⊥ }
     {
         store.has_no_fault();
-        kids_fall();
-        let before = self.around;
-        self.tasks.push(Task::Leave(before.here, before.constant))?;
+        rank_decreases();
+        let before = self.current;
+        self.tasks.push(Task::Leave(before.scope, before.const_scope))?;
         self.tasks.push(Task::Expr(expr))?;
         self.tasks.push_expr_opt(guard)?;
         self.tasks.push(Task::Pat(pat))?;
@@ -149,37 +149,37 @@ impl Walk {
     }
 
     /// Does one task.
-    fn go_on(
+    fn step(
         &mut self,
         store: &ExpressionStore,
         task: Task,
         steps: &mut Steps,
     ) -> Result<(), ScopesFault>
-        requires ready { IsReady store.now.nodes (doing self.old task) }
-        ensures goes { IfOk result (λ _. Goes store.now.nodes
-            (doing self.old task) (state self.new) steps.old steps.new) }
+        requires ready { IsReady store.now.nodes (with_next self.old task) }
+        ensures goes { IfOk result (λ _. CountedStep store.now.nodes
+            (with_next self.old task) (state self.new) steps.old steps.new) }
         ensures not_counted { OnErr result (steps.new ≡ steps.old) }
-        ensures full { result ≡ Err ScopesFault.Full → Exceeds store.now.nodes (doing self.old task) }
+        ensures full { result ≡ Err ScopesFault.Full → Exceeds store.now.nodes (with_next self.old task) }
         ensures missing { result ≡ Err ScopesFault.Missing → ⊥ }
     {
         match task {
             Task::Expr(expr) => {
-                let scope = self.meet_expr(store, expr)?;
+                let scope = self.enter_expr(store, expr)?;
                 self.scopes.set_scope(expr, scope)?;
                 steps.tick();
                 Ok(())
             }
-            Task::Constant(expr) => self.meet_constant(expr),
-            Task::Pat(pat) => self.meet_pat(store, pat),
-            Task::TypeRef(type_ref) => self.meet_type(store, type_ref),
+            Task::Constant(expr) => self.enter_const(expr),
+            Task::Pat(pat) => self.enter_pat(store, pat),
+            Task::TypeRef(type_ref) => self.enter_type(store, type_ref),
             Task::Bound(pat) => self.bind(store, pat),
-            Task::Arm(pat, expr) => self.meet_arm(store, pat, None, expr),
-            Task::GuardedArm(pat, guard, expr) => self.meet_arm(store, pat, Some(guard), expr),
+            Task::Arm(pat, expr) => self.enter_arm(store, pat, None, expr),
+            Task::GuardedArm(pat, guard, expr) => self.enter_arm(store, pat, Some(guard), expr),
             Task::MacroDef(id) => {
                 self.open_both(store, ScopeKind::MacroDef(id), ScopeKind::MacroDef(id))
             }
-            Task::Leave(here, constant) => {
-                self.around = Around { here, constant };
+            Task::Leave(scope, const_scope) => {
+                self.current = CurrentScopes { scope, const_scope };
                 Ok(())
             }
         }
@@ -193,19 +193,19 @@ impl Walk {
         store: &ExpressionStore,
         steps: &mut Steps,
     ) -> Result<(), ScopesFault>
-        requires ready { IsReady store.now.nodes (machine self.old self.old.tasks.stack.items) }
-        ensures gone { IfOk result (λ _. Progress store.now.nodes
-            (machine self.old self.old.tasks.stack.items)
-            (machine self.new []) steps.old steps.new) }
+        requires ready { IsReady store.now.nodes (walk_state self.old self.old.tasks.stack.items) }
+        ensures gone { IfOk result (λ _. WalkSteps store.now.nodes
+            (walk_state self.old self.old.tasks.stack.items)
+            (walk_state self.new []) steps.old steps.new) }
         ensures rises { steps.old ≤ steps.new }
         ensures few { OnErr result (steps.new ≤ steps.old
-            + length (future_of store.now.nodes (machine self.old self.old.tasks.stack.items))) }
+            + length (future_of store.now.nodes (walk_state self.old self.old.tasks.stack.items))) }
         ensures full { result ≡ Err ScopesFault.Full
-            → Exceeds store.now.nodes (machine self.old self.old.tasks.stack.items) }
+            → Exceeds store.now.nodes (walk_state self.old self.old.tasks.stack.items) }
         ensures missing { result ≡ Err ScopesFault.Missing → ⊥ }
     {
         while let Some(task) = self.tasks.stack.pop() {
-            self.go_on(store, task, steps)?;
+            self.step(store, task, steps)?;
         }
         Ok(())
     }

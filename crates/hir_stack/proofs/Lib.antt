@@ -1,1 +1,1 @@
-pub mod TurnLemmas
+pub mod DeferredLemmas

@@ -8,5 +8,5 @@ pub record StackItems (T : Type 0) : Type 0 where
   pub refused : Bool
 
 -- these items were pushed, one after the other
-abbrev pub Puts : {T : Type 0} → StackItems T → List T → StackItems T → Type 0
-Puts v xs w = w.refused ≡ false → (v.refused ≡ false) × (w.items ≡ reverse xs ++ v.items)
+abbrev pub Defers : {T : Type 0} → StackItems T → List T → StackItems T → Type 0
+Defers v xs w = w.refused ≡ false → (v.refused ≡ false) × (w.items ≡ reverse xs ++ v.items)

@@ -2,7 +2,7 @@
 #![tactic(auto)]
 
 ghost use Rattle.std.specs.Prelude.{◌≡◌, ◌≤◌, List, [], ◌∷◌, ◌++◌, false, IfSome, None, OnErr, OnOk, drop, length, reverse, take};
-ghost use Rattle.hir_stack.specs.Stacks.{StackItems, Puts};
+ghost use Rattle.hir_stack.specs.Stacks.{StackItems, Defers};
 
 use std::alloc::{AllocError, Global};
 use std::marker::Model;
@@ -63,11 +63,11 @@ impl<T> Stack<T> {
         Ok(())
     }
 
-    /// Pushes an item as one of several, which `turn_over` then turns over. Where memory for it is refused, `turn_over` answers so.
-    pub fn put(&mut self, item: T)
+    /// Pushes an item as one of several, which `push_deferred` then turns over. Where memory for it is refused, `push_deferred` answers so.
+    pub fn defer(&mut self, item: T)
     where
         T: Drop,
-        ensures { Puts self.old (item ∷ []) self.new }
+        ensures { Defers self.old (item ∷ []) self.new }
     {
         if let Err(refused) = self.items.push(item) {
             self.refused = Some(refused.into());
@@ -77,9 +77,9 @@ impl<T> Stack<T> {
     /// Turns over what lies above the lowest `below` items: of what was put on them the first is on top then.
     ///
     /// Answers `AllocError` where memory for an item that was put was refused. The stack is of no use then.
-    pub fn turn_over(&mut self, below: usize) -> Result<(), AllocError>
+    pub fn push_deferred(&mut self, below: usize) -> Result<(), AllocError>
         ensures { OnOk result ((before : StackItems T) (items : List T)
-            → length before.items ≡ below → Puts before items self.old
+            → length before.items ≡ below → Defers before items self.old
             → self.new ≡ record { items = items ++ before.items; refused = false }) }
     {
         match self.refused {

@@ -346,7 +346,7 @@ impl ExpressionStoreBuilder {
             bindings,
             labels,
             lifetimes,
-            roots: roots_or_empty(alloc, roots),
+            roots: roots_or_none(alloc, roots),
             side_tables: kept_side_tables(alloc, keeps_exprs, side_tables),
             kept,
         });
@@ -366,7 +366,7 @@ fn kept_side_tables(alloc: Global, kept: bool, side_tables: SideTables) -> SideT
 }
 
 /// The listed roots; none where no list was begun.
-fn roots_or_empty(alloc: Global, roots: Option<RootList>) -> RootList
+fn roots_or_none(alloc: Global, roots: Option<RootList>) -> RootList
     ensures { result ≡ roots_or_none roots }
 {
     match roots {

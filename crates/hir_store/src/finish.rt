@@ -9,7 +9,7 @@ ghost use Rattle.hir_store.specs.Building.{nodes_of, building_of, contents_of, r
 
 use crate::builder::{ExpressionStoreBuilder, Refused};
 use hir_expr_store::{ExpressionStore, KeptParts, PatLinks};
-use hir_faults::{FinishFault, tested_parents};
+use hir_faults::{FinishFault, validated_parents};
 use hir_forest::{Parents, Root};
 use hir_rare::Rare;
 use hir_source::ExpressionStoreSourceMap;
@@ -37,7 +37,7 @@ impl ExpressionStoreBuilder {
     }
 
     /// The parents of the nodes, where there is no fault. Else the first fault, or `Memory`.
-    fn tested_parents(&self) -> Result<Parents, FinishFault>
+    fn validated_parents(&self) -> Result<Parents, FinishFault>
         ensures ok { IfOk result (λ parents. finish_fault (building_of self.now) None
             × HasParents (graph (nodes_of self.now)) parents.parents) }
         ensures err { IfErr result (λ fault. fault ≡ FinishFault.Memory
@@ -46,18 +46,18 @@ impl ExpressionStoreBuilder {
         if !self.has_roots() {
             return Err(FinishFault::NoRoots);
         }
-        tested_parents(self.alloc, &self.nodes(), self.listed_roots())
+        validated_parents(self.alloc, &self.nodes(), self.listed_roots())
     }
 
     /// What a store of the nodes keeps, where there is no fault. Else the first fault, or `Memory`.
-    fn test_nodes(&self) -> Result<Rare<KeptParts>, FinishFault>
+    fn validate(&self) -> Result<Rare<KeptParts>, FinishFault>
         ensures ok { IfOk result (λ kept. finish_fault (building_of self.now) None
             × HasParents (graph (nodes_of self.now)) kept.parents.parents
             × HasPatLinks (nodes_of self.now).pats kept.links) }
         ensures err { IfErr result (λ fault. fault ≡ FinishFault.Memory
             ⊎ finish_fault (building_of self.now) (Some fault)) }
     {
-        let parents = self.tested_parents()?;
+        let parents = self.validated_parents()?;
         let Ok(links) = PatLinks::of(self.alloc, self.pats.as_slice()) else {
             return Err(FinishFault::Memory);
         };
@@ -84,7 +84,7 @@ impl ExpressionStoreBuilder {
             × (refused.fault ≡ FinishFault.Memory ⊎ finish_fault (building_of self) (Some refused.fault))) }
     {
         let mut builder = self;
-        let kept = match builder.test_nodes() {
+        let kept = match builder.validate() {
             Ok(kept) => kept,
             Err(fault) => return Err(Refused { fault, builder }),
         };

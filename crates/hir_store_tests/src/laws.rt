@@ -5,7 +5,7 @@ use hir_store::laws as of_stores;
 #[test]
 fn laws_can_be_called() {
     of_stores::under_two_is_under_one();
-    of_stores::what_is_under_is_there();
+    of_stores::descendants_are_in_range();
     of_stores::builders_are_compared_by_all_that_they_have();
     of_source_maps::equality_is_of_the_compared_part();
     of_source_maps::forward_maps_may_differ();

@@ -98,7 +98,7 @@ fn nothing_is_under(alloc: Global) -> Result<bool, AllocError> {
     let store = ExpressionStore::empty(alloc);
     let none = store.no_nodes(alloc)?;
     drop(store.under(alloc, &none)?);
-    Ok(store.no_kid_is_in(&none))
+    Ok(store.no_child_is_in(&none))
 }
 
 #[test]

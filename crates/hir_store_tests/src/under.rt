@@ -25,14 +25,14 @@ const LET_IN_TUPLE: &[Step] = &[
 fn mark_nodes(alloc: Global, store: &ExpressionStore) -> Result<NodeSet, AllocError>
     ensures { IfOk result (λ set. set.sizes ≡ sizes_of store.now.nodes) }
 {
-    let mut tops = store.no_nodes(alloc)?;
+    let mut entry_nodes = store.no_nodes(alloc)?;
     if store.has_expr(Idx::from_raw(1)) {
-        tops.add_expr(Idx::from_raw(1));
+        entry_nodes.add_expr(Idx::from_raw(1));
     }
     if store.has_pat(Idx::from_raw(1)) {
-        tops.add_pat(Idx::from_raw(1));
+        entry_nodes.add_pat(Idx::from_raw(1));
     }
-    Ok(tops)
+    Ok(entry_nodes)
 }
 
 /// Whether a set has an expression and a pattern, where the store has them.
@@ -62,14 +62,14 @@ fn all_held(alloc: Global, store: &ExpressionStore) -> Result<[Answer; 5], Alloc
     let none = store.no_nodes(alloc)?;
     let in_none = answer_of_set(store, &none, 1);
     std::mem::drop(none);
-    let tops = mark_nodes(alloc, store)?;
-    let in_tops = answer_of_set(store, &tops, 1);
-    let under = store.under(alloc, &tops);
-    std::mem::drop(tops);
+    let entry_nodes = mark_nodes(alloc, store)?;
+    let in_entry_nodes = answer_of_set(store, &entry_nodes, 1);
+    let under = store.under(alloc, &entry_nodes);
+    std::mem::drop(entry_nodes);
     let under = under?;
     let all = [
         in_none,
-        in_tops,
+        in_entry_nodes,
         answer_of_set(store, &under, 0),
         answer_of_set(store, &under, 1),
         answer_of_set(store, &under, 2),

@@ -4,7 +4,7 @@ use Rattle.std.specs.Prelude.{ℕ, List, [], ◌∷◌, Option, Some, None}
 use Rattle.hir_node.specs.ChildCalls.{Call, OnExpr, OnAnonConst, OnPat, OnType, OnLifetime}
 use Rattle.hir_node.specs.declared.node_id.NodeId.{NodeId}
 use Rattle.hir_faults.specs.Nodes.{Nodes, Has}
-use Rattle.hir_captures.specs.{Uses.Spot, Uses.code_under, declared.to_read.Task.Task}
+use Rattle.hir_captures.specs.{Uses.Spot, Uses.code_under, declared.tasks.Task.Task}
 
 -- the task of a pattern, in the target of an assignment or in none
 abbrev pub pat_task : Option ℕ → ℕ → Task
@@ -38,5 +38,5 @@ abbrev pub code_of : Nodes → List Task → List Spot
 code_of s tasks = flat_map (λ t. code_under s (task_node t) (task_target t)) tasks
 
 -- all that tasks name is there
-abbrev pub AreThere : Nodes → List Task → Type 0
-AreThere s tasks = AllByRecursion (λ t. Has s (task_node t)) tasks
+abbrev pub AreInRange : Nodes → List Task → Type 0
+AreInRange s tasks = AllByRecursion (λ t. Has s (task_node t)) tasks

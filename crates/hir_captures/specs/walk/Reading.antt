@@ -3,9 +3,9 @@ use Rattle.std.specs.FinMap as map
 use Rattle.std.specs.List.{flat_map}
 use Rattle.std.specs.Prelude.{◌≡◌, ℕ, ◌-◌, ◌<◌, List, Option, fold, filter_map, length}
 use Rattle.hir_scope.specs.{Frames.Chain, Paths.chain, Scopes.Scopes}
-use Rattle.hir_captures.specs.{Captures.meaning_behind, Captures.with_new, Uses.Use, Uses.spot_uses}
-use Rattle.hir_captures.specs.declared.{code.Code.Code, to_read.Task.Task}
-use Rattle.hir_captures.specs.walk.Pending.{AreThere, code_of}
+use Rattle.hir_captures.specs.{Captures.resolve_outside, Captures.with_new, Uses.Use, Uses.spot_uses}
+use Rattle.hir_captures.specs.declared.{code.Code.Code, tasks.Task.Task}
+use Rattle.hir_captures.specs.walk.Pending.{AreInRange, code_of}
 
 -- the chain that the scopes have of an expression
 abbrev pub chain_in : Scopes → ℕ → Chain
@@ -15,7 +15,7 @@ chain_in scopes expr = chain scopes.scopes (map.get scopes.scope_by_expr expr)
 abbrev pub captured_binding_in : Code → Use → Option ℕ
 captured_binding_in code use_ =
     let at = chain_in code.scopes.now use_.expr in
-    meaning_behind (length at - code.outermost) at use_.name use_.hygiene
+    resolve_outside (length at - code.outermost) at use_.name use_.hygiene
 
 -- the captures of uses are added to what was found, each once
 abbrev pub with_uses : Code → List ℕ → List Use → List ℕ
@@ -27,8 +27,8 @@ with_code code found tasks =
     with_uses code found (flat_map (spot_uses code.store.now) (code_of code.store.now.nodes tasks))
 
 -- one task was done: all that is to be found stays the same
-pub record Reads (code : Code) (before : List ℕ) (old : List Task) (after : List ℕ) (new : List Task)
+pub record ReadsTask (code : Code) (before : List ℕ) (old : List Task) (after : List ℕ) (new : List Task)
     : Type 0 where
-  pub there : AreThere code.store.now.nodes new
+  pub in_range : AreInRange code.store.now.nodes new
   pub finds : with_code code before old ≡ with_code code after new
   pub shorter : length (code_of code.store.now.nodes new) < length (code_of code.store.now.nodes old)

@@ -5,41 +5,41 @@ use Rattle.std.specs.Prelude.{◌≡◌, ℕ, ◌<◌, suc, List, [], ◌∷◌,
 use Rattle.hir_node.specs.ChildCalls.{e, p, opt}
 use Rattle.hir_node.specs.declared.{node_id.NodeId.NodeId, pat.Pat.Pat}
 use Rattle.hir_forest.specs.Faults.{root_nodes}
-use Rattle.hir_faults.specs.{Down.KidsFall, Nodes.Nodes, Nodes.Has, Nodes.kids_of, Sound.IsSoundNode}
+use Rattle.hir_faults.specs.{Recursion.RankDecreases, Nodes.Nodes, Nodes.Has, Nodes.children_of, Sound.IsSoundNode}
 use Rattle.hir_faults.specs.TestedParts.{tested_pat}
 use Rattle.hir_expr_store.specs.Contents.{Contents}
 use Rattle.hir_expr_store.specs.PatLists.{bindings_at, bindings_in, child_pats_of}
 use Rattle.hir_expr_store.specs.Under.{nodes_under}
-use Rattle.hir_items.specs.Bodies.{BodyContents, AreBelow, formals_of, last_root, tops}
-use Rattle.hir_items.specs.Signatures.{root_tops}
-use Rattle.hir_scope.specs.{Scopes.Scope, Scopes.Scopes, Tops.root_frame}
+use Rattle.hir_items.specs.Bodies.{BodyContents, AreBelow, formals_of, last_root, entry_nodes}
+use Rattle.hir_items.specs.Signatures.{root_entry_nodes}
+use Rattle.hir_scope.specs.{Scopes.Scope, Scopes.Scopes, EntryNodes.root_frame}
 use Rattle.hir_scope.specs.declared.scope.{ScopeEntry.ScopeEntry, ScopeKind.ScopeKind}
-use Rattle.hir_scope.specs.declared.tasks.{Around.Around, Task.Task}
-use Rattle.hir_scope.specs.walk.{Machine.Machine, Pending.tasks_of}
+use Rattle.hir_scope.specs.declared.tasks.{CurrentScopes.CurrentScopes, Task.Task}
+use Rattle.hir_scope.specs.walk.{WalkState.WalkState, Pending.tasks_of}
 
 -- 1. What the laws say of what has no fault, where a walk over it needs it
 
 pub record IsSound (s : Nodes) : Type 0 where
-  pub fall : KidsFall s
-  pub under : (n : NodeId) → nodes_under s n ≡ n ∷ flat_map (nodes_under s) (kids_of s n)
+  pub fall : RankDecreases s
+  pub under : (n : NodeId) → nodes_under s n ≡ n ∷ flat_map (nodes_under s) (children_of s n)
   pub bindings : (id : ℕ) → id < length s.pats
       → bindings_in s id ≡ bindings_at s id ++ flat_map (bindings_in s) (child_pats_of s id)
   pub pats : (id : ℕ) (x : Pat) → slice_get s.pats id ≡ Some x → IsSoundNode s (tested_pat x)
 
 pub record IsSoundStore (c : Contents) : Type 0 where
   pub nodes : IsSound c.nodes
-  pub there : (n : NodeId) → Contains (root_tops c) n → Has c.nodes n
+  pub in_range : (n : NodeId) → Contains (root_entry_nodes c) n → Has c.nodes n
 
 pub record IsSoundBody (b : BodyContents) : Type 0 where
   pub nodes : IsSound b.store.nodes
-  pub there : (n : NodeId) → Contains (tops b) n → Has b.store.nodes n
-  pub self_there : IfSome b.self_param (AreBelow (length b.store.nodes.bindings))
+  pub in_range : (n : NodeId) → Contains (entry_nodes b) n → Has b.store.nodes n
+  pub self_in_range : IfSome b.self_param (AreBelow (length b.store.nodes.bindings))
 
 -- 2. The state at first
 
 -- the first scope is current, also for constants
-abbrev pub at_first : Around
-at_first = record { here = 0; constant = 0 }
+abbrev pub at_first : CurrentScopes
+at_first = record { scope = 0; const_scope = 0 }
 
 -- scopes that no expression has yet
 abbrev pub for_none : List Scope → Scopes
@@ -57,10 +57,10 @@ abbrev pub formal_tasks : List ℕ → List Task
 formal_tasks formals = tasks_of (flat_map p formals)
 
 -- a body's: the root scope, then the formals and the last root
-abbrev pub body_begins : BodyContents → Machine
+abbrev pub body_begins : BodyContents → WalkState
 body_begins b = record {
   scopes = for_none (body_root b ∷ []);
-  around = at_first;
+  current = at_first;
   tasks = tasks_of (flat_map p (formals_of b.params) ++ opt e (last_root b.store));
 }
 
@@ -82,12 +82,12 @@ root_tasks (root ∷ roots) =
     Task.Leave (suc (length roots)) (suc (length roots)) ∷ Task.Expr root ∷ root_tasks roots
 
 -- a signature's, where these of its roots are to be met
-abbrev pub roots_begin : List ℕ → Machine
+abbrev pub roots_begin : List ℕ → WalkState
 roots_begin roots = record {
   scopes = for_none (scopes_in_root (length roots));
-  around = at_first;
+  current = at_first;
   tasks = root_tasks roots;
 }
 
-abbrev pub signature_begins : Contents → Machine
+abbrev pub signature_begins : Contents → WalkState
 signature_begins c = roots_begin (root_nodes c.roots)

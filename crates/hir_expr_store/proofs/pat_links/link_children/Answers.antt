@@ -8,14 +8,14 @@ use Rattle.hir_expr_store.proofs.pat_links.link_children.Goals as goal
 pub loop-next-init : goal.loop-next-init
 loop-next-init c =
     let links = c.args.links.now in
-    let kids : child_pats c.args.pat.now ≡ c.in-Some.first ∷ c.into_iter-next-iterator.result =
+    let children : child_pats c.args.pat.now ≡ c.in-Some.first ∷ c.into_iter-next-iterator.result =
     sym c.child_pats-children.ensures ∙ c.in-Some.ensures.steps ∙ ap (λ (t : List ℕ). c.in-Some.first ∷ t) (sym c.into_iter-next-iterator.ensures.into_iter_gives) in
     let low = all_from_contains (λ (k : ℕ). k < length links) (child_pats c.args.pat.now) (λ k d. subst (λ (n : ℕ). n < length links) d.2 (c.requires d.0 k d.1)) in
     record {
       next = tt;
       finite = tt;
-      low = subst (λ (ks : List ℕ). AllByRecursion (λ (k : ℕ). k < length links) ks) kids low;
-      is = ap (λ (ks : List ℕ). link_children c.args.parent ks links) (sym kids);
+      low = subst (λ (ks : List ℕ). AllByRecursion (λ (k : ℕ). k < length links) ks) children low;
+      is = ap (λ (ks : List ℕ). link_children c.args.parent ks links) (sym children);
     }
 
 pub loop-next-preserved : goal.loop-next-preserved

@@ -3,7 +3,7 @@ use Rattle.hir_forest.specs.Faults.{forest_fault, IsWithin}
 use Rattle.hir_forest.proofs.FaultLemmas.{fault_within}
 use Rattle.hir_faults.specs.Nodes.{graph}
 use Rattle.hir_faults.specs.Faults.{RootedNodes, nodes_in, ends_of}
-use Rattle.hir_faults.proofs.FaultLemmas.{kids_there, graph-length}
+use Rattle.hir_faults.proofs.FaultLemmas.{children_in_range, graph-length}
 use Rattle.hir_faults.proofs.FirstFaultLemmas.{told_some, told_none}
 use Rattle.hir_faults.proofs.first_fault.first_graph_fault.Goals as goal
 use Rattle.hir_faults.proofs.first_fault.first_graph_fault.Goals.{In_ok-fault}
@@ -19,7 +19,7 @@ is_forest_fault c = rw c.ends.ensures at (c.in_ok-fault.ensures.fault (graph (no
 pub tell-requires-clause-within : goal.tell-requires-clause-within
 tell-requires-clause-within c =
     let s = nodes_in c.args.nodes.now in
-    let within = fault_within (graph s) (ends_of s) c.args.roots.now c.in-Some.fault (kids_there s c.requires.nodes) (rw c.in-Some.is at (is_forest_fault (goal.at.tell-requires-clause-within c).In_ok-fault)) in
+    let within = fault_within (graph s) (ends_of s) c.args.roots.now c.in-Some.fault (children_in_range s c.requires.nodes) (rw c.in-Some.is at (is_forest_fault (goal.at.tell-requires-clause-within c).In_ok-fault)) in
     rw c.sizes.ensures (subst (λ n. IsWithin n (length c.args.roots.now) c.in-Some.fault) (graph-length s) within)
 
 abbrev with_roots : (c : In_ok-fault) → RootedNodes

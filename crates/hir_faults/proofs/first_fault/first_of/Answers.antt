@@ -10,7 +10,7 @@ use Rattle.hir_faults.proofs.first_fault.first_of.Goals as goal
 pub loop-i-init : goal.loop-i-init
 loop-i-init g c = record {
   fine = λ j h. absurd (omega arith);
-  visited = visited_none c.args.visitor.now c.requires.room.there;
+  visited = visited_none c.args.visitor.now c.requires.room.in_range;
 }
 
 pub fault_of-requires : goal.fault_of-requires

@@ -4,40 +4,40 @@ use Rattle.hir_faults.proofs.FirstFaultLemmas.{fault-paths, fault-return, fault-
 use Rattle.hir_faults.proofs.first_fault.held_fault.Goals as goal
 
 pub returns-then-not-names_paths : goal.returns-then-not-names_paths
-returns-then-not-names_paths g c = λ sizes there.
+returns-then-not-names_paths g c = λ sizes in_range.
     fault-paths sizes c.args.types.now c.args.id (g.N.TestedNode.tested_parts c.args.node.now)
-    there
-    (sym (ap (names_paths c.args.types.now) c.holds-held.ensures) ∙ sym c.names_paths.ensures ∙ c.if-not-names_paths.true)
+    in_range
+    (sym (ap (names_paths c.args.types.now) c.type_parts-held.ensures) ∙ sym c.names_paths.ensures ∙ c.if-not-names_paths.true)
 
 pub returns-then-not-returns : goal.returns-then-not-returns
-returns-then-not-returns g c = λ sizes there.
+returns-then-not-returns g c = λ sizes in_range.
     fault-return sizes c.args.types.now c.args.id (g.N.TestedNode.tested_parts c.args.node.now)
-    there
-    (sym (ap (names_paths c.args.types.now) c.holds-held.ensures) ∙ sym c.names_paths.ensures ∙ c.if-not-names_paths.false)
+    in_range
+    (sym (ap (names_paths c.args.types.now) c.type_parts-held.ensures) ∙ sym c.names_paths.ensures ∙ c.if-not-names_paths.false)
     (sym c.returns.ensures ∙ c.if-not-returns.true)
 
 pub returns-then-not-gives_self : goal.returns-then-not-gives_self
-returns-then-not-gives_self g c = λ sizes there.
+returns-then-not-gives_self g c = λ sizes in_range.
     fault-self sizes c.args.types.now c.args.id (g.N.TestedNode.tested_parts c.args.node.now)
-    there
-    (sym (ap (names_paths c.args.types.now) c.holds-held.ensures) ∙ sym c.names_paths.ensures ∙ c.if-not-names_paths.false)
+    in_range
+    (sym (ap (names_paths c.args.types.now) c.type_parts-held.ensures) ∙ sym c.names_paths.ensures ∙ c.if-not-names_paths.false)
     (sym c.returns.ensures ∙ c.if-not-returns.false)
-    (sym (ap gives_self c.holds-held.ensures) ∙ sym c.gives_self.ensures ∙ c.if-not-gives_self.true)
+    (sym (ap gives_self c.type_parts-held.ensures) ∙ sym c.gives_self.ensures ∙ c.if-not-gives_self.true)
 
 pub returns-then-not-lists_fit : goal.returns-then-not-lists_fit
-returns-then-not-lists_fit g c = λ sizes there.
+returns-then-not-lists_fit g c = λ sizes in_range.
     fault-lists sizes c.args.types.now c.args.id (g.N.TestedNode.tested_parts c.args.node.now)
-    there
-    (sym (ap (names_paths c.args.types.now) c.holds-held.ensures) ∙ sym c.names_paths.ensures ∙ c.if-not-names_paths.false)
+    in_range
+    (sym (ap (names_paths c.args.types.now) c.type_parts-held.ensures) ∙ sym c.names_paths.ensures ∙ c.if-not-names_paths.false)
     (sym c.returns.ensures ∙ c.if-not-returns.false)
-    (sym (ap gives_self c.holds-held.ensures) ∙ sym c.gives_self.ensures ∙ c.if-not-gives_self.false)
-    (sym (ap lists_fit c.holds-held.ensures) ∙ sym c.lists_fit.ensures ∙ c.if-not-lists_fit.true)
+    (sym (ap gives_self c.type_parts-held.ensures) ∙ sym c.gives_self.ensures ∙ c.if-not-gives_self.false)
+    (sym (ap lists_fit c.type_parts-held.ensures) ∙ sym c.lists_fit.ensures ∙ c.if-not-lists_fit.true)
 
 pub returns : goal.returns
-returns g c = λ sizes there.
+returns g c = λ sizes in_range.
     fault-none sizes c.args.types.now c.args.id (g.N.TestedNode.tested_parts c.args.node.now)
-    there
-    (sym (ap (names_paths c.args.types.now) c.holds-held.ensures) ∙ sym c.names_paths.ensures ∙ c.if-not-names_paths.false)
+    in_range
+    (sym (ap (names_paths c.args.types.now) c.type_parts-held.ensures) ∙ sym c.names_paths.ensures ∙ c.if-not-names_paths.false)
     (sym c.returns.ensures ∙ c.if-not-returns.false)
-    (sym (ap gives_self c.holds-held.ensures) ∙ sym c.gives_self.ensures ∙ c.if-not-gives_self.false)
-    (sym (ap lists_fit c.holds-held.ensures) ∙ sym c.lists_fit.ensures ∙ c.if-not-lists_fit.false)
+    (sym (ap gives_self c.type_parts-held.ensures) ∙ sym c.gives_self.ensures ∙ c.if-not-gives_self.false)
+    (sym (ap lists_fit c.type_parts-held.ensures) ∙ sym c.lists_fit.ensures ∙ c.if-not-lists_fit.false)

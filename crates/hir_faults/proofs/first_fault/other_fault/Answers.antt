@@ -4,14 +4,14 @@ use Rattle.hir_faults.proofs.FirstFaultLemmas.{fault-none}
 use Rattle.hir_faults.proofs.first_fault.other_fault.Goals as goal
 
 pub returns-then-returns : goal.returns-then-returns
-returns-then-returns g c = λ sizes there.
+returns-then-returns g c = λ sizes in_range.
     let fine = c.is_plain.ensures c.if-is_plain.true in
     fault-none sizes c.args.types.now c.args.id (g.N.TestedNode.tested_parts c.args.node.now)
-    there
-    (sym (ap (names_paths c.args.types.now) c.holds.ensures) ∙ fine.paths c.args.types.now)
+    in_range
+    (sym (ap (names_paths c.args.types.now) c.type_parts.ensures) ∙ fine.paths c.args.types.now)
     (sym c.returns.ensures ∙ c.if-returns.true)
-    (sym (ap gives_self c.holds.ensures) ∙ fine.gives_self)
-    (sym (ap lists_fit c.holds.ensures) ∙ fine.lists_fit)
+    (sym (ap gives_self c.type_parts.ensures) ∙ fine.gives_self)
+    (sym (ap lists_fit c.type_parts.ensures) ∙ fine.lists_fit)
 
 pub returns : goal.returns
 returns g c = c.held_fault.ensures

@@ -2,7 +2,7 @@ use Rattle.std.proofs.Common.{ℕ, suc, zero, List, refl, sym, ◌∙◌}
 use Rattle.std.proofs.lemmas.Bool.{false≢true}
 use Rattle.hir_forest.specs.Forest.{ChainEnds}
 use Rattle.hir_forest.specs.Parents.{HasParents}
-use Rattle.hir_forest.proofs.ChainLemmas.{has_kid, ends_on_chain, under_next, under_none, clear_more}
+use Rattle.hir_forest.proofs.ChainLemmas.{has_child, ends_on_chain, under_next, under_none, clear_more}
 use Rattle.hir_forest.proofs.chains.is_under.Goals as goal
 use Rattle.hir_forest.proofs.chains.is_under.Goals.{In-Some}
 
@@ -10,7 +10,7 @@ use Rattle.hir_forest.proofs.chains.is_under.Goals.{In-Some}
 parent_ends : (c : In-Some) (g : List (List ℕ)) → HasParents g c.args.parents.now → ChainEnds g c.args.node → ChainEnds g c.in-Some.parent
 parent_ends c g h e =
     ends_on_chain g c.args.parents.now h c.args.node c.in-Some.parent
-    (suc zero, (c.in-Some.parent, has_kid g c.args.parents.now h c.args.node c.in-Some.parent (sym c.in-Some.ensures.parent), refl)) e
+    (suc zero, (c.in-Some.parent, has_child g c.args.parents.now h c.args.node c.in-Some.parent (sym c.in-Some.ensures.parent), refl)) e
 
 pub returns-in-None : goal.returns-in-None
 returns-in-None c = record {

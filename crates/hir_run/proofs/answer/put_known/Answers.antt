@@ -1,6 +1,6 @@
 use Rattle.std.proofs.Common.{◌<◌, ◌≤◌, length, sym, ◌∙◌, inl, inr, codes, true≢false}
 use Rattle.std.proofs.lemmas.Bool.{cases_lt}
-use Rattle.hir_expr_store.specs.PatLists.{children}
+use Rattle.hir_expr_store.specs.PatLists.{child_exprs}
 use Rattle.hir_run.specs.Answer.{after_spaces}
 use Rattle.hir_run.proofs.WritingLemmas.{put_then}
 use Rattle.hir_run.proofs.Children.{children_found, children_unknown}
@@ -15,4 +15,4 @@ pub returns : goal.returns
 returns g c =
     let there : c.args.id < length c.args.store.now.nodes.exprs = c.has_expr.ensures.0 c.if-not-has_expr.false in
     rw (children_found c.args.store.now.nodes c.args.id there)
-    (put_then g.W.Sink c.args.output.now c.put-2.new.self c.put_children.new.output (codes " =") (after_spaces (children c.args.store.now.nodes c.args.id)) c.put-2.ensures c.put_children.ensures)
+    (put_then g.W.Sink c.args.output.now c.put-2.new.self c.put_children.new.output (codes " =") (after_spaces (child_exprs c.args.store.now.nodes c.args.id)) c.put-2.ensures c.put_children.ensures)

@@ -1,10 +1,10 @@
 use Rattle.std.proofs.Common.{◌≡◌, length}
-use Rattle.hir_captures.specs.walk.{Pending.AreThere, Pending.code_of, Reading.with_code}
+use Rattle.hir_captures.specs.walk.{Pending.AreInRange, Pending.code_of, Reading.with_code}
 use Rattle.hir_captures.proofs.code.Code.read_all.Given as goal
 
 abbrev pub invariant-loop-task : goal.invariant-loop-task
 invariant-loop-task l =
-    AreThere l.self.store.now.nodes l.unread.stack.items
+    AreInRange l.self.store.now.nodes l.unread.stack.items
     × (with_code l.self l.initial.found l.initial.unread.stack.items ≡ with_code l.self l.found l.unread.stack.items)
 
 abbrev pub decreases-loop-task : goal.decreases-loop-task

@@ -1,20 +1,20 @@
 use Rattle.std.proofs.Common.{rules, sym, ◌≡◌, ◌∙◌, refl}
 use Rattle.hir_node.proofs.RunLemmas.{runs_keep, runs_leave}
 use Rattle.hir_node.specs.declared.node_id.NodeId.TheVariants as node
-use Rattle.hir_faults.specs.Sizes.{is_there}
+use Rattle.hir_faults.specs.Sizes.{is_in_range}
 use Rattle.hir_faults.specs.Nodes.{sizes_of}
 use Rattle.hir_expr_store.specs.Contents.{rooted_of}
 use Rattle.hir_expr_store.specs.PatLists.{exprs_from, exprs_in}
-use Rattle.hir_faults.proofs.SoundLemmas.{calls_there}
+use Rattle.hir_faults.proofs.SoundLemmas.{calls_in_range}
 use Rattle.hir_expr_store.proofs.WalkLemmas.{may_each}
 use Rattle.hir_expr_store.proofs.TryLemmas.{tries_through, tries_at}
 use Rattle.hir_expr_store.proofs.store.ExpressionStore.try_walk_child_exprs.Goals as goal
 
 pub visit_expr_children-requires-clause-may : goal.visit_expr_children-requires-clause-may
 visit_expr_children-requires-clause-may g c =
-    let there = calls_there (rooted_of c.args.self.now) c.has_no_fault.ensures (node.Expr c.args.id) c.requires.there in
-    may_each _ (λ v. goal.F-IsAlwaysCallable g v.f.now × (v.store ≡ c.args.self)) (is_there (sizes_of c.args.self.now.nodes))
-    (λ v d h t. (h.0, rw h.1 t)) (λ v w d h s. (s.1, s.2 ∙ h.1)) _ (c.requires.callable, refl) there
+    let in_range = calls_in_range (rooted_of c.args.self.now) c.has_no_fault.ensures (node.Expr c.args.id) c.requires.in_range in
+    may_each _ (λ v. goal.F-IsAlwaysCallable g v.f.now × (v.store ≡ c.args.self)) (is_in_range (sizes_of c.args.self.now.nodes))
+    (λ v d h t. (h.0, rw h.1 t)) (λ v w d h s. (s.1, s.2 ∙ h.1)) _ (c.requires.callable, refl) in_range
 
 pub returns-clause-runs : goal.returns-clause-runs
 returns-clause-runs g c =

@@ -2,7 +2,7 @@ use Rattle.std.proofs.Common.{rules, sym}
 use Rattle.hir_node.proofs.RunLemmas.{may_always}
 use Rattle.hir_faults.proofs.SoundLemmas.{sound_falls}
 use Rattle.hir_expr_store.specs.Contents.{rooted_of}
-use Rattle.hir_expr_store.specs.Turns.{turns, entered_pat}
+use Rattle.hir_expr_store.specs.PatTurns.{turns, entered_pat}
 use Rattle.hir_expr_store.proofs.TurnLemmas.{pats_of_turns}
 use Rattle.hir_expr_store.proofs.TryLemmas.{turns_through, turns_keep, tries_to}
 use Rattle.hir_expr_store.proofs.store.ExpressionStore.try_walk_pats.Goals as goal
@@ -16,7 +16,7 @@ returns-clause-runs g c =
     let top = turns c.args.self.now.nodes c.args.id in
     let all = turns_through (λ p x r q. goal.F-step g p x r q) (λ v. v.f.now) entered_pat (λ v. Unit {0}) (λ v w t r h s. (s.0, tt)) top c.walk_turns.result tt c.walk_turns.ensures in
     let same = sym (turns_keep (λ v. v.f.ghost_name) (λ v w t r s. s.2) top c.walk_turns.result c.walk_turns.ensures) in
-    tries_to (search (rules, same)) (rw (pats_of_turns c.args.self.now.nodes fall c.args.id c.requires.there) at all.0)
+    tries_to (search (rules, same)) (rw (pats_of_turns c.args.self.now.nodes fall c.args.id c.requires.in_range) at all.0)
 
 pub returns-clause-callable : goal.returns-clause-callable
 returns-clause-callable g c =

@@ -1,5 +1,5 @@
 use Rattle.std.proofs.Common.{length}
-use Rattle.hir_expr_store.specs.Turns.{turns}
+use Rattle.hir_expr_store.specs.PatTurns.{turns}
 use Rattle.hir_expr_store.proofs.TurnLemmas.{steps_step, steps}
 use Rattle.hir_expr_store.proofs.TurnWalk.{WalksOn}
 use Rattle.hir_expr_store.proofs.store.ExpressionStore.walk_by.Given as goal

@@ -5,5 +5,5 @@ use Rattle.hir_faults.proofs.edges.EdgeVisitorStoreVisitor.on_lifetime.Goals as 
 
 pub returns : goal.returns
 returns c =
-    let there : c.if-self.self ≡ (c.args.self.now.all_there && nat_lt c.args.id c.args.self.now.sizes.lifetimes) = first_of (search rules, grind (arith, common_steps)) in
-    noted_test c.args.self.now record { sizes = c.args.self.now.sizes; parents = c.args.self.now.parents; all_there = c.if-self.self } _ refl refl there
+    let in_range : c.if-self.self ≡ (c.args.self.now.all_in_range && nat_lt c.args.id c.args.self.now.sizes.lifetimes) = first_of (search rules, grind (arith, common_steps)) in
+    noted_test c.args.self.now record { sizes = c.args.self.now.sizes; parents = c.args.self.now.parents; all_in_range = c.if-self.self } _ refl refl in_range

@@ -9,7 +9,7 @@ unreachable-requires c =
     let e = c.in-None.ensures ∙ at.1 in
     cc
 
-pub returns-clause-there : goal.returns-clause-there
-returns-clause-there c =
+pub returns-clause-in_range : goal.returns-clause-in_range
+returns-clause-in_range c =
     let b = body_of c.self.inside.store c.self.inside.params c.self.inside.self_param in
     root_below b c.self.invariant c.args.self.now c.self.view_is (c.roots_stand_apart.ensures b.store c.has_no_fault.ensures) c.in-Some.root (sym c.in-Some.ensures)

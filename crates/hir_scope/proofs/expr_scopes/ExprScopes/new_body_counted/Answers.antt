@@ -1,7 +1,7 @@
 use Rattle.std.proofs.Common.{rules, ◌+◌, ◌<◌, ◌≤◌, [], length, refl, arith}
 use Rattle.hir_items.specs.Bodies.{body_nodes}
 use Rattle.hir_scope.specs.{BodyScopes.expr_count, BodyScopes.limit, walk.Begins.root_entries}
-use Rattle.hir_scope.specs.walk.Machine.{machine, state, Exceeds}
+use Rattle.hir_scope.specs.walk.WalkState.{walk_state, state, Exceeds}
 use Rattle.hir_scope.proofs.BuiltLemmas.{body_starts, body_at_most, body_fails, body_made, body_ticks, root_fails}
 use Rattle.hir_scope.proofs.expr_scopes.ExprScopes.new_body_counted.Goals as goal
 
@@ -32,9 +32,9 @@ returns-in_err-run-clause-full c = λ h.
 pub returns-clause-scopes : goal.returns-clause-scopes
 returns-clause-scopes c =
     let walk = c.in_ok-walk in
-    body_made c.args.body.now c.is_sound_body.ensures _ c.store.ensures (state walk.walk) walk.ensures.ok (machine c.run.new.self []) _ _ c.in_ok-run.ensures.gone refl
+    body_made c.args.body.now c.is_sound_body.ensures _ c.store.ensures (state walk.walk) walk.ensures.ok (walk_state c.run.new.self []) _ _ c.in_ok-run.ensures.gone refl
 
 pub returns-clause-once : goal.returns-clause-once
 returns-clause-once c =
     let walk = c.in_ok-walk in
-    body_ticks c.args.body.now c.is_sound_body.ensures _ c.store.ensures (state walk.walk) walk.ensures.ok (machine c.run.new.self []) _ _ c.in_ok-run.ensures.gone refl
+    body_ticks c.args.body.now c.is_sound_body.ensures _ c.store.ensures (state walk.walk) walk.ensures.ok (walk_state c.run.new.self []) _ _ c.in_ok-run.ensures.gone refl

@@ -1,5 +1,5 @@
 use Rattle.std.proofs.Common.{rules, [], refl}
-use Rattle.hir_scope.specs.walk.Machine.{machine, state, Exceeds}
+use Rattle.hir_scope.specs.walk.WalkState.{walk_state, state, Exceeds}
 use Rattle.hir_scope.proofs.BuiltLemmas.{signature_starts, signature_fails, signature_made}
 use Rattle.hir_scope.proofs.expr_scopes.ExprScopes.new_store.Goals as goal
 
@@ -17,4 +17,4 @@ returns-in_err-run-clause-full c = λ h.
 pub returns-clause-scopes : goal.returns-clause-scopes
 returns-clause-scopes c =
     let walk = c.in_ok-walk in
-    signature_made c.args.store.now c.is_sound_store.ensures (state walk.walk) walk.ensures.ok (machine c.run.new.self []) _ _ c.in_ok-run.ensures.gone refl
+    signature_made c.args.store.now c.is_sound_store.ensures (state walk.walk) walk.ensures.ok (walk_state c.run.new.self []) _ _ c.in_ok-run.ensures.gone refl

@@ -1,5 +1,5 @@
-use Rattle.hir_scope.proofs.PutLemmas.{turned}
+use Rattle.hir_scope.proofs.DeferLemmas.{turned}
 use Rattle.hir_scope.proofs.tasks.Tasks.push_in_expr.Goals as goal
 
 pub returns-clause-ok : goal.returns-clause-ok
-returns-clause-ok c = turned c.put_in_expr.ensures c.len-below.ensures c.in_ok-turn_over.ensures
+returns-clause-ok c = turned c.defer_in_expr.ensures c.len-below.ensures c.in_ok-push_deferred.ensures

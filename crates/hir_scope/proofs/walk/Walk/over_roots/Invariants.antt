@@ -1,12 +1,12 @@
 use Rattle.std.proofs.Common.{◌≡◌, ◌++◌, ℕ, List, [], length}
 use Rattle.hir_forest.specs.Faults.{root_nodes}
-use Rattle.hir_scope.specs.walk.{Begins.roots_begin, Machine.machine}
+use Rattle.hir_scope.specs.walk.{Begins.roots_begin, WalkState.walk_state}
 use Rattle.hir_scope.proofs.walk.Walk.over_roots.Given as goal
 
 abbrev pub invariant-loop-root : goal.invariant-loop-root
 invariant-loop-root l =
     (l.root_scope ≡ 0) × (l.none.items ≡ [])
-    × ((met : List ℕ) × (root_nodes l.store.roots ≡ l.roots ++ met) × (machine l.walk l.walk.tasks.stack.items ≡ roots_begin met))
+    × ((met : List ℕ) × (root_nodes l.store.roots ≡ l.roots ++ met) × (walk_state l.walk l.walk.tasks.stack.items ≡ roots_begin met))
 
 abbrev pub decreases-loop-root : goal.decreases-loop-root
 decreases-loop-root l = length l.roots

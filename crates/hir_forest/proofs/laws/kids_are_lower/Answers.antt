@@ -1,5 +1,0 @@
-use Rattle.hir_forest.proofs.HeightLemmas.{height_falls}
-use Rattle.hir_forest.proofs.laws.kids_are_lower.Goals as goal
-
-pub returns : goal.returns
-returns c = height_falls

@@ -1,0 +1,12 @@
+use Rattle.hir_node.proofs.RunLemmas.{going_from, going_item, going_over, may_freely}
+use Rattle.hir_scope.proofs.tasks.defer_each.Goals as goal
+
+pub loop-item-init : goal.loop-item-init
+loop-item-init g c = going_from (may_freely _)
+
+pub loop-item-preserved : goal.loop-item-preserved
+loop-item-preserved g c =
+    going_item g.T.Brings.tasks c.args.items.now c.loop-item.item-index c.item-item.result c.loop-item-test.true c.item-item.is c.loop-item.invariant c.defer.ensures
+
+pub returns : goal.returns
+returns g c = going_over g.T.Brings.tasks c.args.items.now c.loop-item.item-index c.loop-item-test.false c.loop-item.invariant

@@ -1,0 +1,55 @@
+-- The scoping form of a node: which nodes place their children by a rule of their own. Any other node meets its children in turn.
+use Rattle.std.specs.Prelude.{ℕ, List, [], Option, Some, None, slice_get}
+use Rattle.hir_node.specs.ChildCalls.{Call, expr_calls, pat_calls, type_calls}
+use Rattle.hir_node.specs.declared.expr.Expr.{Expr}
+use Rattle.hir_node.specs.declared.expr_types.{MatchArm.MatchArm, Statement.Statement}
+use Rattle.hir_node.specs.declared.{node_id.NodeId.NodeId, pat.Pat.Pat, type_ref.TypeRef.TypeRef}
+use Rattle.hir_faults.specs.Nodes.{Nodes}
+
+pub data ScopingForm : Type 0 where
+  -- the condition, then, else
+  If : ℕ → ℕ → Option ℕ → ScopingForm
+  -- `let` in a condition: the pattern, the expression
+  Let : ℕ → ℕ → ScopingForm
+  -- the block's id, its label, its statements, its tail
+  Block : Option ℕ → Option ℕ → List Statement → Option ℕ → ScopingForm
+  -- the label, the body
+  Loop : Option ℕ → ℕ → ScopingForm
+  -- the types of the arguments, the return type, the arguments, the body
+  Closure : List (Option ℕ) → Option ℕ → List ℕ → ℕ → ScopingForm
+  -- the scrutinee, the arms
+  Match : ℕ → List MatchArm → ScopingForm
+  -- the target, the value
+  Assignment : ℕ → ℕ → ScopingForm
+  -- a type with a pattern: the type, the pattern
+  PatternType : ℕ → ℕ → ScopingForm
+  -- any other node, by its child calls
+  InTurn : List Call → ScopingForm
+
+abbrev pub expr_form : Expr → ScopingForm
+expr_form (Expr.If condition then_branch else_branch) = If condition then_branch else_branch
+expr_form (Expr.Let pat expr) = Let pat expr
+expr_form (Expr.Block id statements tail label unsafe_) = Block id label statements tail
+expr_form (Expr.Loop body label source) = Loop label body
+expr_form (Expr.Closure args arg_types ret_type body closure_kind capture_by) =
+    Closure arg_types ret_type args body
+expr_form (Expr.Match scrutinee arms) = Match scrutinee arms
+expr_form (Expr.Assignment target value) = Assignment target value
+expr_form x = InTurn (expr_calls x)
+
+abbrev pub pat_form : Pat → ScopingForm
+pat_form x = InTurn (pat_calls x)
+
+abbrev pub type_form : TypeRef → ScopingForm
+type_form (TypeRef.PatternType id pat) = PatternType id pat
+type_form x = InTurn (type_calls x)
+
+-- that of what is there
+abbrev pub form_at : {X : Type 0} → (X → ScopingForm) → Option X → ScopingForm
+form_at form None = InTurn []
+form_at form (Some x) = form x
+
+abbrev pub form_of : Nodes → NodeId → ScopingForm
+form_of s (NodeId.Expr id) = form_at expr_form (slice_get s.exprs id)
+form_of s (NodeId.Pat id) = form_at pat_form (slice_get s.pats id)
+form_of s (NodeId.TypeRef id) = form_at type_form (slice_get s.types id)

@@ -1,0 +1,223 @@
+//! The scopes of a body or a signature, made by a walk over what it reaches; and where the walk begins.
+ghost use Rattle.std.specs.Prelude.{◌≡◌, ◌+◌, ◌<◌, ◌≤◌, ◌∷◌, ◌++◌, [], length, option_map, Err, IfOk, OnErr, OnOk};
+ghost use Rattle.std.specs.List.{All, flat_map};
+ghost use Rattle.hir_faults.specs.TestedParts.{all_of};
+ghost use Rattle.hir_items.specs.Bodies.{AreBelow, body_nodes, formals_of};
+ghost use Rattle.hir_scope.specs.BodyScopes.{AreBodyScopes, AreSignatureScopes, BodyIsTooLarge, SignatureIsTooLarge, expr_count};
+ghost use Rattle.hir_scope.specs.Frames.{entry_at, binds};
+ghost use Rattle.hir_scope.specs.walk.Begins.{IsSoundBody, IsSoundStore, at_first, for_none, root_entries, body_root, body_begins, formal_tasks, signature_begins};
+ghost use Rattle.hir_scope.specs.walk.WalkState.{state};
+
+use crate::entries::{add_entry, add_pat};
+use crate::expr_scopes::ExprScopes;
+use crate::fault::ScopesFault;
+use crate::scope::{ScopeEntry, ScopeId, ScopeKind};
+use crate::tasks::{CurrentScopes, Task, Tasks};
+use crate::walk::Walk;
+use hir_base::{MOST_ITEMS, Steps};
+use hir_expr_store::ExpressionStore;
+use hir_expr_store::laws::{
+    bindings_in_unfold, rank_decreases, nodes_are_sound, nodes_under_unfold, roots_stand_apart,
+};
+use hir_items::body_laws::entry_nodes_are_in_range;
+use hir_items::{Body, Param};
+use hir_node::{BindingId, PatId};
+use hir_stack::Stack;
+use std::alloc::Global;
+
+/// Tells a proof what the laws say of the store, and does nothing.
+fn is_sound_store(store: &ExpressionStore)
+    ensures { IsSoundStore store.now }
+{
+    store.has_no_fault();
+    rank_decreases();
+    nodes_under_unfold();
+    bindings_in_unfold();
+    nodes_are_sound();
+    roots_stand_apart();
+}
+
+/// Tells a proof what the laws say of the body, and does nothing.
+fn is_sound_body(body: &Body)
+    ensures { IsSoundBody body.now }
+{
+    let store = body.store();
+    is_sound_store(store);
+    store.has_no_fault();
+    body.has_no_fault();
+    entry_nodes_are_in_range();
+    // (its contract says that the binding of `self` is in the store)
+    let _ = body.self_param();
+}
+
+/// Appends the entry of `self`, where there is one.
+fn add_self(
+    entries: &mut Vec<ScopeEntry>,
+    store: &ExpressionStore,
+    self_param: Option<Param<BindingId>>,
+) -> Result<(), ScopesFault>
+    ensures ok { OnOk result (entries.new.items ≡ entries.old.items
+        ++ all_of (entry_at store.now.nodes) (option_map (λ p. p.formal) self_param)) }
+    ensures memory { OnErr result (result ≡ Err ScopesFault.Memory) }
+{
+    match self_param {
+        None => Ok(()),
+        Some(param) => add_entry(entries, store, param.formal),
+    }
+}
+
+/// Appends the entries of what the formals bind.
+fn add_formals(
+    entries: &mut Vec<ScopeEntry>,
+    store: &ExpressionStore,
+    params: &[Param<PatId>],
+) -> Result<(), ScopesFault>
+    requires { All (AreBelow (length store.now.nodes.pats)) params.now }
+    ensures ok { OnOk result (entries.new.items ≡ entries.old.items
+        ++ flat_map (binds store.now.nodes) (formals_of params.now)) }
+    ensures memory { OnErr result (result ≡ Err ScopesFault.Memory) }
+{
+    for param in params {
+        add_pat(entries, store, param.formal)?;
+    }
+    Ok(())
+}
+
+/// Pushes the formals, the first on top.
+fn push_formals(tasks: &mut Tasks, params: &[Param<PatId>]) -> Result<(), ScopesFault>
+    ensures ok { OnOk result (tasks.new.stack.items
+        ≡ formal_tasks (formals_of params.now) ++ tasks.old.stack.items) }
+    ensures memory { OnErr result (result ≡ Err ScopesFault.Memory) }
+{
+    let mut rest = params.len();
+    while rest > 0 {
+        rest -= 1;
+        tasks.push(Task::Pat(params[rest].formal))?;
+    }
+    Ok(())
+}
+
+impl Walk {
+    /// A walk without scopes, with nothing to do. It has room for the scopes of the store's expressions, and for an entry of each binding.
+    fn new(alloc: Global, store: &ExpressionStore) -> Result<Walk, ScopesFault>
+        ensures scopes { IfOk result (λ walk. walk.scopes ≡ for_none []) }
+        ensures current { IfOk result (λ walk. walk.current ≡ at_first) }
+        ensures tasks { IfOk result (λ walk. walk.tasks.stack.items ≡ []) }
+        ensures entries { IfOk result (λ walk. walk.entries.items ≡ []) }
+        ensures memory { OnErr result (result ≡ Err ScopesFault.Memory) }
+    {
+        let first = ScopeId::from_raw(0);
+        Ok(Walk {
+            scopes: ExprScopes::with_room(alloc, store.exprs().len(), store.bindings().len())?,
+            current: CurrentScopes {
+                scope: first,
+                const_scope: first,
+            },
+            tasks: Tasks {
+                stack: Stack::new(alloc),
+            },
+            entries: Vec::new(alloc),
+        })
+    }
+
+    /// Opens the root scope of a body: what `self` and the formals bind.
+    fn open_root(&mut self, body: &Body) -> Result<(), ScopesFault>
+        requires scopes { self.old.scopes ≡ for_none [] }
+        requires entries { self.old.entries.items ≡ [] }
+        ensures ok { OnOk result (self.new.scopes ≡ for_none (body_root body.now ∷ [])) }
+        ensures current { self.new.current ≡ self.old.current }
+        ensures tasks { self.new.tasks ≡ self.old.tasks }
+        ensures full { result ≡ Err ScopesFault.Full → MOST_ITEMS < length (root_entries body.now) }
+        ensures missing { result ≡ Err ScopesFault.Missing → ⊥ }
+    {
+        let store = body.store();
+        let entries = &mut self.entries;
+        add_self(entries, store, body.self_param())?;
+        add_formals(entries, store, body.params())?;
+        self.scopes.new_scope(None, ScopeKind::None, entries)?;
+        Ok(())
+    }
+
+    /// The walk over a body, before its first step.
+    fn over_body(alloc: Global, body: &Body) -> Result<Walk, ScopesFault>
+        ensures ok { IfOk result (λ walk. state walk ≡ body_begins body.now) }
+        ensures full { result ≡ Err ScopesFault.Full → MOST_ITEMS < length (root_entries body.now) }
+        ensures missing { result ≡ Err ScopesFault.Missing → ⊥ }
+    {
+        let mut walk = Walk::new(alloc, body.store())?;
+        walk.open_root(body)?;
+        walk.tasks.push(Task::Expr(body.root_expr()))?;
+        push_formals(&mut walk.tasks, body.params())?;
+        Ok(walk)
+    }
+
+    /// The walk over a signature, before its first step: a scope for each root in the root scope, which is empty.
+    fn over_roots(alloc: Global, store: &ExpressionStore) -> Result<Walk, ScopesFault>
+        ensures ok { IfOk result (λ walk. state walk ≡ signature_begins store.now) }
+        ensures full { result ≡ Err ScopesFault.Full → MOST_ITEMS < 1 + length store.now.roots }
+        ensures missing { result ≡ Err ScopesFault.Missing → ⊥ }
+    {
+        let mut walk = Walk::new(alloc, store)?;
+        let mut none = Vec::new(alloc);
+        let root_scope = walk.scopes.new_scope(None, ScopeKind::None, &mut none)?;
+        let mut roots = store.expr_roots();
+        while let Some(root) = roots.next_back() {
+            let scope = walk
+                .scopes
+                .new_scope(Some(root_scope), ScopeKind::None, &mut none)?;
+            walk.tasks.push(Task::Expr(root))?;
+            walk.tasks.push(Task::Leave(scope, scope))?;
+        }
+        Ok(walk)
+    }
+}
+
+impl ExprScopes {
+    /// The scopes of a body: each expression that the body reaches, from its formals and its last root, gets its scope, and no other.
+    ///
+    /// Answers `Full` only where the body needs more than 2^32 - 1 scopes or entries, and `Memory` where room was refused. It takes
+    /// time in the number of nodes and entries, and doesn't recurse.
+    pub fn new_body(alloc: Global, body: &Body) -> Result<ExprScopes, ScopesFault>
+        ensures scopes { IfOk result (AreBodyScopes body.now) }
+        ensures full { result ≡ Err ScopesFault.Full → BodyIsTooLarge body.now }
+        ensures missing { result ≡ Err ScopesFault.Missing → ⊥ }
+    {
+        let mut steps = Steps::new();
+        ExprScopes::new_body_counted(alloc, body, &mut steps)
+    }
+
+    /// The same, counting a step for each expression that gets its scope: each that the body reaches gets it once.
+    pub fn new_body_counted(
+        alloc: Global,
+        body: &Body,
+        steps: &mut Steps,
+    ) -> Result<ExprScopes, ScopesFault>
+        ensures scopes { IfOk result (AreBodyScopes body.now) }
+        ensures once { OnOk result (steps.new ≡ steps.old + expr_count (body_nodes body.now)) }
+        ensures rises { steps.old ≤ steps.new }
+        ensures most { OnErr result (steps.new ≤ steps.old + expr_count (body_nodes body.now)) }
+        ensures full { result ≡ Err ScopesFault.Full → BodyIsTooLarge body.now }
+        ensures missing { result ≡ Err ScopesFault.Missing → ⊥ }
+    {
+        is_sound_body(body);
+        let mut walk = Walk::over_body(alloc, body)?;
+        walk.run(body.store(), steps)?;
+        Ok(walk.scopes)
+    }
+
+    /// The scopes of a signature: each expression under a root of its store gets its scope, and no other.
+    ///
+    /// Answers `Full` only where more than 2^32 - 1 scopes or entries are needed, and `Memory` where room was refused. It takes
+    /// time in the number of nodes and entries, and doesn't recurse.
+    pub fn new_store(alloc: Global, store: &ExpressionStore) -> Result<ExprScopes, ScopesFault>
+        ensures scopes { IfOk result (AreSignatureScopes store.now) }
+        ensures full { result ≡ Err ScopesFault.Full → SignatureIsTooLarge store.now }
+        ensures missing { result ≡ Err ScopesFault.Missing → ⊥ }
+    {
+        is_sound_store(store);
+        let mut steps = Steps::new();
+        let mut walk = Walk::over_roots(alloc, store)?;
+        walk.run(store, &mut steps)?;
+        Ok(walk.scopes)
+    }
+}

@@ -1,0 +1,155 @@
+//! The scopes that a walk opens.
+
+ghost use Rattle.std.specs.Prelude.{◌≡◌, ◌<◌, [], ◌∷◌, ◌++◌, length, map, Err, IfOk, OnOk};
+ghost use Rattle.hir_node.specs.declared.node_id.NodeId.TheVariants as node;
+ghost use Rattle.hir_scope.specs.ScopingForms.{form_of};
+ghost use Rattle.hir_scope.specs.Frames.{frame_with, of_kind};
+ghost use Rattle.hir_scope.specs.ChildContexts.{block_const_frames, loop_kind, own_frame};
+ghost use Rattle.hir_scope.specs.Scopes.{frame_of};
+ghost use Rattle.hir_scope.specs.walk.WalkState.{state, AreInRange, OpensScopes, Over};
+ghost use Rattle.hir_scope.specs.walk.Pending.{opened_frames, opened_const_frames};
+
+use crate::entries::add_pats;
+use crate::fault::ScopesFault;
+use crate::scope::ScopeKind;
+use crate::walk::Walk;
+use hir_base::BlockId;
+use hir_expr_store::ExpressionStore;
+use hir_expr_store::laws::rank_decreases;
+use hir_node::{Expr, ExprId, LabelId, PatId};
+
+fn loop_kind(label: Option<LabelId>) -> ScopeKind
+    ensures { result ≡ loop_kind label }
+{
+    match label {
+        Some(label) => ScopeKind::Label(label),
+        None => ScopeKind::None,
+    }
+}
+
+impl Walk {
+    /// Opens a scope of this kind over the current one, with what patterns bind.
+    pub(crate) fn open(
+        &mut self,
+        store: &ExpressionStore,
+        kind: ScopeKind,
+        pats: &[PatId],
+    ) -> Result<(), ScopesFault>
+        requires in_range { AreInRange store.now.nodes (map node.Pat pats.now) }
+        requires scope { self.old.current.scope < length self.old.scopes.scopes }
+        requires const_scope { self.old.current.const_scope < length self.old.scopes.scopes }
+        ensures opened { IfOk result (λ _. OpensScopes (state self.old) (state self.new)
+            (frame_with store.now.nodes kind pats.now ∷ []) []) }
+        ensures full { result ≡ Err ScopesFault.Full → Over (map frame_of self.old.scopes.scopes
+            ++ frame_with store.now.nodes kind pats.now ∷ []) }
+        ensures missing { result ≡ Err ScopesFault.Missing → ⊥ }
+        ensures taken { OnOk result (self.new.entries.items ≡ []) }
+    {
+        let parent = Some(self.current.scope);
+        self.entries.clear();
+        add_pats(&mut self.entries, store, pats)?;
+        self.current.scope = self.scopes.new_scope(parent, kind, &mut self.entries)?;
+        Ok(())
+    }
+
+    /// Opens two scopes without entries: one over the current one, and one over that of constants.
+    pub(crate) fn open_both(
+        &mut self,
+        store: &ExpressionStore,
+        scope: ScopeKind,
+        const_scope: ScopeKind,
+    ) -> Result<(), ScopesFault>
+        requires scope { self.old.current.scope < length self.old.scopes.scopes }
+        requires const_scope { self.old.current.const_scope < length self.old.scopes.scopes }
+        ensures opened { IfOk result (λ _. OpensScopes (state self.old) (state self.new)
+            (of_kind scope ∷ []) (of_kind const_scope ∷ [])) }
+        ensures full { result ≡ Err ScopesFault.Full
+            → Over (map frame_of self.old.scopes.scopes ++ of_kind scope ∷ of_kind const_scope ∷ []) }
+        ensures missing { result ≡ Err ScopesFault.Missing → ⊥ }
+    {
+        self.open(store, scope, &[])?;
+        let parent = Some(self.current.const_scope);
+        self.current.const_scope = self.scopes.new_scope(parent, const_scope, &mut self.entries)?;
+        Ok(())
+    }
+
+    /// Opens the scopes of a block: where it has an id, one around its constants too.
+    fn open_block(
+        &mut self,
+        store: &ExpressionStore,
+        id: Option<BlockId>,
+        label: Option<LabelId>,
+    ) -> Result<(), ScopesFault>
+        requires scope { self.old.current.scope < length self.old.scopes.scopes }
+        requires const_scope { self.old.current.const_scope < length self.old.scopes.scopes }
+        ensures opened { IfOk result (λ _. OpensScopes (state self.old) (state self.new)
+            (own_frame id label ∷ []) (block_const_frames id)) }
+        ensures full { result ≡ Err ScopesFault.Full → Over (map frame_of self.old.scopes.scopes
+            ++ own_frame id label ∷ block_const_frames id) }
+        ensures missing { result ≡ Err ScopesFault.Missing → ⊥ }
+    {
+        match id {
+            None => self.open(store, loop_kind(label), &[]),
+            Some(id) => self.open_both(
+                store,
+                ScopeKind::Block { id, label },
+                ScopeKind::Block { id, label: None },
+            ),
+        }
+    }
+
+    /// Opens the scopes that an expression has around what is inside it.
+    // One arm a form: split, the function would name variants twice.
+    pub(crate) fn open_inside(
+        &mut self,
+        store: &ExpressionStore,
+        expr: ExprId,
+    ) -> Result<(), ScopesFault>
+        requires in_range { expr < length store.now.nodes.exprs }
+        requires scope { self.old.current.scope < length self.old.scopes.scopes }
+        requires const_scope { self.old.current.const_scope < length self.old.scopes.scopes }
+        ensures opened { IfOk result (λ _. OpensScopes (state self.old) (state self.new)
+            (opened_frames store.now.nodes (form_of store.now.nodes (node.Expr expr)))
+            (opened_const_frames (form_of store.now.nodes (node.Expr expr)))) }
+        ensures full { result ≡ Err ScopesFault.Full → Over (map frame_of self.old.scopes.scopes
+            ++ (opened_frames store.now.nodes (form_of store.now.nodes (node.Expr expr))
+            ++ opened_const_frames (form_of store.now.nodes (node.Expr expr)))) }
+        ensures missing { result ≡ Err ScopesFault.Missing → ⊥ }
+    {
+        store.has_no_fault();
+        rank_decreases();
+        match &store[expr] {
+            Expr::If { .. } => self.open(store, ScopeKind::None, &[]),
+            Expr::Block { id, label, .. } => self.open_block(store, *id, *label),
+            Expr::Loop { label, .. } => self.open(store, loop_kind(*label), &[]),
+            Expr::Closure { args, .. } => self.open(store, ScopeKind::None, args.as_slice()),
+            Expr::Assignment { target, .. } => self.open(store, ScopeKind::None, &[*target]),
+            Expr::Let { .. } | Expr::Match { .. } => Ok(()),
+            Expr::Missing
+            | Expr::Underscore
+            | Expr::IncludeBytes
+            | Expr::Literal(_)
+            | Expr::Continue { .. }
+            | Expr::Path(_)
+            | Expr::Array(_)
+            | Expr::OffsetOf(_)
+            | Expr::Const(_)
+            | Expr::Call { .. }
+            | Expr::MethodCall { .. }
+            | Expr::Break { .. }
+            | Expr::Return { .. }
+            | Expr::Yield { .. }
+            | Expr::Yeet { .. }
+            | Expr::Become { .. }
+            | Expr::Await { .. }
+            | Expr::Field { .. }
+            | Expr::Ref { .. }
+            | Expr::UnaryOp { .. }
+            | Expr::RecordLit { .. }
+            | Expr::Cast { .. }
+            | Expr::BinaryOp { .. }
+            | Expr::Index { .. }
+            | Expr::Tuple { .. } => Ok(()),
+        }
+    }
+}

@@ -1,5 +1,0 @@
-use Rattle.hir_store.proofs.BuildingLemmas.{finish_fault-one}
-use Rattle.hir_store.proofs.laws.first_fault_is_one.Goals as goal
-
-pub returns : goal.returns
-returns c = finish_fault-one
