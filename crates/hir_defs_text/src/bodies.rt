@@ -5,7 +5,7 @@ use crate::subject::{Finished, Subject, ask_accepted, ask_again};
 use hir_base::{DefWithBodyId, ExpressionStoreOwnerId, Idx};
 use hir_defs::{Body, BodyFault, BodySourceMap, Param, RefusedBody, Tables, TablesOf};
 use hir_node::BindingId;
-use hir_notation::{Answer, Stop, Words};
+use hir_notation::{Answer, TextError, Words};
 use hir_store::ExpressionStore;
 use hir_store_text::{answer_unknown, done_or_stop, refuse};
 use hir_words::value_of;
@@ -17,7 +17,7 @@ fn take_back(
     refused: RefusedBody,
     pending: &mut Pending,
     answer: &mut Answer,
-) -> Result<ExpressionStore, Stop> {
+) -> Result<ExpressionStore, TextError> {
     let RefusedBody {
         fault,
         store,
@@ -26,7 +26,7 @@ fn take_back(
     } = refused;
     pending.put_back_params(params, self_param);
     if fault == BodyFault::Memory {
-        return Err(Stop::Memory);
+        return Err(TextError::Memory);
     }
     refuse(alloc, &fault, answer)?;
     Ok(store)
@@ -40,7 +40,7 @@ pub(crate) fn make<F: Drop, S: Drop, P: Drop, V: Drop, M: Drop>(
     pending: &mut Pending,
     tables: &mut TablesOf<F, S, P, V, Body, M, BodySourceMap>,
     answer: &mut Answer,
-) -> Result<Subject, Stop> {
+) -> Result<Subject, TextError> {
     let (store, sources) = Box::into_inner(finished);
     let params = pending.take_params(alloc);
     match Body::new(alloc, store, params, pending.take_self()) {
@@ -115,7 +115,7 @@ enum Question {
 }
 
 /// The question of a line, where it is such a question.
-fn read(word: &[u8], words: &mut Words<'_>) -> Result<Option<Question>, Stop> {
+fn read(word: &[u8], words: &mut Words<'_>) -> Result<Option<Question>, TextError> {
     let question = match value_of(&KINDS, word) {
         Some(Kind::Parts) => Question::Parts,
         Some(Kind::IsSelf) => Question::IsSelf(words.next_id()?),
@@ -142,7 +142,7 @@ pub fn ask_of_body(
     word: &[u8],
     words: &mut Words<'_>,
     answer: &mut Answer,
-) -> Result<bool, Stop> {
+) -> Result<bool, TextError> {
     let Some(question) = read(word, words)? else {
         return Ok(false);
     };

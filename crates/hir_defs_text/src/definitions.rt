@@ -13,7 +13,7 @@ use hir_defs::{
     PlainSignature, RefusedSignature, SignatureFault, StructParts, StructSignature, Tables,
     TablesOf, VariantFields, VariantParts,
 };
-use hir_notation::{Answer, Stop, Words, as_def_with_body, as_variant, next_def};
+use hir_notation::{Answer, TextError, Words, as_def_with_body, as_variant, next_def};
 use hir_store::{ExpressionStore, ExpressionStoreSourceMap};
 use hir_store_text::{done_or_stop, refuse};
 use hir_words::value_of;
@@ -48,7 +48,7 @@ const KINDS: [(&str, Kind); 5] = [
 ];
 
 /// What stands behind the first word.
-fn read_kind(alloc: Global, kind: Kind, words: &mut Words<'_>) -> Result<Definition, Stop> {
+fn read_kind(alloc: Global, kind: Kind, words: &mut Words<'_>) -> Result<Definition, TextError> {
     match kind {
         Kind::Body => Ok(Definition::Body(as_def_with_body(next_def(words)?)?)),
         Kind::Function => {
@@ -68,7 +68,11 @@ fn read_kind(alloc: Global, kind: Kind, words: &mut Words<'_>) -> Result<Definit
 }
 
 /// What a line makes of a finished store, where it is such a line.
-pub fn read(alloc: Global, word: &[u8], words: &mut Words<'_>) -> Result<Option<Definition>, Stop> {
+pub fn read(
+    alloc: Global,
+    word: &[u8],
+    words: &mut Words<'_>,
+) -> Result<Option<Definition>, TextError> {
     let Some(kind) = value_of(&KINDS, word) else {
         return Ok(None);
     };
@@ -102,9 +106,13 @@ impl Parts for PlainParts {
 }
 
 /// The answer is why a definition is refused.
-fn refuse_signature(alloc: Global, fault: SignatureFault, answer: &mut Answer) -> Result<(), Stop> {
+fn refuse_signature(
+    alloc: Global,
+    fault: SignatureFault,
+    answer: &mut Answer,
+) -> Result<(), TextError> {
     if fault == SignatureFault::Memory {
-        return Err(Stop::Memory);
+        return Err(TextError::Memory);
     }
     Ok(refuse(alloc, &fault, answer)?)
 }
@@ -116,7 +124,7 @@ fn take_back<P: Parts>(
     sources: ExpressionStoreSourceMap,
     pending: &mut Pending,
     answer: &mut Answer,
-) -> Result<Subject, Stop> {
+) -> Result<Subject, TextError> {
     refuse_signature(alloc, refused.fault, answer)?;
     let (generic_params, store) = refused.parts.take_apart();
     pending.put_back_generics(&generic_params)?;
@@ -131,7 +139,7 @@ fn make_function<S: Drop, P: Drop, V: Drop, B: Drop, N: Drop>(
     pending: &mut Pending,
     tables: &mut TablesOf<FunctionSignature, S, P, V, B, ExpressionStoreSourceMap, N>,
     answer: &mut Answer,
-) -> Result<Subject, Stop> {
+) -> Result<Subject, TextError> {
     let (store, sources) = Box::into_inner(finished);
     match FunctionSignature::new(line.parts(pending.take_generics(alloc), store)) {
         Ok(signature) => {
@@ -151,7 +159,7 @@ fn make_struct<F: Drop, P: Drop, V: Drop, B: Drop, N: Drop>(
     pending: &mut Pending,
     tables: &mut TablesOf<F, StructSignature, P, V, B, ExpressionStoreSourceMap, N>,
     answer: &mut Answer,
-) -> Result<Subject, Stop> {
+) -> Result<Subject, TextError> {
     let (store, sources) = Box::into_inner(finished);
     match StructSignature::new(line.parts(pending.take_generics(alloc), store)) {
         Ok(signature) => {
@@ -170,7 +178,7 @@ fn make_plain<F: Drop, S: Drop, V: Drop, B: Drop, N: Drop>(
     pending: &mut Pending,
     tables: &mut TablesOf<F, S, PlainSignature, V, B, ExpressionStoreSourceMap, N>,
     answer: &mut Answer,
-) -> Result<Subject, Stop> {
+) -> Result<Subject, TextError> {
     let (store, sources) = Box::into_inner(finished);
     let generic_params = pending.take_generics(alloc);
     match PlainSignature::new(PlainParts {
@@ -192,7 +200,7 @@ fn take_fields_back(
     sources: ExpressionStoreSourceMap,
     pending: &mut Pending,
     answer: &mut Answer,
-) -> Result<Subject, Stop> {
+) -> Result<Subject, TextError> {
     refuse_signature(alloc, refused.fault, answer)?;
     let VariantParts { fields, store, .. } = refused.parts;
     pending.put_back_fields(fields);
@@ -207,7 +215,7 @@ fn make_variant<F: Drop, S: Drop, P: Drop, B: Drop, N: Drop>(
     pending: &mut Pending,
     tables: &mut TablesOf<F, S, P, VariantFields, B, ExpressionStoreSourceMap, N>,
     answer: &mut Answer,
-) -> Result<Subject, Stop> {
+) -> Result<Subject, TextError> {
     let (store, sources) = Box::into_inner(finished);
     let fields = pending.take_fields(alloc);
     match VariantFields::new(VariantParts {
@@ -232,7 +240,7 @@ pub fn make(
     pending: &mut Pending,
     tables: &mut Tables,
     answer: &mut Answer,
-) -> Result<Subject, Stop> {
+) -> Result<Subject, TextError> {
     match definition {
         Definition::Body(def) => bodies::make(alloc, &def, finished, pending, tables, answer),
         Definition::Function(id, line) => {

@@ -2,11 +2,11 @@
 
 use hir_base::Idx;
 use hir_defs::{FieldData, FieldsShape, RawVisibility};
-use hir_notation::{Answer, Stop, Words, join_mod_path, read_mod_path};
+use hir_notation::{Answer, TextError, Words, join_mod_path, read_mod_path};
 use std::alloc::{AllocError, Global};
 
 /// The number behind `default:`, where it is there.
-fn opt_default<K>(words: &mut Words<'_>) -> Result<Option<Idx<K>>, Stop> {
+fn opt_default<K>(words: &mut Words<'_>) -> Result<Option<Idx<K>>, TextError> {
     if words.prefix(b"default:") {
         return Ok(Some(words.id()?));
     }
@@ -14,7 +14,7 @@ fn opt_default<K>(words: &mut Words<'_>) -> Result<Option<Idx<K>>, Stop> {
 }
 
 /// What stands in the parentheses of a visibility.
-fn read_limit(words: &mut Words<'_>, alloc: Global) -> Result<RawVisibility, Stop> {
+fn read_limit(words: &mut Words<'_>, alloc: Global) -> Result<RawVisibility, TextError> {
     match words.keyword() {
         b"crate" => Ok(RawVisibility::PubCrate),
         b"self" => Ok(RawVisibility::PubSelf),
@@ -22,12 +22,12 @@ fn read_limit(words: &mut Words<'_>, alloc: Global) -> Result<RawVisibility, Sto
             words.expect(b":")?;
             Ok(RawVisibility::Module(read_mod_path(words, alloc)?))
         }
-        _ => Err(Stop::Bad),
+        _ => Err(TextError::Syntax),
     }
 }
 
 /// A visibility behind a space.
-fn next_visibility(words: &mut Words<'_>, alloc: Global) -> Result<RawVisibility, Stop> {
+fn next_visibility(words: &mut Words<'_>, alloc: Global) -> Result<RawVisibility, TextError> {
     words.expect(b" pub")?;
     if words.is_word_end() {
         return Ok(RawVisibility::Public);
@@ -39,7 +39,7 @@ fn next_visibility(words: &mut Words<'_>, alloc: Global) -> Result<RawVisibility
 }
 
 /// What stands behind `field`.
-pub(crate) fn read_field(words: &mut Words<'_>, alloc: Global) -> Result<FieldData, Stop> {
+pub(crate) fn read_field(words: &mut Words<'_>, alloc: Global) -> Result<FieldData, TextError> {
     let name = words.next_name(alloc)?;
     let type_ref = words.next_id()?;
     let visibility = next_visibility(words, alloc)?;
@@ -55,12 +55,12 @@ pub(crate) fn read_field(words: &mut Words<'_>, alloc: Global) -> Result<FieldDa
 }
 
 /// How fields are written, behind a space.
-pub(crate) fn next_shape(words: &mut Words<'_>) -> Result<FieldsShape, Stop> {
+pub(crate) fn next_shape(words: &mut Words<'_>) -> Result<FieldsShape, TextError> {
     match words.next_keyword()? {
         b"record" => Ok(FieldsShape::Record),
         b"tuple" => Ok(FieldsShape::Tuple),
         b"unit" => Ok(FieldsShape::Unit),
-        _ => Err(Stop::Bad),
+        _ => Err(TextError::Syntax),
     }
 }
 

@@ -3,7 +3,7 @@
 use hir_base::{GenericDefId, LocalLifetimeParamId, Name};
 use hir_defs::GenericParams;
 use hir_notation::{
-    Answer, Stop, Words, write_lifetime_param, write_predicate, write_type_or_const,
+    Answer, TextError, Words, write_lifetime_param, write_predicate, write_type_or_const,
 };
 use std::alloc::{AllocError, Global};
 
@@ -40,7 +40,11 @@ pub(crate) enum Question {
 }
 
 /// What stands in front of the definition.
-pub(crate) fn read(alloc: Global, kind: Kind, words: &mut Words<'_>) -> Result<Question, Stop> {
+pub(crate) fn read(
+    alloc: Global,
+    kind: Kind,
+    words: &mut Words<'_>,
+) -> Result<Question, TextError> {
     match kind {
         Kind::Counts => Ok(Question::Counts),
         Kind::TypesAndConsts => Ok(Question::TypesAndConsts),

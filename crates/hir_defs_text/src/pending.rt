@@ -9,7 +9,7 @@ use hir_defs::{
 };
 use hir_node::{BindingId, PatId};
 use hir_notation::{
-    Stop, Words, next_source, pointer, read_const_param, read_lifetime_param, read_type_param,
+    TextError, Words, next_source, pointer, read_const_param, read_lifetime_param, read_type_param,
     read_where, read_where_lifetime,
 };
 use hir_words::value_of;
@@ -29,7 +29,7 @@ pub struct Pending {
 }
 
 /// A parameter: the formal, and what the user wrote, which is the same where it is left out.
-fn read_param<K>(words: &mut Words<'_>) -> Result<Param<Idx<K>>, Stop> {
+fn read_param<K>(words: &mut Words<'_>) -> Result<Param<Idx<K>>, TextError> {
     let formal = words.next_number()?;
     let user_written = if words.is_end() {
         formal
@@ -69,12 +69,12 @@ const KINDS: [(&str, Kind); 9] = [
 ];
 
 /// Puts what was read behind the others.
-fn push<T: Drop>(list: &mut Seq<T>, item: Result<T, Stop>) -> Result<(), Stop> {
+fn push<T: Drop>(list: &mut Seq<T>, item: Result<T, TextError>) -> Result<(), TextError> {
     Ok(list.push(item?)?)
 }
 
 /// The same in an arena.
-fn put<K, T: Drop>(arena: &mut Arena<K, T>, item: Result<T, Stop>) -> Result<(), Stop> {
+fn put<K, T: Drop>(arena: &mut Arena<K, T>, item: Result<T, TextError>) -> Result<(), TextError> {
     let _ = arena.alloc(item?)?;
     Ok(())
 }
@@ -94,7 +94,7 @@ impl Pending {
     }
 
     /// Adds what a line of this kind says.
-    fn add(&mut self, alloc: Global, kind: Kind, words: &mut Words<'_>) -> Result<(), Stop> {
+    fn add(&mut self, alloc: Global, kind: Kind, words: &mut Words<'_>) -> Result<(), TextError> {
         match kind {
             Kind::Param => push(&mut self.params, read_param(words)),
             Kind::SelfParam => {
@@ -120,7 +120,7 @@ impl Pending {
         alloc: Global,
         word: &[u8],
         words: &mut Words<'_>,
-    ) -> Result<bool, Stop> {
+    ) -> Result<bool, TextError> {
         let Some(kind) = value_of(&KINDS, word) else {
             return Ok(false);
         };
@@ -163,7 +163,7 @@ impl Pending {
     }
 
     /// Lets the generic parameters of a signature that was refused wait again.
-    pub(crate) fn put_back_generics(&mut self, generics: &GenericParams) -> Result<(), Stop> {
+    pub(crate) fn put_back_generics(&mut self, generics: &GenericParams) -> Result<(), TextError> {
         for (_, param) in generics.iter_type_or_consts() {
             let _ = self.type_or_consts.alloc(param.try_clone()?)?;
         }

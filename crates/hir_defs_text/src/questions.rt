@@ -13,7 +13,7 @@ use hir_defs::{
     Signatures, StructSignature, Tables, TablesOf, VariantFields,
 };
 use hir_notation::{
-    Answer, Stop, Words, as_def_with_body, as_generic, as_named, as_variant, next_def,
+    Answer, TextError, Words, as_def_with_body, as_generic, as_named, as_variant, next_def,
     next_edition, syntax, write_source,
 };
 use hir_store::ExpressionStore;
@@ -90,7 +90,7 @@ enum Question {
 }
 
 /// A definition that has generic parameters, behind a space.
-fn next_generic(words: &mut Words<'_>) -> Result<GenericDefId, Stop> {
+fn next_generic(words: &mut Words<'_>) -> Result<GenericDefId, TextError> {
     as_generic(next_def(words)?)
 }
 
@@ -99,7 +99,7 @@ fn read_generics(
     alloc: Global,
     kind: generics::Kind,
     words: &mut Words<'_>,
-) -> Result<Question, Stop> {
+) -> Result<Question, TextError> {
     let question = generics::read(alloc, kind, words)?;
     match next_generic(words) {
         Ok(def) => Ok(Question::Generics(question, def)),
@@ -108,7 +108,7 @@ fn read_generics(
 }
 
 /// What stands behind the first word.
-fn read(alloc: Global, kind: Kind, words: &mut Words<'_>) -> Result<Question, Stop> {
+fn read(alloc: Global, kind: Kind, words: &mut Words<'_>) -> Result<Question, TextError> {
     match kind {
         Kind::Name => Ok(Question::Name(as_named(next_def(words)?)?)),
         Kind::CrateName => Ok(Question::CrateName(words.next_def()?)),
@@ -125,7 +125,11 @@ fn read(alloc: Global, kind: Kind, words: &mut Words<'_>) -> Result<Question, St
 }
 
 /// The question of a line, where it is such a question.
-fn read_line(alloc: Global, word: &[u8], words: &mut Words<'_>) -> Result<Option<Question>, Stop> {
+fn read_line(
+    alloc: Global,
+    word: &[u8],
+    words: &mut Words<'_>,
+) -> Result<Option<Question>, TextError> {
     let Some(kind) = value_of(&KINDS, word) else {
         return Ok(None);
     };
@@ -290,7 +294,7 @@ fn ask_beside<T: Signatures>(
     tables: &T,
     words: &mut Words<'_>,
     answer: &mut Answer,
-) -> Result<bool, Stop> {
+) -> Result<bool, TextError> {
     let def = next_generic(words)?;
     let word = words.next_keyword()?;
     let (params, store, sources) = match GenericParams::with_source_map(tables, def) {
@@ -314,7 +318,7 @@ pub fn ask(
     word: &[u8],
     words: &mut Words<'_>,
     answer: &mut Answer,
-) -> Result<bool, Stop> {
+) -> Result<bool, TextError> {
     if word == b"beside".as_slice() {
         return ask_beside(alloc, tables, words, answer);
     }

@@ -4,7 +4,7 @@ use crate::fields::next_shape;
 use hir_base::{ExternAbi, Id, Name, Seq};
 use hir_defs::{FieldsShape, FunctionParts, GenericParams, PlainDef, StructParts};
 use hir_node::TypeRefId;
-use hir_notation::{Def, DefKind, Stop, Words, opt_abi};
+use hir_notation::{Def, DefKind, TextError, Words, opt_abi};
 use hir_store::ExpressionStore;
 use std::alloc::Global;
 
@@ -31,7 +31,7 @@ pub struct StructLine {
 }
 
 /// The types of parameters, behind a space.
-fn next_types(words: &mut Words<'_>, alloc: Global) -> Result<Seq<TypeRefId>, Stop> {
+fn next_types(words: &mut Words<'_>, alloc: Global) -> Result<Seq<TypeRefId>, TextError> {
     let ids = words.next_ids(alloc)?;
     let mut types = Seq::new(alloc);
     for id in ids.as_slice() {
@@ -41,7 +41,7 @@ fn next_types(words: &mut Words<'_>, alloc: Global) -> Result<Seq<TypeRefId>, St
 }
 
 /// Numbers joined by `,`, or `-`.
-fn read_numbers(words: &mut Words<'_>, alloc: Global) -> Result<Seq<u32>, Stop> {
+fn read_numbers(words: &mut Words<'_>, alloc: Global) -> Result<Seq<u32>, TextError> {
     let mut numbers = Seq::new(alloc);
     if words.eat(b"-") {
         return Ok(numbers);
@@ -57,7 +57,7 @@ fn read_numbers(words: &mut Words<'_>, alloc: Global) -> Result<Seq<u32>, Stop> 
 }
 
 /// The numbers behind `legacy:`, where they are there.
-fn opt_legacy(words: &mut Words<'_>, alloc: Global) -> Result<Option<Seq<u32>>, Stop> {
+fn opt_legacy(words: &mut Words<'_>, alloc: Global) -> Result<Option<Seq<u32>>, TextError> {
     if words.prefix(b"legacy:") {
         return Ok(Some(read_numbers(words, alloc)?));
     }
@@ -65,7 +65,10 @@ fn opt_legacy(words: &mut Words<'_>, alloc: Global) -> Result<Option<Seq<u32>>, 
 }
 
 /// What stands behind the number of a function.
-pub(crate) fn read_function(words: &mut Words<'_>, alloc: Global) -> Result<FunctionLine, Stop> {
+pub(crate) fn read_function(
+    words: &mut Words<'_>,
+    alloc: Global,
+) -> Result<FunctionLine, TextError> {
     let name = words.next_name(alloc)?;
     let params = next_types(words, alloc)?;
     let ret_type = words.next_opt_id()?;
@@ -89,7 +92,7 @@ pub(crate) fn read_function(words: &mut Words<'_>, alloc: Global) -> Result<Func
 }
 
 /// What stands behind the number of a struct.
-pub(crate) fn read_struct(words: &mut Words<'_>, alloc: Global) -> Result<StructLine, Stop> {
+pub(crate) fn read_struct(words: &mut Words<'_>, alloc: Global) -> Result<StructLine, TextError> {
     let name = words.next_name(alloc)?;
     let shape = next_shape(words)?;
     let is_fundamental = words.flag(b"fundamental");
@@ -157,7 +160,7 @@ impl StructLine {
 }
 
 /// The definition as one whose signature keeps only the generic parameters.
-pub(crate) fn as_plain(def: Def) -> Result<PlainDef, Stop> {
+pub(crate) fn as_plain(def: Def) -> Result<PlainDef, TextError> {
     let number = def.number;
     match def.kind {
         DefKind::Impl => Ok(PlainDef::Impl(Id::from_raw(number))),
@@ -172,6 +175,6 @@ pub(crate) fn as_plain(def: Def) -> Result<PlainDef, Stop> {
         | DefKind::EnumVariant
         | DefKind::Macro2
         | DefKind::MacroRules
-        | DefKind::ProcMacro => Err(Stop::Bad),
+        | DefKind::ProcMacro => Err(TextError::Syntax),
     }
 }

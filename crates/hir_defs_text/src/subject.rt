@@ -1,7 +1,7 @@
 //! The store that questions ask.
 
 use hir_base::ExpressionStoreOwnerId;
-use hir_notation::{Answer, Stop};
+use hir_notation::{Answer, TextError};
 use hir_store::{ExpressionStore, ExpressionStoreSourceMap};
 use std::alloc::Global;
 
@@ -23,7 +23,7 @@ pub enum Subject {
 pub(crate) fn ask_accepted(
     owner: ExpressionStoreOwnerId,
     answer: &mut Answer,
-) -> Result<Subject, Stop> {
+) -> Result<Subject, TextError> {
     answer.word("accepted")?;
     Ok(Subject::Owner(owner))
 }
@@ -33,6 +33,6 @@ pub(crate) fn ask_again(
     alloc: Global,
     store: ExpressionStore,
     sources: ExpressionStoreSourceMap,
-) -> Result<Subject, Stop> {
+) -> Result<Subject, TextError> {
     Ok(Subject::Store(Box::new(alloc, (store, sources))?))
 }

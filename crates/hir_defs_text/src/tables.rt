@@ -2,7 +2,7 @@
 
 use hir_base::{CrateId, Edition, EnumId, EnumVariantId, NamedDef, Seq, StructId, Text};
 use hir_defs::{Repr, Tables};
-use hir_notation::{Stop, Words, as_named, next_def, next_edition};
+use hir_notation::{TextError, Words, as_named, next_def, next_edition};
 use hir_store_text::done_or_stop;
 use hir_words::value_of;
 use std::alloc::Global;
@@ -36,7 +36,7 @@ enum Entry {
 }
 
 /// A name or `-`, behind a space.
-fn next_opt_text(words: &mut Words<'_>, alloc: Global) -> Result<Option<Text>, Stop> {
+fn next_opt_text(words: &mut Words<'_>, alloc: Global) -> Result<Option<Text>, TextError> {
     words.expect(b" ")?;
     if words.eat(b"-") {
         return Ok(None);
@@ -45,7 +45,7 @@ fn next_opt_text(words: &mut Words<'_>, alloc: Global) -> Result<Option<Text>, S
 }
 
 /// Names joined by `,`, or `-`, behind a space.
-fn next_texts(words: &mut Words<'_>, alloc: Global) -> Result<Seq<Text>, Stop> {
+fn next_texts(words: &mut Words<'_>, alloc: Global) -> Result<Seq<Text>, TextError> {
     words.expect(b" ")?;
     let mut texts = Seq::new(alloc);
     if words.eat(b"-") {
@@ -62,14 +62,14 @@ fn next_texts(words: &mut Words<'_>, alloc: Global) -> Result<Seq<Text>, Stop> {
 }
 
 /// A number of 64 bits behind the start of a word, where the word is there.
-fn opt_long(start: &[u8], words: &mut Words<'_>) -> Result<Option<u64>, Stop> {
+fn opt_long(start: &[u8], words: &mut Words<'_>) -> Result<Option<u64>, TextError> {
     if words.prefix(start) {
         return Ok(Some(words.long()?));
     }
     Ok(None)
 }
 
-fn read_repr(words: &mut Words<'_>) -> Result<Repr, Stop> {
+fn read_repr(words: &mut Words<'_>) -> Result<Repr, TextError> {
     let c = words.flag(b"C");
     let align = opt_long(b"align:", words)?;
     let pack = opt_long(b"pack:", words)?;
@@ -77,7 +77,7 @@ fn read_repr(words: &mut Words<'_>) -> Result<Repr, Stop> {
 }
 
 /// What stands behind the first word.
-fn read(alloc: Global, kind: Kind, words: &mut Words<'_>) -> Result<Entry, Stop> {
+fn read(alloc: Global, kind: Kind, words: &mut Words<'_>) -> Result<Entry, TextError> {
     match kind {
         Kind::Name => {
             let def = as_named(next_def(words)?)?;
@@ -103,7 +103,7 @@ fn read(alloc: Global, kind: Kind, words: &mut Words<'_>) -> Result<Entry, Stop>
 }
 
 /// Adds an entry.
-fn add(tables: &mut Tables, entry: Entry) -> Result<(), Stop> {
+fn add(tables: &mut Tables, entry: Entry) -> Result<(), TextError> {
     match entry {
         Entry::Name(def, name) => done_or_stop(tables.add_name(def, name)),
         Entry::CrateName(id, name) => done_or_stop(tables.add_crate_name(id, name)),
@@ -117,7 +117,11 @@ fn add(tables: &mut Tables, entry: Entry) -> Result<(), Stop> {
 }
 
 /// The entry that a line adds, where it is such a line.
-fn read_line(alloc: Global, word: &[u8], words: &mut Words<'_>) -> Result<Option<Entry>, Stop> {
+fn read_line(
+    alloc: Global,
+    word: &[u8],
+    words: &mut Words<'_>,
+) -> Result<Option<Entry>, TextError> {
     let Some(kind) = value_of(&KINDS, word) else {
         return Ok(None);
     };
@@ -132,7 +136,7 @@ pub fn line(
     tables: &mut Tables,
     word: &[u8],
     words: &mut Words<'_>,
-) -> Result<bool, Stop> {
+) -> Result<bool, TextError> {
     let Some(entry) = read_line(alloc, word, words)? else {
         return Ok(false);
     };

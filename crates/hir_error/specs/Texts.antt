@@ -14,16 +14,16 @@ use Rattle.hir_error.specs.declared.error.HirError.{HirError}
 use Rattle.hir_error.specs.declared.error.HirError.TheVariants as error
 
 -- what of a definition is missing, and of which, as `no signature of FunctionId(7)`
-abbrev pub lack_text : Missing → List ℕ
-lack_text (Name id) = codes "no name of " ++ named_text id
-lack_text (Variant id) = codes "no enum of " ++ id_text (codes "EnumVariantId") id
-lack_text (Crate id) = codes "no name of " ++ id_text (codes "CrateId") id
-lack_text (Signature id) = codes "no signature of " ++ generic_text id
-lack_text (Body id) = codes "no body of " ++ body_text id
-lack_text (Fields id) = codes "no fields of " ++ fields_text id
-lack_text (TypeParam id) = codes "no type parameter " ++ type_or_const_param_text (codes "TypeParamId") id
-lack_text (LifetimeParam id) = codes "no lifetime parameter " ++ lifetime_param_text id
-lack_text (DefMap id) = codes "no definition map of " ++ id_text (codes "BlockId") id
+abbrev pub missing_text : Missing → List ℕ
+missing_text (Name id) = codes "no name of " ++ named_text id
+missing_text (Variant id) = codes "no enum of " ++ id_text (codes "EnumVariantId") id
+missing_text (Crate id) = codes "no name of " ++ id_text (codes "CrateId") id
+missing_text (Signature id) = codes "no signature of " ++ generic_text id
+missing_text (Body id) = codes "no body of " ++ body_text id
+missing_text (Fields id) = codes "no fields of " ++ fields_text id
+missing_text (TypeParam id) = codes "no type parameter " ++ type_or_const_param_text (codes "TypeParamId") id
+missing_text (LifetimeParam id) = codes "no lifetime parameter " ++ lifetime_param_text id
+missing_text (DefMap id) = codes "no definition map of " ++ id_text (codes "BlockId") id
 
 -- the refusal's own text, but that of a missing definition
 abbrev pub error_text : HirError → Option (List ℕ)
@@ -31,8 +31,8 @@ error_text (error.Arena fault) = arena.ghosts.output fault
 error_text (error.Store fault) = finish.ghosts.output fault
 error_text (error.Body fault) = Some (body_fault_text fault)
 error_text (error.Signature fault) = Some (signature_fault_text fault)
-error_text (error.Missing missing) = Some (lack_text missing)
+error_text (error.Missing missing) = Some (missing_text missing)
 error_text (error.Scopes fault) = scopes.ghosts.output fault
-error_text (error.Print (prints.Missing missing)) = Some (lack_text missing)
+error_text (error.Print (prints.Missing missing)) = Some (missing_text missing)
 error_text (error.Print prints.Memory) = Some (codes "Memory")
 error_text (error.Captures fault) = captures.ghosts.output fault

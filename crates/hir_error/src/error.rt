@@ -3,7 +3,7 @@
 ghost use Rattle.std.specs.Prelude.{◌↔◌, IsTrue};
 ghost use Rattle.hir_error.specs.OutOfMemory.{IsOutOfMemory};
 
-use crate::lack::Lack;
+use crate::missing_text::MissingText;
 use hir_base::{ArenaFault, ExactEq};
 use hir_captures::CapturesFault;
 use hir_expr_store::Missing;
@@ -49,9 +49,9 @@ impl Display for HirError {
             HirError::Store(fault) => write!(f, "{fault}"),
             HirError::Body(fault) => write!(f, "{fault}"),
             HirError::Signature(fault) => write!(f, "{fault}"),
-            HirError::Missing(missing) => Lack(*missing).fmt(f),
+            HirError::Missing(missing) => MissingText(*missing).fmt(f),
             HirError::Scopes(fault) => write!(f, "{fault}"),
-            HirError::Print(PrintFault::Missing(missing)) => Lack(*missing).fmt(f),
+            HirError::Print(PrintFault::Missing(missing)) => MissingText(*missing).fmt(f),
             HirError::Print(PrintFault::Memory) => f.write_str("Memory"),
             HirError::Captures(fault) => write!(f, "{fault}"),
         }

@@ -4,6 +4,6 @@
 
 mod error;
 mod from;
-mod lack;
+mod missing_text;
 
 pub use error::HirError;

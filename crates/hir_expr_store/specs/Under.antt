@@ -16,7 +16,8 @@ LiesUnderOther s Among n = (r : NodeId) × Has s r × Among r × (n ≡ r → �
 
 -- nothing lies under two of these nodes
 abbrev pub AreDisjoint : Nodes → List NodeId → Type 0
-AreDisjoint s entry_nodes = (i j : ℕ) (a b n : NodeId) → i < j → slice_get entry_nodes i ≡ Some a → slice_get entry_nodes j ≡ Some b
+AreDisjoint s entry_nodes = (i j : ℕ) (a b n : NodeId) → i < j → slice_get entry_nodes i ≡ Some a
+    → slice_get entry_nodes j ≡ Some b
     → Under s n a → Under s n b → ⊥
 
 -- the node is *reached* from these: it is under one of them

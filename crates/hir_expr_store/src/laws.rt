@@ -137,7 +137,8 @@ pub fn one_parent()
 
 /// Nothing lies under two of the listed roots, so none is listed twice.
 pub fn roots_are_disjoint()
-    ensures { (c : Contents) → contents_fault c None → AreDisjoint c.nodes (map node.Expr (root_nodes c.roots)) }
+    ensures { (c : Contents) → contents_fault c None
+        → AreDisjoint c.nodes (map node.Expr (root_nodes c.roots)) }
 {}
 
 /// The nodes under a node are itself, and then those under each of its children.
@@ -173,7 +174,8 @@ pub fn reached_nodes_are_in_range()
 
 /// A child of what is reached is reached. This holds of any nodes.
 pub fn children_of_reached_are_reached()
-    ensures { (s : Nodes) (entry_nodes : List NodeId) (n k : NodeId) → IsReached s entry_nodes n → Contains (children_of s n) k
+    ensures { (s : Nodes) (entry_nodes : List NodeId) (n k : NodeId) → IsReached s entry_nodes n
+        → Contains (children_of s n) k
         → IsReached s entry_nodes k }
 {}
 

@@ -3,7 +3,6 @@
 #![tactic(auto)]
 
 mod blocks;
-mod both;
 mod bounds;
 mod coroutines;
 mod kept_parts;
@@ -12,6 +11,7 @@ mod lookups;
 mod missing;
 mod own_exprs;
 mod pat_links;
+mod pat_turns;
 mod pat_visitors;
 mod root_list;
 mod root_search;
@@ -21,10 +21,10 @@ mod store;
 mod store_iter;
 mod stored;
 mod try_walks;
-mod pat_turns;
 mod under;
 mod visits;
 mod walks;
+mod zip_ok;
 
 pub use blocks::Blocks;
 pub use bounds::TypeBoundExt;

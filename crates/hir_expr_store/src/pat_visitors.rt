@@ -11,8 +11,8 @@ ghost use Rattle.hir_expr_store.specs.Tries.{Tries};
 ghost use Rattle.hir_expr_store.specs.PatTurns.{pat_of, entered_pat, exprs_left};
 
 use crate::own_exprs::OwnExprs;
-use crate::store::ExpressionStore;
 use crate::pat_turns::TurnVisitor;
+use crate::store::ExpressionStore;
 use hir_node::{BindingId, ExprId, Pat, PatId};
 
 /// Runs a closure on each pattern that is entered.

@@ -2,21 +2,21 @@
 
 ghost use Rattle.std.specs.Prelude.{◌≡◌};
 
-use crate::both::both;
+use crate::zip_ok::zip_ok;
 use hir_base::{BlockId, ExactEq, HygieneId, Seq, Table, TryClone};
 use hir_node::{BindingId, ExprId, ExprOrPatId};
-use hir_rare::Rare;
+use hir_rare::LazyBox;
 use std::alloc::{AllocError, Global};
 
 /// Side tables: binding owners, path hygiene, blocks. `finish` doesn't check them: ids may be of nodes that aren't there.
 #[derive(Drop, PartialEq, Eq)]
 pub struct SideTables {
     /// The owner of a binding, where it isn't the body itself.
-    pub owners: Rare<Table<BindingId, ExprId>>,
+    pub owners: LazyBox<Table<BindingId, ExprId>>,
     /// The hygiene of an expression or a pattern that is a path.
-    pub hygiene: Rare<Table<ExprOrPatId, HygieneId>>,
+    pub hygiene: LazyBox<Table<ExprOrPatId, HygieneId>>,
     /// The blocks that may hold items, in order.
-    pub blocks: Rare<Seq<BlockId>>,
+    pub blocks: LazyBox<Seq<BlockId>>,
 }
 
 impl SideTables {
@@ -27,9 +27,9 @@ impl SideTables {
         ensures { result ≡ no_side_tables }
     {
         SideTables {
-            owners: Rare::new(alloc),
-            hygiene: Rare::new(alloc),
-            blocks: Rare::new(alloc),
+            owners: LazyBox::new(alloc),
+            hygiene: LazyBox::new(alloc),
+            blocks: LazyBox::new(alloc),
         }
     }
 }
@@ -44,8 +44,8 @@ impl Clone for SideTables {
     ghost is_clone = { λ side_tables copy. copy ≡ side_tables };
 
     fn clone(&self) -> Result<SideTables, AllocError> {
-        let copy = both(self.owners.try_clone()?, self.hygiene.try_clone())?;
-        let ((owners, hygiene), blocks) = both(copy, self.blocks.try_clone())?;
+        let copy = zip_ok(self.owners.try_clone()?, self.hygiene.try_clone())?;
+        let ((owners, hygiene), blocks) = zip_ok(copy, self.blocks.try_clone())?;
         Ok(SideTables {
             owners,
             hygiene,

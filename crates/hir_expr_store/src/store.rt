@@ -8,11 +8,11 @@ ghost use Rattle.hir_faults.specs.Sizes.{is_in_range};
 ghost use Rattle.hir_node.specs.ChildCalls.{bound_calls};
 ghost use Rattle.hir_faults.specs.Fits.{path_fits};
 
-use crate::both::both;
 use crate::kept_parts::KeptParts;
 use crate::root_list::RootList;
 use crate::side_tables::SideTables;
 use crate::store_iter::ExprRoots;
+use crate::zip_ok::zip_ok;
 use hir_base::{Arena, ArenaIter, ExactEq, TryClone};
 use hir_faults::{NodeSlices, Sizes, as_path};
 use hir_forest::Root;
@@ -21,7 +21,7 @@ use hir_node::{
     LifetimeRef, LifetimeRefId, LifetimeRefKind, Pat, PatId, PatKind, Path, PathId, TypeBound,
     TypeRef, TypeRefId, TypeRefKind,
 };
-use hir_rare::Rare;
+use hir_rare::LazyBox;
 use std::alloc::{AllocError, Global};
 use std::marker::Model;
 use std::ops::Index;
@@ -38,7 +38,7 @@ pub struct ExpressionStore {
     lifetimes: Arena<LifetimeRefKind, LifetimeRef>,
     roots: RootList,
     side_tables: SideTables,
-    kept: Rare<KeptParts>,
+    kept: LazyBox<KeptParts>,
 }
 
 /// Drops its parts one after the other. It is here so that it is proved once, and is a call wherever a value is dropped.
@@ -107,7 +107,7 @@ pub struct StoreParts {
     pub lifetimes: Arena<LifetimeRefKind, LifetimeRef>,
     pub roots: RootList,
     pub side_tables: SideTables,
-    pub kept: Rare<KeptParts>,
+    pub kept: LazyBox<KeptParts>,
 }
 
 impl ExpressionStore {
@@ -162,7 +162,7 @@ impl ExpressionStore {
             lifetimes: Arena::new(alloc),
             roots: RootList::new(alloc),
             side_tables: SideTables::new(alloc),
-            kept: Rare::new(alloc),
+            kept: LazyBox::new(alloc),
         }
     }
 
@@ -432,14 +432,14 @@ impl Clone for ExpressionStore {
     ghost is_clone = { λ store copy. copy ≡ store };
 
     fn clone(&self) -> Result<ExpressionStore, AllocError> {
-        let copy = both(self.exprs.try_clone()?, self.pats.try_clone())?;
-        let copy = both(copy, self.types.try_clone())?;
-        let copy = both(copy, self.bindings.try_clone())?;
-        let copy = both(copy, self.labels.try_clone())?;
-        let copy = both(copy, self.lifetimes.try_clone())?;
-        let copy = both(copy, self.roots.try_clone())?;
-        let copy = both(copy, self.side_tables.try_clone())?;
-        let (copy, kept) = both(copy, self.kept.try_clone())?;
+        let copy = zip_ok(self.exprs.try_clone()?, self.pats.try_clone())?;
+        let copy = zip_ok(copy, self.types.try_clone())?;
+        let copy = zip_ok(copy, self.bindings.try_clone())?;
+        let copy = zip_ok(copy, self.labels.try_clone())?;
+        let copy = zip_ok(copy, self.lifetimes.try_clone())?;
+        let copy = zip_ok(copy, self.roots.try_clone())?;
+        let copy = zip_ok(copy, self.side_tables.try_clone())?;
+        let (copy, kept) = zip_ok(copy, self.kept.try_clone())?;
         let (((((((exprs, pats), types), bindings), labels), lifetimes), roots), side_tables) =
             copy;
         Ok(ExpressionStore {

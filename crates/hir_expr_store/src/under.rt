@@ -110,7 +110,9 @@ impl ExpressionStore {
         let Some(kept) = self.kept_parts() else {
             return self.no_nodes(alloc);
         };
-        let marks = kept.parents.under_marked(alloc, entry_nodes.marks.as_slice())?;
+        let marks = kept
+            .parents
+            .under_marked(alloc, entry_nodes.marks.as_slice())?;
         Ok(NodeSet {
             sizes: self.sizes(),
             marks,

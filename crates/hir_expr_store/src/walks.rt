@@ -100,7 +100,8 @@ impl ExpressionStore {
     pub fn walk_child_exprs_without_pats<F: FnMut(ExprId)>(&self, id: ExprId, f: &mut F)
         requires in_range { id < length self.now.nodes.exprs }
         requires callable { F.IsAlwaysCallable f.old }
-        ensures runs { FoldsTo (λ p x q. F.step p x tt q) f.old (child_exprs_without_pats self.now.nodes id) f.new }
+        ensures runs { FoldsTo (λ p x q. F.step p x tt q) f.old
+            (child_exprs_without_pats self.now.nodes id) f.new }
         ensures callable { F.IsAlwaysCallable f.new }
     {
         let _ = self.try_walk_child_exprs_without_pats(

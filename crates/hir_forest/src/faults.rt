@@ -32,15 +32,15 @@ fn first_root_fault(
     roots: &[Root],
     parents: &ParentTable,
     listed: &[bool],
-    came: &mut [bool],
+    seen: &mut [bool],
     clear: &mut [bool],
 ) -> Option<ForestFault>
     requires exprs { lengths.exprs ≤ length parents.now }
     requires listed_nodes { length listed.now ≡ length parents.now }
-    requires came_nodes { length came.old ≡ lengths.exprs }
+    requires seen_nodes { length seen.old ≡ lengths.exprs }
     requires clear_nodes { length clear.old ≡ length parents.now }
     requires listed { MarksRoots listed.now lengths.exprs (root_nodes roots.now) }
-    requires came { MarksAll came.old [] }
+    requires seen { MarksAll seen.old [] }
     requires clear { MarksAll clear.old [] }
     ensures { (g : List (List ℕ)) → HasParents g parents.now
         → ((n : ℕ) → n < length g → ChainEnds g n)
@@ -57,7 +57,7 @@ fn first_root_fault(
             return Some(ForestFault::RootOutOfRange(i));
         }
         let node = root.node as usize;
-        if came[node] {
+        if seen[node] {
             return Some(ForestFault::RootRepeated(i));
         }
         if is_under(parents, listed, clear, node) {
@@ -66,7 +66,7 @@ fn first_root_fault(
         if !root.ends.fit(earlier, lengths) {
             return Some(ForestFault::RootEnds(i));
         }
-        came[node] = true;
+        seen[node] = true;
         earlier = root.ends;
     }
     None
@@ -120,9 +120,9 @@ fn first_chain_fault(
     // The roots' marks take the room of the chains'.
     marks.fill(false);
     mark_roots(lengths.exprs, roots, &mut marks);
-    let mut came = vec![in alloc; false; lengths.exprs as usize]?;
+    let mut seen = vec![in alloc; false; lengths.exprs as usize]?;
     let mut clear = vec![in alloc; false; nodes]?;
-    Ok(first_root_fault(lengths, roots, parents, &marks, &mut came, &mut clear))
+    Ok(first_root_fault(lengths, roots, parents, &marks, &mut seen, &mut clear))
 }
 
 impl Parents {

@@ -60,5 +60,6 @@ pub fn child_rows_add_up()
         → with_children (with_children rows some) more ≡ with_children rows (some ++ more) }
     ensures fresh { (rows : List (List ℕ)) (children : List ℕ)
         → with_children (rows ++ [] ∷ []) children ≡ rows ++ children ∷ [] }
-    ensures length { (rows : List (List ℕ)) (children : List ℕ) → length (with_children rows children) ≡ length rows }
+    ensures length { (rows : List (List ℕ)) (children : List ℕ)
+        → length (with_children rows children) ≡ length rows }
 {}

@@ -12,8 +12,8 @@ mod roots;
 mod under;
 
 pub use laws::{
-    fault_unique, fault_is_within, faultless_is_forest, heights_are_bounded, child_rows_add_up,
-    children_are_lower, roots_are_compared_by_all_fields, ways_are_short,
+    child_rows_add_up, children_are_lower, fault_is_within, fault_unique, faultless_is_forest,
+    heights_are_bounded, roots_are_compared_by_all_fields, ways_are_short,
 };
 pub use parents::Parents;
 pub use roots::{Ends, ForestFault, Root};

@@ -2,8 +2,8 @@
 use Rattle.std.proofs.Common.{◌≡◌, ℕ, Bool, true, false, eqb, List, [], ◌∷◌, ◌++◌, Option, None, Some, Ok, length, ◌⊎◌, inl, inr, refl, sym, ap, ◌∙◌, arith, append_assoc, append-nil, subst}
 use Rattle.std.specs.Io.KnownBytes.{Consumes, IsAtEnd, Keeps, Appends, append_known}
 use Rattle.std.proofs.lemmas.Bool.Decides.{nat_tests}
-use Rattle.hir_io.specs.Ends.{IsKeptOrUntold, GrowsByFront, IsWrittenUpTo}
-use Rattle.hir_io.proofs.EndLemmas.{Appends-twice, GrowsByFront-after}
+use Rattle.hir_io.specs.Effects.{IsKeptOrUntold, AppendsPrefix, IsWrittenUpTo}
+use Rattle.hir_io.proofs.EndLemmas.{Appends-twice, AppendsPrefix-after}
 use Rattle.hir_io.specs.Text.{HasNoLineEnd, TakesLine}
 use Rattle.hir_io.specs.LineState.{LineState}
 use Rattle.hir_io.specs.Reading.{Fills}
@@ -68,8 +68,8 @@ begins_line (Some xs) (Some rest) (Some rest') pending k u free = (rest, sym k, 
 pub written_all : (old mid new : Option (List ℕ)) (waiting rest : List ℕ) → IsWrittenUpTo old mid waiting rest → Appends mid new rest → IsWrittenUpTo old new waiting []
 written_all old mid new waiting rest w a = (w.0 ++ rest, w.1 ∙ sym (append-nil (w.0 ++ rest)), Appends-twice old mid new w.0 rest w.2 a)
 
-pub written_front : (old mid new : Option (List ℕ)) (waiting rest : List ℕ) → IsWrittenUpTo old mid waiting rest → GrowsByFront mid new rest → GrowsByFront old new waiting
-written_front old mid new waiting rest w g = let P : List ℕ → Type 0 = λ v. GrowsByFront old new v in subst P (sym w.1) (GrowsByFront-after old mid new w.0 rest w.2 g)
+pub written_prefix : (old mid new : Option (List ℕ)) (waiting rest : List ℕ) → IsWrittenUpTo old mid waiting rest → AppendsPrefix mid new rest → AppendsPrefix old new waiting
+written_prefix old mid new waiting rest w g = let P : List ℕ → Type 0 = λ v. AppendsPrefix old new v in subst P (sym w.1) (AppendsPrefix-after old mid new w.0 rest w.2 g)
 
 pub written_same : (old new : Option (List ℕ)) (waiting rest : List ℕ) → IsWrittenUpTo old new waiting rest → Keeps (append_known old waiting) (append_known new rest)
 written_same None new waiting rest w = tt

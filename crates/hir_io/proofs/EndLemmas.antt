@@ -2,7 +2,7 @@
 use Rattle.std.proofs.Common.{◌≡◌, ℕ, List, [], ◌++◌, Option, None, Some, take, drop, refl, sym, ap, ◌∙◌, append_assoc, append-nil, take-append-drop, take_all, arith, length, ◌-◌}
 use Rattle.std.proofs.lemmas.Grind.{common_steps}
 use Rattle.std.specs.Io.KnownBytes.{Appends}
-use Rattle.hir_io.specs.Ends.{IsKeptOrUntold, GrowsByFront, IsWrittenUpTo}
+use Rattle.hir_io.specs.Effects.{IsKeptOrUntold, AppendsPrefix, IsWrittenUpTo}
 
 pub IsWrittenUpTo-start : (known : Option (List ℕ)) (bytes : List ℕ) → IsWrittenUpTo known known bytes bytes
 IsWrittenUpTo-start None bytes = ([], refl, tt)
@@ -23,25 +23,25 @@ IsWrittenUpTo-more old mid new bytes rest n w a =
 pub IsWrittenUpTo-all : (old new : Option (List ℕ)) (bytes : List ℕ) → IsWrittenUpTo old new bytes [] → Appends old new bytes
 IsWrittenUpTo-all old new bytes w = let e : w.0 ≡ bytes = sym (append-nil w.0) ∙ sym w.1 in rw e at w.2
 
-pub GrowsByFront-failed : (old mid new : Option (List ℕ)) (bytes rest : List ℕ) → IsWrittenUpTo old mid bytes rest → IsKeptOrUntold mid new → GrowsByFront old new bytes
-GrowsByFront-failed None mid new bytes rest w k = tt
-GrowsByFront-failed (Some xs) mid None bytes rest w k = tt
-GrowsByFront-failed (Some xs) None (Some ys) bytes rest w k = absurd w.2
-GrowsByFront-failed (Some xs) (Some ms) (Some ys) bytes rest w k = (w.0, rest, w.1, cc)
+pub AppendsPrefix-failed : (old mid new : Option (List ℕ)) (bytes rest : List ℕ) → IsWrittenUpTo old mid bytes rest → IsKeptOrUntold mid new → AppendsPrefix old new bytes
+AppendsPrefix-failed None mid new bytes rest w k = tt
+AppendsPrefix-failed (Some xs) mid None bytes rest w k = tt
+AppendsPrefix-failed (Some xs) None (Some ys) bytes rest w k = absurd w.2
+AppendsPrefix-failed (Some xs) (Some ms) (Some ys) bytes rest w k = (w.0, rest, w.1, cc)
 
 -- a failed write of all but what was written before
-pub GrowsByFront-after : (old mid new : Option (List ℕ)) (first second : List ℕ) → Appends old mid first → GrowsByFront mid new second → GrowsByFront old new (first ++ second)
-GrowsByFront-after None mid new first second a g = tt
-GrowsByFront-after (Some xs) None new first second a g = absurd a
-GrowsByFront-after (Some xs) (Some ys) None first second a g = tt
-GrowsByFront-after (Some xs) (Some ys) (Some zs) first second a g =
+pub AppendsPrefix-after : (old mid new : Option (List ℕ)) (first second : List ℕ) → Appends old mid first → AppendsPrefix mid new second → AppendsPrefix old new (first ++ second)
+AppendsPrefix-after None mid new first second a g = tt
+AppendsPrefix-after (Some xs) None new first second a g = absurd a
+AppendsPrefix-after (Some xs) (Some ys) None first second a g = tt
+AppendsPrefix-after (Some xs) (Some ys) (Some zs) first second a g =
     (first ++ g.0, g.1, ap (λ v. first ++ v) g.2 ∙ sym (append_assoc first g.0 g.1), g.3 ∙ ap (λ v. v ++ g.0) a ∙ append_assoc xs first g.0)
 
 -- a front of some bytes is one of these and more
-pub GrowsByFront-more : (old new : Option (List ℕ)) (bytes more : List ℕ) → GrowsByFront old new bytes → GrowsByFront old new (bytes ++ more)
-GrowsByFront-more None new bytes more g = tt
-GrowsByFront-more (Some xs) None bytes more g = tt
-GrowsByFront-more (Some xs) (Some ys) bytes more g =
+pub AppendsPrefix-more : (old new : Option (List ℕ)) (bytes more : List ℕ) → AppendsPrefix old new bytes → AppendsPrefix old new (bytes ++ more)
+AppendsPrefix-more None new bytes more g = tt
+AppendsPrefix-more (Some xs) None bytes more g = tt
+AppendsPrefix-more (Some xs) (Some ys) bytes more g =
     (g.0, g.1 ++ more, ap (λ v. v ++ more) g.2 ∙ append_assoc g.0 g.1 more, g.3)
 
 -- what was written in two parts, with nothing left

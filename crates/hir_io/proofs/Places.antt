@@ -14,7 +14,7 @@ module _ (test : ℕ → Bool) (hay : List ℕ) where
   on_from : (i j : ℕ) → test (get_or hay i 0) ≡ false → Nowhere (Passes test hay) (i + 1) j → Nowhere (Passes test hay) i j
   on_from i j other none k low high passes =
       elim (cases_lt i k) [
-        | inl behind ↦ none k (omega arith) high passes
+        | inl suffix ↦ none k (omega arith) high passes
         | inr here ↦
             let same : k ≡ i = omega arith in
             fails i other (rw same at passes)

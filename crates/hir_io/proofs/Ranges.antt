@@ -19,9 +19,9 @@ pub range_joined : (xs : List ℕ) (a b c : ℕ) → a ≤ b → b ≤ c → sli
 range_joined xs a b c ab bc =
     let gap : a + (b - a) ≡ b = omega arith in
     let fits : a + (b - a) ≤ c = omega arith in
-    let front = rw gap at (range_take xs a c (b - a) fits) in
+    let prefix = rw gap at (range_take xs a c (b - a) fits) in
     let back = rw gap at (range_drop xs a c (b - a) fits) in
-    sym (take-append-drop (b - a) (slice_range xs a c)) ∙ rw (front, back) refl
+    sym (take-append-drop (b - a) (slice_range xs a c)) ∙ rw (prefix, back) refl
 
 pub length_range : (xs : List ℕ) (a b : ℕ) → b ≤ length xs → length (slice_range xs a b) ≡ b - a
 length_range xs a b h = omega (arith, length-take (b - a) (drop a xs), length-drop a xs)

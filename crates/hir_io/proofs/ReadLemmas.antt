@@ -4,7 +4,7 @@ use Rattle.std.specs.Io.KnownBytes.{IsAtEnd}
 use Rattle.hir_io.specs.Text.{lines, with_line_end, TakesLine, IsRead}
 use Rattle.hir_io.proofs.TextLemmas.{lines-ended, lines-taken, ended-append, all-append}
 use Rattle.hir_io.specs.NextLine.{TakesTold, IsBegunLine}
-use Rattle.hir_io.specs.Reads.{Reads, ReadsAll, ReadsFront, ReadsUntilFailure}
+use Rattle.hir_io.specs.Reads.{ReadsLines, ReadsAll, ReadsPrefix, ReadsUntilFailure}
 
 -- the lines of the input are those read and those of the rest
 pub is_read_lines : (input : List ℕ) (texts : List (List ℕ)) (rest : List ℕ) (at_end : Bool) → IsRead input texts rest at_end → lines input ≡ texts ++ lines rest
@@ -26,61 +26,61 @@ is_read_line text rest line false (free, inl e) = (e ∙ sym (append_assoc line 
 is_read_line text rest line false (free, inr e) = absurd (cc e.0)
 
 -- before the first line
-pub Reads-none : (known : Option (List ℕ)) (at_end : Bool) → Reads known [] known at_end
-Reads-none None at_end = tt
-Reads-none (Some input) true = refl
-Reads-none (Some input) false = (refl, tt)
+pub ReadsLines-none : (known : Option (List ℕ)) (at_end : Bool) → ReadsLines known [] known at_end
+ReadsLines-none None at_end = tt
+ReadsLines-none (Some input) true = refl
+ReadsLines-none (Some input) false = (refl, tt)
 
 -- one line more
-pub Reads-more : (known old new : Option (List ℕ)) (texts : List (List ℕ)) (line : List ℕ) (was at_end : Bool) → Reads known texts old was → TakesTold old new line at_end → (was ≡ true → at_end ≡ true) → Reads known (texts ++ line ∷ []) new at_end
-Reads-more None old new texts line was at_end r t stays = tt
-Reads-more (Some input) None new texts line was at_end r t stays = absurd r
-Reads-more (Some input) (Some text) None texts line was at_end r t stays = absurd t
-Reads-more (Some input) (Some text) (Some rest) texts line was at_end r t stays = is_read_joined input texts (line ∷ []) text rest was at_end r (is_read_line text rest line at_end t) stays
+pub ReadsLines-more : (known old new : Option (List ℕ)) (texts : List (List ℕ)) (line : List ℕ) (was at_end : Bool) → ReadsLines known texts old was → TakesTold old new line at_end → (was ≡ true → at_end ≡ true) → ReadsLines known (texts ++ line ∷ []) new at_end
+ReadsLines-more None old new texts line was at_end r t stays = tt
+ReadsLines-more (Some input) None new texts line was at_end r t stays = absurd r
+ReadsLines-more (Some input) (Some text) None texts line was at_end r t stays = absurd t
+ReadsLines-more (Some input) (Some text) (Some rest) texts line was at_end r t stays = is_read_joined input texts (line ∷ []) text rest was at_end r (is_read_line text rest line at_end t) stays
 
 -- a second stage, which began where the first ended
-pub Reads-joined : (known mid new : Option (List ℕ)) (texts more : List (List ℕ)) (was at_end : Bool) → Reads known texts mid was → Reads mid more new at_end → (was ≡ true → at_end ≡ true) → Reads known (texts ++ more) new at_end
-Reads-joined None mid new texts more was at_end r s stays = tt
-Reads-joined (Some input) None new texts more was at_end r s stays = absurd r
-Reads-joined (Some input) (Some text) None texts more was at_end r s stays = absurd s
-Reads-joined (Some input) (Some text) (Some rest) texts more was at_end r s stays = is_read_joined input texts more text rest was at_end r s stays
+pub ReadsLines-joined : (known mid new : Option (List ℕ)) (texts more : List (List ℕ)) (was at_end : Bool) → ReadsLines known texts mid was → ReadsLines mid more new at_end → (was ≡ true → at_end ≡ true) → ReadsLines known (texts ++ more) new at_end
+ReadsLines-joined None mid new texts more was at_end r s stays = tt
+ReadsLines-joined (Some input) None new texts more was at_end r s stays = absurd r
+ReadsLines-joined (Some input) (Some text) None texts more was at_end r s stays = absurd s
+ReadsLines-joined (Some input) (Some text) (Some rest) texts more was at_end r s stays = is_read_joined input texts more text rest was at_end r s stays
 
 -- nothing is left to be taken
-pub ReadsAll-end : (known old : Option (List ℕ)) (texts : List (List ℕ)) (at_end : Bool) → Reads known texts old at_end → IsAtEnd old → ReadsAll known texts
+pub ReadsAll-end : (known old : Option (List ℕ)) (texts : List (List ℕ)) (at_end : Bool) → ReadsLines known texts old at_end → IsAtEnd old → ReadsAll known texts
 ReadsAll-end None old texts at_end r e = tt
 ReadsAll-end (Some input) None texts at_end r e = absurd r
 ReadsAll-end (Some input) (Some rest) texts at_end r e = is_read_lines input texts rest at_end r ∙ ap (λ v. texts ++ lines v) e ∙ append-nil texts
 
-pub ReadsAll-joined : (known mid : Option (List ℕ)) (texts more : List (List ℕ)) (was : Bool) → Reads known texts mid was → ReadsAll mid more → ReadsAll known (texts ++ more)
+pub ReadsAll-joined : (known mid : Option (List ℕ)) (texts more : List (List ℕ)) (was : Bool) → ReadsLines known texts mid was → ReadsAll mid more → ReadsAll known (texts ++ more)
 ReadsAll-joined None mid texts more was r s = tt
 ReadsAll-joined (Some input) None texts more was r s = absurd r
 ReadsAll-joined (Some input) (Some text) texts more was r s = is_read_lines input texts text was r ∙ ap (λ v. texts ++ v) s
 
 -- whatever comes behind them
-pub ReadsFront-now : (known old : Option (List ℕ)) (texts : List (List ℕ)) (at_end : Bool) → Reads known texts old at_end → ReadsFront known texts
-ReadsFront-now None old texts at_end r = tt
-ReadsFront-now (Some input) None texts at_end r = absurd r
-ReadsFront-now (Some input) (Some rest) texts at_end r = (lines rest, is_read_lines input texts rest at_end r)
+pub ReadsPrefix-now : (known old : Option (List ℕ)) (texts : List (List ℕ)) (at_end : Bool) → ReadsLines known texts old at_end → ReadsPrefix known texts
+ReadsPrefix-now None old texts at_end r = tt
+ReadsPrefix-now (Some input) None texts at_end r = absurd r
+ReadsPrefix-now (Some input) (Some rest) texts at_end r = (lines rest, is_read_lines input texts rest at_end r)
 
-pub ReadsFront-before : (known : Option (List ℕ)) (texts more : List (List ℕ)) → ReadsFront known (texts ++ more) → ReadsFront known texts
-ReadsFront-before None texts more r = tt
-ReadsFront-before (Some input) texts more r = (more ++ r.0, r.1 ∙ append_assoc texts more r.0)
+pub ReadsPrefix-before : (known : Option (List ℕ)) (texts more : List (List ℕ)) → ReadsPrefix known (texts ++ more) → ReadsPrefix known texts
+ReadsPrefix-before None texts more r = tt
+ReadsPrefix-before (Some input) texts more r = (more ++ r.0, r.1 ∙ append_assoc texts more r.0)
 
-pub ReadsFront-joined : (known mid : Option (List ℕ)) (texts more : List (List ℕ)) (was : Bool) → Reads known texts mid was → ReadsFront mid more → ReadsFront known (texts ++ more)
-ReadsFront-joined None mid texts more was r s = tt
-ReadsFront-joined (Some input) None texts more was r s = absurd r
-ReadsFront-joined (Some input) (Some text) texts more was r s =
+pub ReadsPrefix-joined : (known mid : Option (List ℕ)) (texts more : List (List ℕ)) (was : Bool) → ReadsLines known texts mid was → ReadsPrefix mid more → ReadsPrefix known (texts ++ more)
+ReadsPrefix-joined None mid texts more was r s = tt
+ReadsPrefix-joined (Some input) None texts more was r s = absurd r
+ReadsPrefix-joined (Some input) (Some text) texts more was r s =
     (s.0, is_read_lines input texts text was r ∙ ap (λ v. texts ++ v) s.1 ∙ sym (append_assoc texts more s.0))
 
 -- a read failed
-pub ReadsUntilFailure-now : (known old remaining : Option (List ℕ)) (texts : List (List ℕ)) (begun : List ℕ) (at_end : Bool) → Reads known texts old at_end → at_end ≡ false → IsBegunLine old remaining begun → ReadsUntilFailure known texts begun remaining
+pub ReadsUntilFailure-now : (known old remaining : Option (List ℕ)) (texts : List (List ℕ)) (begun : List ℕ) (at_end : Bool) → ReadsLines known texts old at_end → at_end ≡ false → IsBegunLine old remaining begun → ReadsUntilFailure known texts begun remaining
 ReadsUntilFailure-now None old remaining texts begun at_end r w b = tt
 ReadsUntilFailure-now (Some input) None remaining texts begun at_end r w b = absurd r
 ReadsUntilFailure-now (Some input) (Some rest) remaining texts begun at_end r w b =
     let read = rw w at r in
     (b.0, record { whole = read.0 ∙ ap (λ v. flat_map with_line_end texts ++ v) b.1 ∙ sym (append_assoc (flat_map with_line_end texts) begun b.0); each = read.1; no_end = b.2 }, b.3)
 
-pub ReadsUntilFailure-joined : (known mid remaining : Option (List ℕ)) (texts more : List (List ℕ)) (begun : List ℕ) (was : Bool) → Reads known texts mid was → was ≡ false → ReadsUntilFailure mid more begun remaining → ReadsUntilFailure known (texts ++ more) begun remaining
+pub ReadsUntilFailure-joined : (known mid remaining : Option (List ℕ)) (texts more : List (List ℕ)) (begun : List ℕ) (was : Bool) → ReadsLines known texts mid was → was ≡ false → ReadsUntilFailure mid more begun remaining → ReadsUntilFailure known (texts ++ more) begun remaining
 ReadsUntilFailure-joined None mid remaining texts more begun was r w s = tt
 ReadsUntilFailure-joined (Some input) None remaining texts more begun was r w s = absurd r
 ReadsUntilFailure-joined (Some input) (Some text) remaining texts more begun was r w s =

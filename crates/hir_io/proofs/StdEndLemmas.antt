@@ -13,11 +13,11 @@ Consumes-told false (Some xs) None new bytes k c = absurd k
 Consumes-told false (Some xs) (Some ys) None bytes k c = absurd c
 Consumes-told false (Some xs) (Some ys) (Some zs) bytes k c = sym k ∙ c
 
-pub Appends-behind : (old mid new : Option (List ℕ)) (bytes : List ℕ) → Keeps old mid → Appends mid new bytes → Appends old new bytes
-Appends-behind None mid new bytes k c = tt
-Appends-behind (Some xs) None new bytes k c = absurd k
-Appends-behind (Some xs) (Some ys) None bytes k c = absurd c
-Appends-behind (Some xs) (Some ys) (Some zs) bytes k c = c ∙ ap (λ v. v ++ bytes) k
+pub Appends-suffix : (old mid new : Option (List ℕ)) (bytes : List ℕ) → Keeps old mid → Appends mid new bytes → Appends old new bytes
+Appends-suffix None mid new bytes k c = tt
+Appends-suffix (Some xs) None new bytes k c = absurd k
+Appends-suffix (Some xs) (Some ys) None bytes k c = absurd c
+Appends-suffix (Some xs) (Some ys) (Some zs) bytes k c = c ∙ ap (λ v. v ++ bytes) k
 
 pub IsAtEnd-told : (overrun : Bool) (old mid new : Option (List ℕ)) → Keeps old mid → Consumes mid new [] → IsAtEnd new → IsAtEnd (unless_overrun overrun old)
 IsAtEnd-told true old mid new k c e = tt

@@ -1,4 +1,4 @@
-pub mod Ends
+pub mod Effects
 pub mod StdEnd
 pub mod Text
 pub mod LineState

@@ -3,7 +3,7 @@ use Rattle.std.specs.Prelude.{◌≡◌, ℕ, Bool, true, false, List, [], ◌++
 use Rattle.std.specs.Io.KnownBytes.{Appends, IsAtEnd, Keeps}
 use Rattle.hir_io.specs.declared.next.LineFault.{LineFault}
 use Rattle.hir_io.specs.declared.next.LineFault.TheVariants.{OutOfMemory, InputFailed, OutputFailed}
-use Rattle.hir_io.specs.Ends.{GrowsByFront, IsWrittenUpTo}
+use Rattle.hir_io.specs.Effects.{AppendsPrefix, IsWrittenUpTo}
 use Rattle.hir_io.specs.Text.{HasNoLineEnd, TakesLine}
 use Rattle.hir_io.specs.LineState.{LineState}
 
@@ -43,7 +43,7 @@ NextWrites contents contents' waiting waiting' (Ok found) = IsWrittenUpTo conten
 NextWrites contents contents' waiting waiting' (Err InputFailed) =
     Appends contents contents' waiting × (waiting' ≡ [])
 NextWrites contents contents' waiting waiting' (Err OutputFailed) =
-    GrowsByFront contents contents' waiting × (waiting' ≡ [])
+    AppendsPrefix contents contents' waiting × (waiting' ≡ [])
 NextWrites contents contents' waiting waiting' (Err OutOfMemory) =
     Appends contents contents' waiting × (waiting' ≡ [])
 

@@ -5,7 +5,7 @@ use Rattle.hir_io.specs.declared.lines.LineTaken.{LineTaken}
 use Rattle.hir_io.specs.declared.lines.LineTaken.TheVariants.{Line, More, End}
 use Rattle.hir_io.specs.declared.lines.FillFault.{FillFault}
 use Rattle.hir_io.specs.declared.lines.FillFault.TheVariants.{OutOfMemory, InputFailed}
-use Rattle.hir_io.specs.Ends.{IsKeptOrUntold}
+use Rattle.hir_io.specs.Effects.{IsKeptOrUntold}
 use Rattle.hir_io.specs.Text.{HasNoLineEnd, TakesLine}
 use Rattle.hir_io.specs.LineState.{LineState}
 

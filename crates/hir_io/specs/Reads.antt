@@ -3,18 +3,18 @@ use Rattle.std.specs.Prelude.{◌≡◌, ℕ, Bool, List, ◌++◌, Option, None
 use Rattle.hir_io.specs.Text.{lines, IsRead, IsCutShort}
 
 -- these lines were read from the shown bytes, and these are still to be taken
-abbrev pub Reads : Option (List ℕ) → List (List ℕ) → Option (List ℕ) → Bool → Type 0
-Reads None texts rest at_end = Unit {0}
-Reads (Some input) texts None at_end = ⊥
-Reads (Some input) texts (Some rest) at_end = IsRead input texts rest at_end
+abbrev pub ReadsLines : Option (List ℕ) → List (List ℕ) → Option (List ℕ) → Bool → Type 0
+ReadsLines None texts rest at_end = Unit {0}
+ReadsLines (Some input) texts None at_end = ⊥
+ReadsLines (Some input) texts (Some rest) at_end = IsRead input texts rest at_end
 
 -- these are all the lines of the shown bytes
 abbrev pub ReadsAll : Option (List ℕ) → List (List ℕ) → Type 0
 ReadsAll known texts = IfSome known (λ input. lines input ≡ texts)
 
 -- these are the first lines of the shown bytes
-abbrev pub ReadsFront : Option (List ℕ) → List (List ℕ) → Type 0
-ReadsFront known texts = IfSome known (λ input. (more : List (List ℕ)) × (lines input ≡ texts ++ more))
+abbrev pub ReadsPrefix : Option (List ℕ) → List (List ℕ) → Type 0
+ReadsPrefix known texts = IfSome known (λ input. (more : List (List ℕ)) × (lines input ≡ texts ++ more))
 
 -- a read failed after these lines of the shown bytes and the beginning of one more
 abbrev pub ReadsUntilFailure : Option (List ℕ) → List (List ℕ) → List ℕ → Option (List ℕ) → Type 0

@@ -3,7 +3,7 @@
 ghost use Rattle.std.specs.Prelude.{◌≡◌, ◌+◌, ◌≤◌, ◌<◌, ◌^◌, ◌||◌, [], List, ℕ, Bool, Option, IfOk, IsOk, OnErr, OnOk, take, length, is_err};
 ghost use Rattle.std.specs.Fmt.{decimal};
 ghost use Rattle.std.specs.Io.KnownBytes.{Appends, Consumes, IsAtEnd};
-ghost use Rattle.hir_io.specs.Ends.{GrowsByFront, IsKeptOrUntold};
+ghost use Rattle.hir_io.specs.Effects.{AppendsPrefix, IsKeptOrUntold};
 
 use itoa::Buffer;
 use std::fmt;
@@ -86,7 +86,7 @@ pub trait Sink {
 /// Writes all the bytes. After an `Err` a prefix of them was written. If there are none, the writer isn't called.
 pub fn write_all<W: Sink>(writer: &mut W, bytes: &[u8]) -> Result<(), EndFailed>
     ensures bytes { OnOk result (Appends (W.contents writer.old) (W.contents writer.new) bytes.now) }
-    ensures err { OnErr result (GrowsByFront (W.contents writer.old) (W.contents writer.new) bytes.now) }
+    ensures err { OnErr result (AppendsPrefix (W.contents writer.old) (W.contents writer.new) bytes.now) }
     ensures failure { W.is_failed writer.new ≡ (is_err result || W.is_failed writer.old) }
     ensures idle { bytes.now ≡ [] → IsOk result × (writer.new ≡ writer.old) }
 {
@@ -102,7 +102,7 @@ pub fn write_all<W: Sink>(writer: &mut W, bytes: &[u8]) -> Result<(), EndFailed>
 pub fn write_decimal<W: Sink>(writer: &mut W, number: u64) -> Result<(), EndFailed>
     ensures bytes { OnOk result (Appends (W.contents writer.old) (W.contents writer.new) (decimal number)) }
     ensures err { OnErr result
-        (GrowsByFront (W.contents writer.old) (W.contents writer.new) (decimal number)) }
+        (AppendsPrefix (W.contents writer.old) (W.contents writer.new) (decimal number)) }
     ensures failure { W.is_failed writer.new ≡ (is_err result || W.is_failed writer.old) }
 {
     let mut digits = Buffer::new();

@@ -3,7 +3,7 @@
 ghost use Rattle.std.specs.Prelude.{◌≡◌, ◌+◌, ◌≤◌, ◌||◌, ◌++◌, [], true, length, IfOk, OnOk, OnErr, IsOk, is_err, cond};
 ghost use Rattle.std.specs.Fmt.{decimal};
 ghost use Rattle.std.specs.Io.KnownBytes.{Appends};
-ghost use Rattle.hir_io.specs.Ends.{GrowsByFront, IsWrittenUpTo};
+ghost use Rattle.hir_io.specs.Effects.{AppendsPrefix, IsWrittenUpTo};
 
 use crate::ends::{EndFailed, Sink, write_all};
 use itoa::Buffer;
@@ -58,7 +58,7 @@ impl OutputBuffer {
         ensures bytes { OnOk result
             (IsWrittenUpTo (W.contents writer.old) (W.contents writer.new) (self.old ++ bytes.now) self.new) }
         ensures err { OnErr result
-            (GrowsByFront (W.contents writer.old) (W.contents writer.new) (self.old ++ bytes.now)
+            (AppendsPrefix (W.contents writer.old) (W.contents writer.new) (self.old ++ bytes.now)
             × (self.new ≡ [])) }
         ensures failure { W.is_failed writer.new ≡ (is_err result || W.is_failed writer.old) }
         ensures waits { length self.old + length bytes.now ≤ CAPACITY →
@@ -80,7 +80,7 @@ impl OutputBuffer {
             (IsWrittenUpTo (W.contents writer.old) (W.contents writer.new)
             (self.old ++ decimal number) self.new) }
         ensures err { OnErr result
-            (GrowsByFront (W.contents writer.old) (W.contents writer.new) (self.old ++ decimal number)
+            (AppendsPrefix (W.contents writer.old) (W.contents writer.new) (self.old ++ decimal number)
             × (self.new ≡ [])) }
         ensures failure { W.is_failed writer.new ≡ (is_err result || W.is_failed writer.old) }
         ensures waits { length self.old + length (decimal number) ≤ CAPACITY →
@@ -96,7 +96,7 @@ impl OutputBuffer {
     pub fn flush<W: Sink>(&mut self, writer: &mut W) -> Result<(), EndFailed>
         ensures empty { self.new ≡ [] }
         ensures bytes { OnOk result (Appends (W.contents writer.old) (W.contents writer.new) self.old) }
-        ensures err { OnErr result (GrowsByFront (W.contents writer.old) (W.contents writer.new) self.old) }
+        ensures err { OnErr result (AppendsPrefix (W.contents writer.old) (W.contents writer.new) self.old) }
         ensures failure { W.is_failed writer.new ≡ (is_err result || W.is_failed writer.old) }
         ensures idle { self.old ≡ [] → IsOk result × (writer.new ≡ writer.old) }
     {

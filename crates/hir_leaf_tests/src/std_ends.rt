@@ -1,7 +1,7 @@
 //! Readers and writers of std as sources and sinks: interruptions, failures, and what one answer means.
 
 ghost use Rattle.std.specs.Prelude.{◌≡◌, ◌≤◌, false, length, OnErr, Some};
-ghost use Rattle.hir_io.specs.Ends.{GrowsByFront};
+ghost use Rattle.hir_io.specs.Effects.{AppendsPrefix};
 
 use crate::fakes::{BreakingReader, BreakingWriter, Interrupted};
 use hir_io::{Attempt, EndFailed, Sink, Source, StdEnd, read_attempt, write_all, write_attempt};
@@ -121,7 +121,7 @@ fn each_answer_is_weighed(rt: HostRuntime) {
 
 /// Writes over a writer of std. Where that fails, what the writer says that it took has grown by a front of the text.
 fn write_over(writer: &mut StdEnd<&mut BreakingWriter>, text: &[u8]) -> Result<(), EndFailed>
-    ensures { OnErr result (GrowsByFront (Some writer.old.inner.now.bytes.items)
+    ensures { OnErr result (AppendsPrefix (Some writer.old.inner.now.bytes.items)
         (Some writer.new.inner.now.bytes.items) text.now) }
 {
     write_all(writer, text)

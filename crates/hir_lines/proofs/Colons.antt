@@ -7,13 +7,13 @@ use Rattle.hir_node.specs.declared.expr_types.MatchArm.{MatchArm}
 use Rattle.hir_node.specs.declared.expr_types.Statement.{Statement}
 use Rattle.hir_node.specs.declared.expr_types.Statement.TheVariants.{Let, Expr, Item}
 use Rattle.hir_node.specs.declared.expr_types.Item.TheVariants.{MacroDef, Other}
-use Rattle.hir_lines.specs.Readings.{whole, parts_of}
+use Rattle.hir_lines.specs.Readings.{whole, split_parts}
 use Rattle.hir_lines.specs.Words.{one_of}
 use Rattle.hir_lines.specs.ArmsAndStatements.{arm, arm_of, statement_of, statement_forms, let_statement, expr_statement, macro_statement, item_statement}
 use Rattle.hir_lines.specs.Tokens.{Token, Word, Number, Optional, IsWord, IsNumber, IsArm, IsStatement, colons}
 use Rattle.hir_lines.proofs.Forms.{Accepts, accept_head, whole_read, whole_found, Sound, sound_one_of, AllSound, no_form, form}
 use Rattle.hir_lines.proofs.Takes.{accepting, sounding}
-use Rattle.hir_lines.proofs.Separators.{AllLack, lacks, lacks-join, parts_of-join}
+use Rattle.hir_lines.proofs.Separators.{AllLack, lacks, lacks-join, split_parts-join}
 use Rattle.hir_lines.proofs.Spellings.{number_lacks, optional_lacks}
 
 pub arm_tokens : MatchArm → List Token
@@ -64,8 +64,8 @@ spelt (token ∷ tokens) (word ∷ words) h = one h.0 (spelt tokens words h.1)
 spelt _ _ h = absurd h
 
 -- the parts of a word that was joined by colons
-parts_joined : (word part : List ℕ) (parts : List (List ℕ)) → word ≡ colons (part ∷ parts) → AllLack 58 (part ∷ parts) → parts_of 58 word ≡ part ∷ parts
-parts_joined word part parts joined lack = ap (parts_of 58) joined ∙ parts_of-join 58 part parts lack
+parts_joined : (word part : List ℕ) (parts : List (List ℕ)) → word ≡ colons (part ∷ parts) → AllLack 58 (part ∷ parts) → split_parts 58 word ≡ part ∷ parts
+parts_joined word part parts joined lack = ap (split_parts 58) joined ∙ split_parts-join 58 part parts lack
 
 pub arm_reads : (a : MatchArm) (word : List ℕ) → IsArm a word → arm_of word ≡ Some a
 unfolding arm_of arm_tokens
@@ -81,14 +81,14 @@ arm_written : (a : MatchArm) (word : List ℕ) (parts : List (List ℕ)) → wor
 unfolding arm_tokens
 arm_written a word parts joined h = arm_parts a word parts joined (spelt _ parts h)
 
-joined_again : (word : List ℕ) → word ≡ colons (parts_of 58 word)
+joined_again : (word : List ℕ) → word ≡ colons (split_parts 58 word)
 joined_again word = sym (join_with_byte-slice_split 58 word)
 
 pub arm_spells : (a : MatchArm) (word : List ℕ) → arm_of word ≡ Some a → IsArm a word
 unfolding arm_of
 arm_spells a word e =
-    let found = sound_arm.written (parts_of 58 word) a (whole_found (arm (parts_of 58 word)) a e) in
-    arm_written a word (parts_of 58 word) (joined_again word) (subst (λ tokens. AllZip IsWord tokens (parts_of 58 word)) found.1 found.2)
+    let found = sound_arm.written (split_parts 58 word) a (whole_found (arm (split_parts 58 word)) a e) in
+    arm_written a word (split_parts 58 word) (joined_again word) (subst (λ tokens. AllZip IsWord tokens (split_parts 58 word)) found.1 found.2)
 
 statement_all_read : (s : Statement) (word : List ℕ) (part : List ℕ) (parts : List (List ℕ)) → word ≡ colons (part ∷ parts) → AllLack 58 (part ∷ parts) →
     AllZip IsWord (statement_tokens s) (part ∷ parts) → statement_of word ≡ Some s
@@ -135,8 +135,8 @@ statement_written (Item Other) word parts joined h = item_parts word parts joine
 pub statement_spells : (s : Statement) (word : List ℕ) → statement_of word ≡ Some s → IsStatement s word
 unfolding statement_of
 statement_spells s word e =
-    let found = sound_statement.written (parts_of 58 word) s (whole_found (one_of statement_forms (parts_of 58 word)) s e) in
-    statement_written s word (parts_of 58 word) (joined_again word) (subst (λ tokens. AllZip IsWord tokens (parts_of 58 word)) found.1 found.2)
+    let found = sound_statement.written (split_parts 58 word) s (whole_found (one_of statement_forms (split_parts 58 word)) s e) in
+    statement_written s word (split_parts 58 word) (joined_again word) (subst (λ tokens. AllZip IsWord tokens (split_parts 58 word)) found.1 found.2)
 
 -- no arm and no statement has a space
 pub arm_lacks : (a : MatchArm) (word : List ℕ) → IsArm a word → lacks 32 word ≡ true

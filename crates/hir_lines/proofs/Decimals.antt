@@ -8,8 +8,8 @@ use Rattle.std.proofs.lemmas.List.{take_more, get_or_append_left}
 use Rattle.std.proofs.lemmas.List.Sums.{AllPass-from_list_all, list_all-from_AllPass}
 use Rattle.std.proofs.lemmas.Fmt.{decimal_is_IsNumeral_wide, decimal_digit, decimal_step_wide, decimal_by_steps_wide}
 use Rattle.hir_lines.specs.Numerals.{is_digit, value, is_numeral, has_needless_zero}
-use Rattle.hir_lines.proofs.Digits.{digit_high, value-next, value-front}
-use Rattle.hir_lines.proofs.Integers.{own, digits_behind, some_digit}
+use Rattle.hir_lines.proofs.Digits.{digit_high, value-next, value-prefix}
+use Rattle.hir_lines.proofs.Integers.{own, digits_after, some_digit}
 
 -- no needless zero, as a number that stands alone has none
 abbrev NoNeedless : List ℕ → Type 0
@@ -37,7 +37,7 @@ value_one digits one =
 value_pos : (digits : List ℕ) → 0 < length digits → 48 < get_or digits 0 0 → 0 < value digits
 value_pos digits some first =
     let next = value-next digits 0 some in
-    omega (arith, next, value-front digits 1)
+    omega (arith, next, value-prefix digits 1)
 
 decimal_of : (k : ℕ) (digits : List ℕ) → length digits ≡ suc k → list_all is_digit digits ≡ true → NoNeedless digits → value digits < 10 ^ 64 → decimal (value digits) ≡ digits
 decimal_of zero digits len all plain small =
@@ -51,28 +51,28 @@ decimal_of zero digits len all plain small =
     decimal_digit (value digits) (omega arith) ∙ ap (λ b. b ∷ []) (omega arith) ∙ sym whole
 decimal_of (suc k) digits len all plain small =
     let within : suc k < length digits = omega (arith, len) in
-    let front : List ℕ = take (suc k) digits in
+    let prefix : List ℕ = take (suc k) digits in
     let d : ℕ = get_or digits (suc k) 0 in
     let digit = digit_at digits all (suc k) within in
     let low : 48 ≤ d = digit_low d digit in
     let high : d ≤ 57 = digit_high d digit in
     let every : take (suc k + 1) digits ≡ digits = take_all (suc k + 1) digits (omega arith) in
-    let whole : digits ≡ front ++ d ∷ [] = sym every ∙ take_more digits (suc k) 0 within in
-    let v : value digits ≡ 10 * value front + (d - 48) = ap value (sym every) ∙ value-next digits (suc k) within in
-    let size : length front ≡ suc k = omega (arith, length-take (suc k) digits) in
-    let same_first : get_or front 0 0 ≡ get_or digits 0 0 = get_or-take {A = ℕ} (suc k) digits 0 0 (omega arith) in
+    let whole : digits ≡ prefix ++ d ∷ [] = sym every ∙ take_more digits (suc k) 0 within in
+    let v : value digits ≡ 10 * value prefix + (d - 48) = ap value (sym every) ∙ value-next digits (suc k) within in
+    let size : length prefix ≡ suc k = omega (arith, length-take (suc k) digits) in
+    let same_first : get_or prefix 0 0 ≡ get_or digits 0 0 = get_or-take {A = ℕ} (suc k) digits 0 0 (omega arith) in
     let other : get_or digits 0 0 ≢ 48 = λ zero_first. absurd (omega (arith, plain zero_first)) in
     let first_low : 48 ≤ get_or digits 0 0 = digit_low _ (digit_at digits all 0 (omega arith)) in
-    let some : 0 < value front = value_pos front (omega arith) (omega (arith, same_first, first_low, other)) in
-    let front_small : value front < 10 ^ 64 = omega arith in
-    let shorter : decimal (value front) ≡ front =
-    decimal_of k front size (take_digits digits (suc k) (omega arith) all) (λ zero_first. absurd (other (sym same_first ∙ zero_first))) front_small in
-    let quotient : value digits / 10 ≡ value front = omega arith in
+    let some : 0 < value prefix = value_pos prefix (omega arith) (omega (arith, same_first, first_low, other)) in
+    let prefix_small : value prefix < 10 ^ 64 = omega arith in
+    let shorter : decimal (value prefix) ≡ prefix =
+    decimal_of k prefix size (take_digits digits (suc k) (omega arith) all) (λ zero_first. absurd (other (sym same_first ∙ zero_first))) prefix_small in
+    let quotient : value digits / 10 ≡ value prefix = omega arith in
     let last : 48 + value digits % 10 ≡ d = omega arith in
     decimal_step_wide (value digits) (omega arith) small
     ∙ ap (λ m. decimal m ++ (48 + value digits % 10) ∷ []) quotient
     ∙ ap (λ ds. ds ++ (48 + value digits % 10) ∷ []) shorter
-    ∙ ap (λ b. front ++ b ∷ []) last
+    ∙ ap (λ b. prefix ++ b ∷ []) last
     ∙ sym whole
 
 not_needless : (digits : List ℕ) → is_numeral digits ≡ true → NoNeedless digits
@@ -83,7 +83,7 @@ pub decimal-value : (digits : List ℕ) → is_numeral digits ≡ true → value
 decimal-value digits e small = by_length (length digits) refl where
   by_length : (n : ℕ) → length digits ≡ n → decimal (value digits) ≡ digits
   by_length zero none = absurd (omega (arith, some_digit digits e))
-  by_length (suc k) len = decimal_of k digits len (digits_behind digits e) (not_needless digits e) small
+  by_length (suc k) len = decimal_of k digits len (digits_after digits e) (not_needless digits e) small
 
 -- what is written in decimal is a numeral of that value
 pub value-decimal : (n : ℕ) → n < 10 ^ 64 → value (decimal n) ≡ n

@@ -11,12 +11,12 @@ grows : (bs : List ℕ) (n : ℕ) → n ≤ fold (λ n b. 10 * n + (b - 48)) n b
 grows [] n = omega arith
 grows (b ∷ bs) n = omega (arith, grows bs (10 * n + (b - 48)))
 
-pub value-front : (bs : List ℕ) (i : ℕ) → value (take i bs) ≤ value bs
-value-front bs i =
-    let front = value (take i bs) in
-    let all : value bs ≡ fold (λ n b. 10 * n + (b - 48)) front (drop i bs) =
+pub value-prefix : (bs : List ℕ) (i : ℕ) → value (take i bs) ≤ value bs
+value-prefix bs i =
+    let prefix = value (take i bs) in
+    let all : value bs ≡ fold (λ n b. 10 * n + (b - 48)) prefix (drop i bs) =
     ap value (sym (take-append-drop i bs)) ∙ fold-append (λ n b. 10 * n + (b - 48)) 0 (take i bs) (drop i bs) in
-    omega (arith, all, grows (drop i bs) front)
+    omega (arith, all, grows (drop i bs) prefix)
 
 pub value-next : (bs : List ℕ) (i : ℕ) → i < length bs → value (take (i + 1) bs) ≡ 10 * value (take i bs) + (get_or bs i 0 - 48)
 value-next bs i h = grind (arith, common_steps)
@@ -29,7 +29,7 @@ if_below-below n h = grind (arith, nat_tests)
 
 -- a text of whose front the value is too large is no number
 pub too_large : (xs : List ℕ) (i : ℕ) → 2 ^ 32 ≤ value (take i xs) → if_below (2 ^ 32) (value xs) ≡ None
-too_large xs i large = if_below-large (value xs) (omega (arith, value-front xs i, large))
+too_large xs i large = if_below-large (value xs) (omega (arith, value-prefix xs i, large))
 
 -- digits of which the first is no zero have at least the value of a one and zeros
 pub value-long : (xs : List ℕ) (k : ℕ) → k < length xs → 48 < get_or xs 0 0 → 10 ^ k ≤ value (take (k + 1) xs)

@@ -120,8 +120,8 @@ first_written : {X Y : Type 0} (read : List ℕ → Option X) (token : X → Tok
 first_written read token Is next spells rest [] y e = cc
 first_written read token Is next spells rest (word ∷ words) y e =
     let found = first_found next words (read word) y e in
-    let behind = (rest found.0).written words y found.2 in
-    (token found.0 ∷ behind.0, behind.1, (spells found.0 word found.1, behind.2))
+    let suffix = (rest found.0).written words y found.2 in
+    (token found.0 ∷ suffix.0, suffix.1, (spells found.0 word found.1, suffix.2))
 
 pub sound_first : {X Y : Type 0} (read : List ℕ → Option X) (token : X → Token) (Is : Y → List Token → Type 0) (next : X → Reading Y) →
     ((x : X) (word : List ℕ) → read word ≡ Some x → IsWord (token x) word) → ((x : X) → Sound (λ y tokens. Is y (token x ∷ tokens)) (next x)) → Sound Is (first_word read >>= next)

@@ -26,8 +26,8 @@ pub if_is_some : {X : Type 0} (b : Bool) (o : Option X) (x : X) → (if b then o
 if_is_some true o x e = (refl, e)
 if_is_some false o x e = cc
 
-pub digits_behind : (text : List ℕ) → is_numeral text ≡ true → list_all is_digit text ≡ true
-digits_behind text e = and_second _ _ (and_second _ _ e)
+pub digits_after : (text : List ℕ) → is_numeral text ≡ true → list_all is_digit text ≡ true
+digits_after text e = and_second _ _ (and_second _ _ e)
 
 digit_is_ascii : (b : ℕ) → is_digit b ≡ true → b < 128
 digit_is_ascii b e = grind (arith, nat_tests)
@@ -39,13 +39,13 @@ digits_are_ascii digits e i =
       | inr past ↦ rw (get_or_past digits i 0 past) (omega arith)
     ]
 
-behind_minus : (text : List ℕ) (i : ℕ) → get_or text 0 0 ≡ 45 → get_or (drop 1 text) (i - 1) 0 < 128 → get_or text i 0 < 128
-behind_minus text i sign behind =
+after_minus : (text : List ℕ) (i : ℕ) → get_or text 0 0 ≡ 45 → get_or (drop 1 text) (i - 1) 0 < 128 → get_or text i 0 < 128
+after_minus text i sign suffix =
     elim (cases_lt 0 i) [
       | inl later ↦
           let same : get_or (drop 1 text) (i - 1) 0 ≡ get_or text i 0 =
           get_or-drop 1 text (i - 1) 0 ∙ ap (λ k. get_or text k 0) (omega arith) in
-          rw same at behind
+          rw same at suffix
       | inr first ↦
           let start : i ≡ 0 = omega arith in
           rw start (omega arith)
@@ -57,8 +57,8 @@ numeral text e minus is = ap (λ b. is_numeral (if b then drop 1 text else text)
 pub IsAscii-int : (text : List ℕ) → is_numeral (without_minus text) ≡ true → IsAscii text
 IsAscii-int text e = by_minus (has_minus text) refl where
   by_minus : (minus : Bool) → has_minus text ≡ minus → IsAscii text
-  by_minus false is = digits_are_ascii text (digits_behind text (numeral text e false is))
-  by_minus true is = λ i. behind_minus text i (eqb-true _ _ is) (digits_are_ascii (drop 1 text) (digits_behind (drop 1 text) (numeral text e true is)) (i - 1))
+  by_minus false is = digits_are_ascii text (digits_after text (numeral text e false is))
+  by_minus true is = λ i. after_minus text i (eqb-true _ _ is) (digits_are_ascii (drop 1 text) (digits_after (drop 1 text) (numeral text e true is)) (i - 1))
 
 pub own : IsNumeralModel (λ ds. list_all is_digit ds ≡ true) value
 own = numerals_by_fold _ (search rules) (λ n ds. fold (λ n b. 10 * n + (b - 48)) n ds) (search rules)
@@ -91,7 +91,7 @@ int_is text minus is = ap (λ b. value_of_digits b (if b then drop 1 text else t
 parses_plain : {E : Type 0} (text : List ℕ) (r : Result ℤ E) → ParsesSigned w128 10 text r → is_numeral text ≡ true → result_ok r ≡ with_sign false (value text)
 parses_plain text r h e =
     test_decides r ((0 < length text) × (value text < 2 ^ 127)) (pos (value text)) (nat_lt (value text) (2 ^ 127))
-    (parse_signed_digits own w128 text r h (digits_behind text e))
+    (parse_signed_digits own w128 text r h (digits_after text e))
     (λ q. let below : value text < 2 ^ 127 = q.1 in grind (arith, nat_tests))
     (λ t. (some_digit text e, ltb-true _ _ t))
 
@@ -101,7 +101,7 @@ parses_minus text r h sign e =
     test_decides r ((list_all is_digit digits ≡ true) × (0 < length digits) × (value digits ≤ 2 ^ 127)) (neg_ℤ (pos (value digits))) (nat_le (value digits) (2 ^ 127))
     (parse_signed_minus own w128 text r h sign)
     (λ q. let below : value digits ≤ 2 ^ 127 = q.2 in grind (arith, nat_tests))
-    (λ t. (digits_behind digits e, some_digit digits e, leb-true _ _ t))
+    (λ t. (digits_after digits e, some_digit digits e, leb-true _ _ t))
 
 pub int_parses : {E : Type 0} (text : List ℕ) (r : Result ℤ E) → ParsesSigned w128 10 text r → is_numeral (without_minus text) ≡ true → result_ok r ≡ int_of text
 int_parses text r h e = by_minus (has_minus text) refl where

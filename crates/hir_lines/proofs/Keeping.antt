@@ -5,7 +5,7 @@ use Rattle.std.specs.Option.{option_map, option_and_then}
 use Rattle.std.specs.Str.{bytes_eq}
 use Rattle.std.proofs.lemmas.Bool.{false≢true}
 use Rattle.hir_lines.specs.Numerals.{number_of}
-use Rattle.hir_lines.specs.Readings.{all_of, alone, comma, each, first_word, parts_of, whole}
+use Rattle.hir_lines.specs.Readings.{all_of, alone, comma, each, first_word, split_parts, whole}
 use Rattle.hir_lines.specs.Words.{list_of}
 use Rattle.hir_lines.proofs.Forms.{same_pair}
 
@@ -61,8 +61,8 @@ pub some_left : (r : Bool) (words : List (List ℕ)) → r ≡ true ↔ (words �
 some_left r words is other none = absurd (false≢true (sym other ∙ is.1 none))
 
 -- a list that is no dash is numbers
-pub list_otherwise : (word : List ℕ) → bytes_eq word (codes "-") ≡ false → list_of word ≡ all_of number_of (parts_of comma word)
+pub list_otherwise : (word : List ℕ) → bytes_eq word (codes "-") ≡ false → list_of word ≡ all_of number_of (split_parts comma word)
 unfolding list_of
 list_otherwise word other =
-    let read : Bool → Option (List ℕ) = λ b. if b then Some [] else all_of number_of (parts_of comma word) in
+    let read : Bool → Option (List ℕ) = λ b. if b then Some [] else all_of number_of (split_parts comma word) in
     ap read other

@@ -2,7 +2,7 @@ pub mod Colons
 pub mod Decimals
 pub mod Digits
 pub mod Forms
-pub mod Fronts
+pub mod Prefixes
 pub mod Integers
 pub mod Keeping
 pub mod Separators

@@ -7,7 +7,7 @@ use Rattle.std.proofs.lemmas.List.Folds.{list_all-append}
 use Rattle.std.proofs.lemmas.List.Elements.{All-weaker}
 use Rattle.std.proofs.lemmas.List.Sums.{AllPass-from_list_all, list_all-from_AllPass}
 use Rattle.std.proofs.lemmas.List.Splits.{slice_split_at, slice_split_none}
-use Rattle.hir_lines.specs.Readings.{is_byte, parts_of}
+use Rattle.hir_lines.specs.Readings.{is_byte, split_parts}
 
 abbrev pub lacks : ℕ → List ℕ → Bool
 lacks c text = list_all (λ b. not (is_byte c b)) text
@@ -43,8 +43,8 @@ same_byte : (c : ℕ) → is_byte c c ≡ true
 same_byte c = grind (arith, nat_tests)
 
 -- the parts of texts that were joined are those texts
-pub parts_of-join : (c : ℕ) (text : List ℕ) (texts : List (List ℕ)) → AllLack c (text ∷ texts) → parts_of c (join_with_byte c (text ∷ texts)) ≡ text ∷ texts
-parts_of-join c text [] h = slice_split_none (is_byte c) text (none_there c text h.0)
-parts_of-join c text (other ∷ texts) h =
+pub split_parts-join : (c : ℕ) (text : List ℕ) (texts : List (List ℕ)) → AllLack c (text ∷ texts) → split_parts c (join_with_byte c (text ∷ texts)) ≡ text ∷ texts
+split_parts-join c text [] h = slice_split_none (is_byte c) text (none_there c text h.0)
+split_parts-join c text (other ∷ texts) h =
     slice_split_at (is_byte c) text c (join_with_byte c (other ∷ texts)) (none_there c text h.0) (same_byte c)
-    ∙ ap (λ parts. text ∷ parts) (parts_of-join c other texts h.1)
+    ∙ ap (λ parts. text ∷ parts) (split_parts-join c other texts h.1)

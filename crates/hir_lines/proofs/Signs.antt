@@ -58,9 +58,9 @@ plain_spells z word numeral e =
     let spelt : IsInteger (pos (value word)) word = (record { sfits = below }, inl (sym (decimal-value word numeral (omega arith)))) in
     subst (λ y. IsInteger y word) same spelt
 
-behind_minus : (word : List ℕ) → get_or word 0 0 ≡ 45 → word ≡ 45 ∷ drop 1 word
-behind_minus [] e = absurd (omega (arith, e))
-behind_minus (b ∷ bs) e = ap (λ c. c ∷ bs) e
+after_minus : (word : List ℕ) → get_or word 0 0 ≡ 45 → word ≡ 45 ∷ drop 1 word
+after_minus [] e = absurd (omega (arith, e))
+after_minus (b ∷ bs) e = ap (λ c. c ∷ bs) e
 
 minus_number : (n : ℕ) (word : List ℕ) → n ≤ 2 ^ 127 → word ≡ 45 ∷ decimal n → IsInteger (neg_ℤ (pos n)) word
 minus_number zero word h written = (record { sfits = omega arith }, inr (refl, written ∙ ap (λ ds. 45 ∷ ds) (decimal_digit 0 (omega arith))))
@@ -73,7 +73,7 @@ minus_spells z word sign numeral e =
     let same : neg_ℤ (pos v) ≡ z = let some = found.1 in cc in
     let below : v ≤ 2 ^ 127 = leb-true _ _ found.0 in
     let digits : decimal v ≡ drop 1 word = decimal-value (drop 1 word) numeral (omega arith) in
-    subst (λ y. IsInteger y word) same (minus_number v word below (behind_minus word sign ∙ ap (λ ds. 45 ∷ ds) (sym digits)))
+    subst (λ y. IsInteger y word) same (minus_number v word below (after_minus word sign ∙ ap (λ ds. 45 ∷ ds) (sym digits)))
 
 pub int_spells : (z : ℤ) (word : List ℕ) → int_of word ≡ Some z → IsInteger z word
 int_spells z word e = by_minus (has_minus word) refl where

@@ -16,13 +16,13 @@ use Rattle.hir_base.specs.declared.operators.BinaryOp.{BinaryOp}
 use Rattle.hir_base.specs.declared.operators.BinaryOp.TheVariants.{LogicOp as Logic, ArithOp as Arith, CmpOp as Cmp, Assignment}
 use Rattle.hir_lines.specs.Numerals.{number_of, is_digit, is_numeral, if_below, value}
 use Rattle.hir_lines.specs.Operators.{operators, op_of, op_text}
-use Rattle.hir_lines.specs.Readings.{look_up, all_of, is_byte, parts_of}
+use Rattle.hir_lines.specs.Readings.{look_up, all_of, is_byte, split_parts}
 use Rattle.hir_lines.specs.Names.{name_of, is_name}
 use Rattle.hir_lines.specs.Words.{optional_of, list_of}
 use Rattle.hir_lines.specs.Tokens.{IsNumber, IsOptional, IsNumbers}
 use Rattle.hir_lines.proofs.Decimals.{decimal-value, value-decimal, numeral-decimal, digits-decimal}
 use Rattle.hir_lines.proofs.Forms.{all_read, all_found, same_bytes}
-use Rattle.hir_lines.proofs.Separators.{lacks, AllLack, lacks-passes, parts_of-join}
+use Rattle.hir_lines.proofs.Separators.{lacks, AllLack, lacks-passes, split_parts-join}
 use Rattle.hir_lines.proofs.Splits.{parts_are_there}
 use Rattle.hir_lines.proofs.Integers.{and_first, and_second, if_is_some}
 use Rattle.hir_lines.proofs.Digits.{if_below-below}
@@ -140,36 +140,36 @@ numbers_there c plain [] [] h = tt
 numbers_there c plain (n ∷ ns) (word ∷ words) h = (number_lacks c plain n word h.0, numbers_there c plain ns words h.1)
 numbers_there c plain _ _ h = absurd h
 
-parts_are_numbers : (n : ℕ) (ns : List ℕ) (words : List (List ℕ)) → AllZip IsNumber (n ∷ ns) words → parts_of 44 (join_with_byte 44 words) ≡ words
+parts_are_numbers : (n : ℕ) (ns : List ℕ) (words : List (List ℕ)) → AllZip IsNumber (n ∷ ns) words → split_parts 44 (join_with_byte 44 words) ≡ words
 parts_are_numbers n ns [] h = absurd h
-parts_are_numbers n ns (word ∷ words) h = parts_of-join 44 word words (numbers_there 44 refl (n ∷ ns) (word ∷ words) h)
+parts_are_numbers n ns (word ∷ words) h = split_parts-join 44 word words (numbers_there 44 refl (n ∷ ns) (word ∷ words) h)
 
-dash_is_no_list : (word : List ℕ) (n : ℕ) (ns : List ℕ) → all_of number_of (parts_of 44 word) ≡ Some (n ∷ ns) → (dash : Bool) → bytes_eq word (codes "-") ≡ dash → bytes_eq word (codes "-") ≡ false
+dash_is_no_list : (word : List ℕ) (n : ℕ) (ns : List ℕ) → all_of number_of (split_parts 44 word) ≡ Some (n ∷ ns) → (dash : Bool) → bytes_eq word (codes "-") ≡ dash → bytes_eq word (codes "-") ≡ false
 unfolding number_of
 dash_is_no_list word n ns e false is = is
 dash_is_no_list word n ns e true is =
-    let wrong : None ≡ Some (n ∷ ns) = ap (λ text. all_of number_of (parts_of 44 text)) (sym (same_bytes word (codes "-") is)) ∙ e in cc
+    let wrong : None ≡ Some (n ∷ ns) = ap (λ text. all_of number_of (split_parts 44 text)) (sym (same_bytes word (codes "-") is)) ∙ e in cc
 
 -- a list
 pub list_reads : (ns : List ℕ) (word : List ℕ) → IsNumbers ns word → list_of word ≡ Some ns
 unfolding list_of
 list_reads [] word h = ap list_of h
 list_reads (n ∷ ns) word h =
-    let all : all_of number_of (parts_of 44 word) ≡ Some (n ∷ ns) =
-    ap (λ text. all_of number_of (parts_of 44 text)) h.2 ∙ ap (all_of number_of) (parts_are_numbers n ns h.0 h.1) ∙ all_read IsNumber number_of number_reads (n ∷ ns) h.0 h.1 in
-    ap (λ b. if b then Some [] else all_of number_of (parts_of 44 word)) (dash_is_no_list word n ns all _ refl) ∙ all
+    let all : all_of number_of (split_parts 44 word) ≡ Some (n ∷ ns) =
+    ap (λ text. all_of number_of (split_parts 44 text)) h.2 ∙ ap (all_of number_of) (parts_are_numbers n ns h.0 h.1) ∙ all_read IsNumber number_of number_reads (n ∷ ns) h.0 h.1 in
+    ap (λ b. if b then Some [] else all_of number_of (split_parts 44 word)) (dash_is_no_list word n ns all _ refl) ∙ all
 
 pub list_spells : (ns : List ℕ) (word : List ℕ) → list_of word ≡ Some ns → IsNumbers ns word
 unfolding list_of
 list_spells ns word e = by_dash (bytes_eq word (codes "-")) refl e where
-  of_numbers : (ns : List ℕ) → all_of number_of (parts_of 44 word) ≡ Some ns → IsNumbers ns word
-  of_numbers [] e = absurd (some_part (parts_of 44 word) (parts_are_there (is_byte 44) word) (all_found IsNumber number_of number_spells [] (parts_of 44 word) e))
-  of_numbers (n ∷ ns) e = (parts_of 44 word, all_found IsNumber number_of number_spells (n ∷ ns) (parts_of 44 word) e, sym (join_with_byte-slice_split 44 word))
+  of_numbers : (ns : List ℕ) → all_of number_of (split_parts 44 word) ≡ Some ns → IsNumbers ns word
+  of_numbers [] e = absurd (some_part (split_parts 44 word) (parts_are_there (is_byte 44) word) (all_found IsNumber number_of number_spells [] (split_parts 44 word) e))
+  of_numbers (n ∷ ns) e = (split_parts 44 word, all_found IsNumber number_of number_spells (n ∷ ns) (split_parts 44 word) e, sym (join_with_byte-slice_split 44 word))
 
   of_dash : (ns : List ℕ) → word ≡ codes "-" → Some [] ≡ Some ns → IsNumbers ns word
   of_dash [] is e = is
   of_dash (n ∷ ns) is e = cc
 
-  by_dash : (dash : Bool) → bytes_eq word (codes "-") ≡ dash → (if dash then Some [] else all_of number_of (parts_of 44 word)) ≡ Some ns → IsNumbers ns word
+  by_dash : (dash : Bool) → bytes_eq word (codes "-") ≡ dash → (if dash then Some [] else all_of number_of (split_parts 44 word)) ≡ Some ns → IsNumbers ns word
   by_dash true is e = of_dash ns (same_bytes word (codes "-") is) e
   by_dash false is e = of_numbers ns e

@@ -2,7 +2,7 @@
 use Rattle.std.proofs.Common.{◌≡◌, ◌+◌, ◌<◌, ◌≤◌, ℕ, zero, suc, Bool, List, [], ◌∷◌, drop, length, refl, sym, ap, ◌∙◌, arith}
 use Rattle.std.specs.List.{slice_split}
 use Rattle.std.proofs.lemmas.List.Splits.{length-slice_split}
-use Rattle.hir_lines.specs.Readings.{HasWord, IsRestFrom, is_byte, parts_of, words_from}
+use Rattle.hir_lines.specs.Readings.{HasWord, IsRestFrom, is_byte, split_parts, words_from}
 
 -- a text has one part at least
 pub parts_are_there : (p : ℕ → Bool) (text : List ℕ) → slice_split p text ≡ [] → ⊥
@@ -16,7 +16,7 @@ pub parts_begin : (p : ℕ → Bool) (text : List ℕ) → HasWord (slice_split 
 parts_begin p text = has_word (slice_split p text) (parts_are_there p text)
 
 -- within a text they are those of its rest
-pub words_at : (c start : ℕ) (text : List ℕ) → start ≤ length text → words_from c start text ≡ parts_of c (drop start text)
+pub words_at : (c start : ℕ) (text : List ℕ) → start ≤ length text → words_from c start text ≡ split_parts c (drop start text)
 words_at c zero text h = refl
 words_at c (suc n) [] h = absurd (omega (arith, h))
 words_at c (suc n) (b ∷ bs) h = words_at c n bs (omega (arith, h))
@@ -40,8 +40,8 @@ further c (suc m) n (b ∷ bs) h =
     ap (λ (k : ℕ). words_from c k (b ∷ bs)) same ∙ further c m n bs (omega (arith, h))
 
 -- the words from a place on are those of the rest
-pub rest_words : (c : ℕ) {start : ℕ} {text rest : List ℕ} → IsRestFrom start text rest → words_from c start text ≡ parts_of c rest
-rest_words c {start} {text} {rest} is = words_at c start text (omega (arith, is.size)) ∙ ap (parts_of c) (sym is.is)
+pub rest_words : (c : ℕ) {start : ℕ} {text rest : List ℕ} → IsRestFrom start text rest → words_from c start text ≡ split_parts c rest
+rest_words c {start} {text} {rest} is = words_at c start text (omega (arith, is.size)) ∙ ap (split_parts c) (sym is.is)
 
 -- so are those further on
 pub rest_further : (c n : ℕ) {start : ℕ} {text rest : List ℕ} → IsRestFrom start text rest → words_from c n rest ≡ words_from c (start + n) text

@@ -5,11 +5,11 @@ use Rattle.std.specs.Option.{option_map, option_and_then}
 use Rattle.std.specs.Str.{bytes_eq}
 use Rattle.std.proofs.lemmas.Bool.{false≢true}
 use Rattle.hir_lines.specs.declared.question.Question.{Question}
-use Rattle.hir_lines.specs.declared.stop.Stop.{Stop}
+use Rattle.hir_lines.specs.declared.line_error.LineError.{LineError}
 use Rattle.hir_lines.specs.Line.{Line, Blank, asks, by_words, line_of, maker, maker_forms, makes, question, question_forms}
 use Rattle.hir_lines.specs.Makers.{Maker}
-use Rattle.hir_lines.specs.Readings.{Reading, ◌>>=◌, StartsOtherwise, alone, gives, look_up, parts_of, whole}
-use Rattle.hir_lines.specs.Taking.{Makes, Puts, Steps, with, with_line}
+use Rattle.hir_lines.specs.Readings.{Reading, ◌>>=◌, StartsOtherwise, alone, gives, look_up, split_parts, whole}
+use Rattle.hir_lines.specs.Taking.{Makes, PutsRead, Steps, with, with_line}
 use Rattle.hir_lines.specs.Words.{by, one_of}
 use Rattle.hir_lines.proofs.Forms.{same_bytes}
 use Rattle.hir_lines.proofs.WrittenLines.{asks_it}
@@ -54,11 +54,11 @@ module _ {B : Type 0} (has_self has_name : B → Bool) (add : B → Maker → B)
   then_with make found = option_and_then (λ x. with has_self has_name add old (make x)) found
 
   -- a line by the word that it begins with
-  made_line : (text head : List ℕ) (form : Reading Maker) (mid : List (List ℕ)) → (length text ≡ 0 → ⊥) → look_up maker_forms head ≡ Some form → look_up question_forms head ≡ None → parts_of 32 text ≡ head ∷ mid → line_of text ≡ by_words (whole form mid) None
+  made_line : (text head : List ℕ) (form : Reading Maker) (mid : List (List ℕ)) → (length text ≡ 0 → ⊥) → look_up maker_forms head ≡ Some form → look_up question_forms head ≡ None → split_parts 32 text ≡ head ∷ mid → line_of text ≡ by_words (whole form mid) None
   unfolding line_of maker question
   made_line [] head form mid some is none e = absurd (some refl)
   made_line (b ∷ bs) head form mid some is none e =
-      ap (λ m. by_words m (whole question (parts_of 32 (b ∷ bs)))) (whole_by maker_forms head form is _ mid e)
+      ap (λ m. by_words m (whole question (split_parts 32 (b ∷ bs)))) (whole_by maker_forms head form is _ mid e)
       ∙ ap (λ q. by_words (whole form mid) q) (ap all (form_of question_forms head none _ mid e))
 
   with_made : (found : Option Maker) → with_line has_self has_name add old (by_words found None) ≡ then_with (λ maker. maker) found
@@ -69,7 +69,7 @@ module _ {B : Type 0} (has_self has_name : B → Bool) (add : B → Maker → B)
   made_asks None = refl
   made_asks (Some made) = refl
 
-  taken_so : (line : Line) (found : Option B) (outcome : Result (Unit {0}) Stop) (result : Result Bool Stop) → with_line has_self has_name add old line ≡ found → asks line ≡ false → Steps found old new outcome →
+  taken_so : (line : Line) (found : Option B) (outcome : Result (Unit {0}) LineError) (result : Result Bool LineError) → with_line has_self has_name add old line ≡ found → asks line ≡ false → Steps found old new outcome →
       MatchResult outcome (λ done. result ≡ Ok true) (λ why. result ≡ Err why) → Makes has_self has_name add line old new result
   taken_so line found (Ok done) result e asked steps is =
       subst (λ r. Makes has_self has_name add line old new r) (sym is) (λ _. e ∙ steps, λ wrong. absurd (false≢true (sym wrong)))
@@ -77,16 +77,16 @@ module _ {B : Type 0} (has_self has_name : B → Bool) (add : B → Maker → B)
       subst (λ r. Makes has_self has_name add line old new r) (sym is) (steps.0, asked, (λ bad. e ∙ steps.1.0 bad, λ none. steps.1.1 (sym e ∙ none)))
 
   -- a line is taken by the form of its first word
-  pub takes_by : (text head : List ℕ) (form : Reading Maker) (mid : List (List ℕ)) → (length text ≡ 0 → ⊥) → look_up maker_forms head ≡ Some form → look_up question_forms head ≡ None → parts_of 32 text ≡ head ∷ mid →
-      (outcome : Result (Unit {0}) Stop) (result : Result Bool Stop) → Puts has_self has_name add (λ maker. maker) form mid old new outcome → MatchResult outcome (λ done. result ≡ Ok true) (λ why. result ≡ Err why) →
+  pub takes_by : (text head : List ℕ) (form : Reading Maker) (mid : List (List ℕ)) → (length text ≡ 0 → ⊥) → look_up maker_forms head ≡ Some form → look_up question_forms head ≡ None → split_parts 32 text ≡ head ∷ mid →
+      (outcome : Result (Unit {0}) LineError) (result : Result Bool LineError) → PutsRead has_self has_name add (λ maker. maker) form mid old new outcome → MatchResult outcome (λ done. result ≡ Ok true) (λ why. result ≡ Err why) →
       Makes has_self has_name add (line_of text) old new result
   takes_by text head form mid some is none e outcome result puts taken =
       let line = made_line text head form mid some is none e in
       taken_so (line_of text) _ outcome result (ap (with_line has_self has_name add old) line ∙ with_made (whole form mid)) (ap asks line ∙ made_asks (whole form mid)) puts taken
 
   -- so where the form makes something of what another one says
-  pub inner_put : {X : Type 0} (make : X → Maker) (inner : Reading X) (mid : List (List ℕ)) (outcome : Result (Unit {0}) Stop) → Puts has_self has_name add make inner mid old new outcome →
-      Puts has_self has_name add (λ maker. maker) (inner >>= λ x. gives (make x)) mid old new outcome
+  pub inner_put : {X : Type 0} (make : X → Maker) (inner : Reading X) (mid : List (List ℕ)) (outcome : Result (Unit {0}) LineError) → PutsRead has_self has_name add make inner mid old new outcome →
+      PutsRead has_self has_name add (λ maker. maker) (inner >>= λ x. gives (make x)) mid old new outcome
   inner_put {X} make inner mid outcome puts =
       subst (λ (found : Option B). Steps found old new outcome) (sym (ap (then_with (λ maker. maker)) (whole_then make inner mid) ∙ mapped (whole inner mid))) puts where
         mapped : (found : Option X) → then_with (λ maker. maker) (option_map make found) ≡ then_with make found
@@ -104,25 +104,25 @@ pub tried : (head : List ℕ) {words old new : List (List ℕ)} → words ≡ ol
 tried head is other = (is ∙ sym other.0, λ others e. other.1 others (sym is ∙ e))
 
 -- a line whose first word makes nothing is left
-pub left_line : (text : List ℕ) → (length text ≡ 0 → ⊥) → NoneFirst maker_forms (parts_of 32 text) → makes (line_of text) ≡ false
+pub left_line : (text : List ℕ) → (length text ≡ 0 → ⊥) → NoneFirst maker_forms (split_parts 32 text) → makes (line_of text) ≡ false
 unfolding line_of maker
 left_line [] some none = absurd (some refl)
 left_line (b ∷ bs) some none =
-    ap (λ m. makes (by_words m (whole question (parts_of 32 (b ∷ bs))))) (whole_none maker_forms (parts_of 32 (b ∷ bs)) none) ∙ by_asked (whole question (parts_of 32 (b ∷ bs)))
+    ap (λ m. makes (by_words m (whole question (split_parts 32 (b ∷ bs))))) (whole_none maker_forms (split_parts 32 (b ∷ bs)) none) ∙ by_asked (whole question (split_parts 32 (b ∷ bs)))
   where
     by_asked : (asked : Option Question) → makes (by_words None asked) ≡ false
     by_asked None = refl
     by_asked (Some asked) = refl
 
 -- a line that isn't empty asks what its words ask, or nothing
-pub asks_by : (text : List ℕ) → (length text ≡ 0 → ⊥) → (line_of text ≢ Blank) × (asks (line_of text) ≡ false ↔ whole question (parts_of 32 text) ≡ None)
+pub asks_by : (text : List ℕ) → (length text ≡ 0 → ⊥) → (line_of text ≢ Blank) × (asks (line_of text) ≡ false ↔ whole question (split_parts 32 text) ≡ None)
 unfolding line_of
 asks_by [] some = absurd (some refl)
 asks_by (b ∷ bs) some = (
-  by_any (whole maker (parts_of 32 (b ∷ bs))) (whole question (parts_of 32 (b ∷ bs))),
+  by_any (whole maker (split_parts 32 (b ∷ bs))) (whole question (split_parts 32 (b ∷ bs))),
   (
-    λ e. by_question (whole question (parts_of 32 (b ∷ bs))) refl e,
-    λ e. ap (λ q. asks (by_words (whole maker (parts_of 32 (b ∷ bs))) q)) e ∙ no_question (whole maker (parts_of 32 (b ∷ bs))),
+    λ e. by_question (whole question (split_parts 32 (b ∷ bs))) refl e,
+    λ e. ap (λ q. asks (by_words (whole maker (split_parts 32 (b ∷ bs))) q)) e ∙ no_question (whole maker (split_parts 32 (b ∷ bs))),
   ),
 ) where
   by_any : (made : Option Maker) (asked : Option Question) → by_words made asked ≡ Blank → ⊥
@@ -134,6 +134,6 @@ asks_by (b ∷ bs) some = (
   no_question None = refl
   no_question (Some made) = refl
 
-  by_question : (asked : Option Question) → whole question (parts_of 32 (b ∷ bs)) ≡ asked → asks (line_of (b ∷ bs)) ≡ false → whole question (parts_of 32 (b ∷ bs)) ≡ None
+  by_question : (asked : Option Question) → whole question (split_parts 32 (b ∷ bs)) ≡ asked → asks (line_of (b ∷ bs)) ≡ false → whole question (split_parts 32 (b ∷ bs)) ≡ None
   by_question None is e = is
   by_question (Some q) is e = absurd (false≢true (sym e ∙ ap asks (asks_it (b ∷ bs) q is)))

@@ -9,7 +9,7 @@ use Rattle.hir_node.specs.declared.type_ref.TypeRef.{TypeRef}
 use Rattle.hir_lines.specs.Line.{Line, Blank, Make, Ask, Bad, line_of, by_words, maker, maker_forms, bind, pat_maker, type_maker, expr_maker, expr_hygiene, pat_hygiene, self_param, param, fn_name, roots, root, question, question_forms, children, root_of, chain, resolve, print, captures}
 use Rattle.hir_lines.specs.Makers.{Maker, Pat as MakePat, TypeRef as MakeType, Expr as MakeExpr}
 use Rattle.hir_lines.specs.declared.question.Question.{Question}
-use Rattle.hir_lines.specs.Readings.{Reading, look_up, whole, parts_of}
+use Rattle.hir_lines.specs.Readings.{Reading, look_up, whole, split_parts}
 use Rattle.hir_lines.specs.Words.{by, one_of}
 use Rattle.hir_lines.specs.Pats.{pat}
 use Rattle.hir_lines.specs.Types.{type_ref}
@@ -20,7 +20,7 @@ use Rattle.hir_lines.specs.TypeGrammar.{IsType, never}
 use Rattle.hir_lines.specs.ExprGrammar.{IsExpr, match_expr, block}
 use Rattle.hir_lines.specs.Grammar.{IsMaker, bind as by_bind, bind_expanded, pat as by_pat, type_ref as by_type, expr as by_expr, expr_hygiene as by_expr_hygiene, pat_hygiene as by_pat_hygiene, self_param as by_self, param as by_param, fn_name as by_name, roots as by_roots, root as by_root, IsQuestion, children as by_children, root_of as by_root_of, chain as by_chain, resolve as by_resolve, resolve_expanded, print as by_print, captures as by_captures, IsLine}
 use Rattle.hir_lines.proofs.Forms.{Accepts, accept_head, accept_inner, whole_read, whole_found, Sound, sound_one_of, sound_inner, AllSound, no_form, form}
-use Rattle.hir_lines.proofs.Separators.{parts_of-join}
+use Rattle.hir_lines.proofs.Separators.{split_parts-join}
 use Rattle.hir_lines.proofs.Spaces.{AllPlain, is_plain, words_lack}
 use Rattle.hir_lines.proofs.Takes.{accepting, sounding}
 use Rattle.hir_lines.proofs.WrittenNodes.{accepts_expr, accepts_pat, accepts_type, sound_expr, sound_pat, sound_type}
@@ -95,16 +95,16 @@ plain_question by_children = refl
 plain_question _ = refl
 
 -- what a text says whose words make something
-makes_so : (m : Maker) (text : List ℕ) → whole maker (parts_of 32 text) ≡ Some m → line_of text ≡ Make m
+makes_so : (m : Maker) (text : List ℕ) → whole maker (split_parts 32 text) ≡ Some m → line_of text ≡ Make m
 unfolding line_of maker
 makes_so m [] e = cc
-makes_so m (b ∷ bs) e = ap (λ found. by_words found (whole question (parts_of 32 (b ∷ bs)))) e
+makes_so m (b ∷ bs) e = ap (λ found. by_words found (whole question (split_parts 32 (b ∷ bs)))) e
 
 -- or ask
-asks_so : (q : Question) (text : List ℕ) → whole maker (parts_of 32 text) ≡ None → whole question (parts_of 32 text) ≡ Some q → line_of text ≡ Ask q
+asks_so : (q : Question) (text : List ℕ) → whole maker (split_parts 32 text) ≡ None → whole question (split_parts 32 text) ≡ Some q → line_of text ≡ Ask q
 unfolding line_of question
 asks_so q [] none e = cc
-asks_so q (b ∷ bs) none e = ap (λ found. by_words found (whole question (parts_of 32 (b ∷ bs)))) none ∙ ap (λ found. by_words None found) e
+asks_so q (b ∷ bs) none e = ap (λ found. by_words found (whole question (split_parts 32 (b ∷ bs)))) none ∙ ap (λ found. by_words None found) e
 
 -- no question makes anything
 no_maker : (head : List ℕ) (tokens : List Token) (words : List (List ℕ)) → look_up maker_forms head ≡ None → AllZip IsWord (Word head ∷ tokens) words → whole maker words ≡ None
@@ -133,16 +133,16 @@ unfolding question
 question_tokens words q e = (sound_one_of IsQuestion question_forms questions_sound).written words q (whole_found (one_of question_forms words) q e)
 
 -- what the words of a text ask
-pub asks_it : (text : List ℕ) (q : Question) → whole question (parts_of 32 text) ≡ Some q → line_of text ≡ Ask q
-asks_it text q e = let found = question_tokens (parts_of 32 text) q e in asks_so q text (asks_alone found.1 (parts_of 32 text) found.2) e
+pub asks_it : (text : List ℕ) (q : Question) → whole question (split_parts 32 text) ≡ Some q → line_of text ≡ Ask q
+asks_it text q e = let found = question_tokens (split_parts 32 text) q e in asks_so q text (asks_alone found.1 (split_parts 32 text) found.2) e
 
 -- the words of a text that is written so
 parts_are_tokens : {Y : Type 0} (forms : List (List ℕ × Reading Y)) (y : Y) (tokens : List Token) (text : List ℕ) → Accepts tokens (one_of forms) y → AllPlain tokens → (h : IsText tokens text) →
-    parts_of 32 text ≡ h.0
+    split_parts 32 text ≡ h.0
 parts_are_tokens forms y tokens text accepts plain h = by_text h.0 h.1 h.2 where
-  by_text : (words : List (List ℕ)) → AllZip IsWord tokens words → text ≡ join_with_byte 32 words → parts_of 32 text ≡ words
+  by_text : (words : List (List ℕ)) → AllZip IsWord tokens words → text ≡ join_with_byte 32 words → split_parts 32 text ≡ words
   by_text [] zip joined = let none : one_of forms [] ≡ Some (y, []) = accepts.reads [] zip in cc
-  by_text (word ∷ words) zip joined = ap (parts_of 32) joined ∙ parts_of-join 32 word words (words_lack tokens (word ∷ words) zip plain)
+  by_text (word ∷ words) zip joined = ap (split_parts 32) joined ∙ split_parts-join 32 word words (words_lack tokens (word ∷ words) zip plain)
 
 maker_reads : (m : Maker) (tokens : List Token) (text : List ℕ) → IsMaker m tokens → IsText tokens text → line_of text ≡ Make m
 unfolding maker
@@ -153,7 +153,7 @@ maker_reads m tokens text is h =
 question_reads : (q : Question) (tokens : List Token) (text : List ℕ) → IsQuestion q tokens → IsText tokens text → line_of text ≡ Ask q
 unfolding question
 question_reads q tokens text is h =
-    let words : parts_of 32 text ≡ h.0 = parts_are_tokens question_forms q tokens text (accepts_question is) (plain_question is) h in
+    let words : split_parts 32 text ≡ h.0 = parts_are_tokens question_forms q tokens text (accepts_question is) (plain_question is) h in
     asks_so q text (ap (whole maker) words ∙ asks_alone is h.0 h.1)
     (ap (whole (one_of question_forms)) words ∙ whole_read (one_of question_forms) h.0 q ((accepts_question is).reads h.0 h.1))
 
@@ -165,23 +165,23 @@ reads (Make m) text h good = maker_reads m h.0 text h.1 h.2
 reads (Ask q) text h good = question_reads q h.0 text h.1 h.2
 reads Bad text h good = absurd (good refl)
 
-maker_written : (m : Maker) (text : List ℕ) → whole maker (parts_of 32 text) ≡ Some m → IsLine (Make m) text
+maker_written : (m : Maker) (text : List ℕ) → whole maker (split_parts 32 text) ≡ Some m → IsLine (Make m) text
 unfolding maker
 maker_written m text e =
-    let found = (sound_one_of IsMaker maker_forms makers_sound).written (parts_of 32 text) m (whole_found (one_of maker_forms (parts_of 32 text)) m e) in
-    (found.0, found.1, (parts_of 32 text, found.2, sym (join_with_byte-slice_split 32 text)))
+    let found = (sound_one_of IsMaker maker_forms makers_sound).written (split_parts 32 text) m (whole_found (one_of maker_forms (split_parts 32 text)) m e) in
+    (found.0, found.1, (split_parts 32 text, found.2, sym (join_with_byte-slice_split 32 text)))
 
-question_written : (q : Question) (text : List ℕ) → whole question (parts_of 32 text) ≡ Some q → IsLine (Ask q) text
+question_written : (q : Question) (text : List ℕ) → whole question (split_parts 32 text) ≡ Some q → IsLine (Ask q) text
 question_written q text e =
-    let found = question_tokens (parts_of 32 text) q e in
-    (found.0, found.1, (parts_of 32 text, found.2, sym (join_with_byte-slice_split 32 text)))
+    let found = question_tokens (split_parts 32 text) q e in
+    (found.0, found.1, (split_parts 32 text, found.2, sym (join_with_byte-slice_split 32 text)))
 
 -- what is read is written so
 pub is_written : (text : List ℕ) → IsLine (line_of text) text
 unfolding line_of
 is_written [] = refl
-is_written (b ∷ bs) = by_found (whole maker (parts_of 32 (b ∷ bs))) (whole question (parts_of 32 (b ∷ bs))) refl refl where
-  by_found : (made : Option Maker) (asked : Option Question) → whole maker (parts_of 32 (b ∷ bs)) ≡ made → whole question (parts_of 32 (b ∷ bs)) ≡ asked →
+is_written (b ∷ bs) = by_found (whole maker (split_parts 32 (b ∷ bs))) (whole question (split_parts 32 (b ∷ bs))) refl refl where
+  by_found : (made : Option Maker) (asked : Option Question) → whole maker (split_parts 32 (b ∷ bs)) ≡ made → whole question (split_parts 32 (b ∷ bs)) ≡ asked →
       IsLine (by_words made asked) (b ∷ bs)
   by_found (Some m) asked e f = maker_written m (b ∷ bs) e
   by_found None (Some q) e f = question_written q (b ∷ bs) f

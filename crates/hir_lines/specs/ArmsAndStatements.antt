@@ -4,7 +4,7 @@ use Rattle.hir_node.specs.declared.expr_types.MatchArm.{MatchArm}
 use Rattle.hir_node.specs.declared.expr_types.Statement.{Statement}
 use Rattle.hir_node.specs.declared.expr_types.Statement.TheVariants.{Let, Expr as ExprStatement, Item as ItemStatement}
 use Rattle.hir_node.specs.declared.expr_types.Item.TheVariants.{MacroDef, Other}
-use Rattle.hir_lines.specs.Readings.{Reading, ◌>>=◌, gives, whole, parts_of, colon}
+use Rattle.hir_lines.specs.Readings.{Reading, ◌>>=◌, gives, whole, split_parts, colon}
 use Rattle.hir_lines.specs.Words.{number, optional, one_of}
 
 -- pattern, guard, body
@@ -48,7 +48,7 @@ statement_forms =
     ∷ []
 
 unfoldable pub arm_of : List ℕ → Option MatchArm
-arm_of word = whole arm (parts_of colon word)
+arm_of word = whole arm (split_parts colon word)
 
 unfoldable pub statement_of : List ℕ → Option Statement
-statement_of word = whole (one_of statement_forms) (parts_of colon word)
+statement_of word = whole (one_of statement_forms) (split_parts colon word)

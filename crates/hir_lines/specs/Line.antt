@@ -9,7 +9,7 @@ use Rattle.hir_lines.specs.declared.question.Question.{Question}
 use Rattle.hir_lines.specs.declared.question.Question.TheVariants.{OfStore, OfBody}
 use Rattle.hir_lines.specs.declared.question.StoreQuestion.TheVariants.{Children, RootOf}
 use Rattle.hir_lines.specs.declared.question.BodyQuestion.TheVariants.{Chain, Resolve, Print, Captures}
-use Rattle.hir_lines.specs.Readings.{Reading, ◌>>=◌, gives, whole, parts_of, space}
+use Rattle.hir_lines.specs.Readings.{Reading, ◌>>=◌, gives, whole, split_parts, space}
 use Rattle.hir_lines.specs.Words.{number, name, expansion, hygiene, one_of}
 use Rattle.hir_lines.specs.Pats.{pat}
 use Rattle.hir_lines.specs.Types.{type_ref}
@@ -159,7 +159,8 @@ by_words None None = Bad
 -- what a line says; its words have one space between them
 unfoldable pub line_of : List ℕ → Line
 line_of [] = Blank
-line_of (b ∷ bs) = by_words (whole maker (parts_of space (b ∷ bs))) (whole question (parts_of space (b ∷ bs)))
+line_of (b ∷ bs) = by_words (whole maker (split_parts space (b ∷ bs)))
+    (whole question (split_parts space (b ∷ bs)))
 
 -- whether a line may come before the first question
 abbrev pub makes : Line → Bool

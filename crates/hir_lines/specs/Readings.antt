@@ -3,8 +3,8 @@ use Rattle.std.specs.Prelude.{◌≡◌, ◌≢◌, ◌+◌, ℕ, zero, suc, All
 use Rattle.std.specs.List.{slice_split}
 use Rattle.std.specs.Option.{option_map, option_and_then}
 use Rattle.std.specs.Str.{bytes_eq}
-use Rattle.hir_lines.specs.declared.stop.Stop.{Stop}
-use Rattle.hir_lines.specs.declared.stop.Stop.TheVariants.{Bad}
+use Rattle.hir_lines.specs.declared.line_error.LineError.{LineError}
+use Rattle.hir_lines.specs.declared.line_error.LineError.TheVariants.{Syntax}
 
 -- the separators of the words of a line, the parts of an arm or a statement, and the numbers of a list
 abbrev pub space : ℕ
@@ -20,12 +20,12 @@ abbrev pub is_byte : ℕ → ℕ → Bool
 is_byte c b = eqb b c
 
 -- the parts of a text, between its separators
-abbrev pub parts_of : ℕ → List ℕ → List (List ℕ)
-parts_of separator text = slice_split (is_byte separator) text
+abbrev pub split_parts : ℕ → List ℕ → List (List ℕ)
+split_parts separator text = slice_split (is_byte separator) text
 
 -- the parts of a text from a place on; none where that is past its end
 abbrev pub words_from : ℕ → ℕ → List ℕ → List (List ℕ)
-words_from separator zero text = parts_of separator text
+words_from separator zero text = split_parts separator text
 words_from separator (suc n) [] = []
 words_from separator (suc n) (b ∷ bs) = words_from separator n bs
 
@@ -90,19 +90,19 @@ abbrev pub Says : {X E : Type 0} → (List ℕ → Option X) → List ℕ → Re
 Says read word result = MatchResult result (λ x. read word ≡ Some x) (λ bad. read word ≡ None)
 
 -- what a reading of these words finds, and the words that it leaves; or that the words don't fit
-abbrev pub Reads : {X E : Type 0} → Reading X → List (List ℕ) → Result X E → List (List ℕ) → Type 0
-Reads reading old result new = MatchResult result (λ x. reading old ≡ Some (x, new))
+abbrev pub ReadsWords : {X E : Type 0} → Reading X → List (List ℕ) → Result X E → List (List ℕ) → Type 0
+ReadsWords reading old result new = MatchResult result (λ x. reading old ≡ Some (x, new))
     (λ bad. reading old ≡ None)
 
 -- what a word says, where memory for it may be refused. It is bad exactly where it says nothing
-abbrev pub SaysOrStops : {X : Type 0} → (List ℕ → Option X) → List ℕ → Result X Stop → Type 0
+abbrev pub SaysOrStops : {X : Type 0} → (List ℕ → Option X) → List ℕ → Result X LineError → Type 0
 SaysOrStops read word result =
-    MatchResult result (λ x. read word ≡ Some x) (λ why. why ≡ Bad ↔ read word ≡ None)
+    MatchResult result (λ x. read word ≡ Some x) (λ why. why ≡ Syntax ↔ read word ≡ None)
 
 -- what a reading of these words finds that leaves none, where memory may be refused. They are bad exactly where there is nothing such
-abbrev pub ReadsAll : {X : Type 0} → Reading X → List (List ℕ) → Result X Stop → Type 0
+abbrev pub ReadsAll : {X : Type 0} → Reading X → List (List ℕ) → Result X LineError → Type 0
 ReadsAll reading words result =
-    MatchResult result (λ x. reading words ≡ Some (x, [])) (λ why. why ≡ Bad ↔ whole reading words ≡ None)
+    MatchResult result (λ x. reading words ≡ Some (x, [])) (λ why. why ≡ Syntax ↔ whole reading words ≡ None)
 
 -- what the words say, if none is left behind it; or that they say nothing
 abbrev pub SaysWhole : {X E : Type 0} → Reading X → List (List ℕ) → Result X E → Type 0
@@ -110,6 +110,6 @@ SaysWhole reading words result =
     MatchResult result (λ x. whole reading words ≡ Some x) (λ bad. whole reading words ≡ None)
 
 -- the same, where memory may be refused. They are bad exactly where they say nothing: memory is refused where they say something
-abbrev pub SaysAll : {X : Type 0} → Reading X → List (List ℕ) → Result X Stop → Type 0
+abbrev pub SaysAll : {X : Type 0} → Reading X → List (List ℕ) → Result X LineError → Type 0
 SaysAll reading words result =
-    MatchResult result (λ x. whole reading words ≡ Some x) (λ why. why ≡ Bad ↔ whole reading words ≡ None)
+    MatchResult result (λ x. whole reading words ≡ Some x) (λ why. why ≡ Syntax ↔ whole reading words ≡ None)

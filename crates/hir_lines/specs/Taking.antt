@@ -3,16 +3,16 @@
 use Rattle.std.specs.Prelude.{◌≡◌, ◌≢◌, ℕ, true, false, Bool, if◌then◌else◌, List, Option, None, Some, Result, MatchResult, ◌↔◌}
 use Rattle.std.specs.Option.{option_and_then}
 use Rattle.hir_lines.specs.declared.question.Question.{Question}
-use Rattle.hir_lines.specs.declared.stop.Stop.{Stop}
-use Rattle.hir_lines.specs.declared.stop.Stop.TheVariants as stop
+use Rattle.hir_lines.specs.declared.line_error.LineError.{LineError}
+use Rattle.hir_lines.specs.declared.line_error.LineError.TheVariants as stop
 use Rattle.hir_lines.specs.Line.{Line, Blank, Make, Ask, Bad, makes, asks}
 use Rattle.hir_lines.specs.Makers.{Maker}
 use Rattle.hir_lines.specs.Makers as make
 use Rattle.hir_lines.specs.Readings.{Reading, whole}
 
 -- a thing is added; or memory for it was refused, and nothing is changed
-abbrev pub Adds : {B : Type 0} → B → B → B → Result (Unit {0}) Stop → Type 0
-Adds added old new result = MatchResult result (λ done. new ≡ added) (λ why. (why ≡ stop.Memory)
+abbrev pub AddsOne : {B : Type 0} → B → B → B → Result (Unit {0}) LineError → Type 0
+AddsOne added old new result = MatchResult result (λ done. new ≡ added) (λ why. (why ≡ stop.Memory)
     × (new ≡ old))
 
 -- whether this gives a second self parameter or a second name, where these were given before
@@ -30,9 +30,9 @@ is_second has_self has_name (make.Root id) = false
 
 -- from what was made to what is made now; or nothing is changed. It is bad exactly where there is no such step: memory is refused where
 -- there is one
-abbrev pub Steps : {B : Type 0} → Option B → B → B → Result (Unit {0}) Stop → Type 0
+abbrev pub Steps : {B : Type 0} → Option B → B → B → Result (Unit {0}) LineError → Type 0
 Steps found old new result =
-    MatchResult result (λ done. found ≡ Some new) (λ why. (new ≡ old) × (why ≡ stop.Bad ↔ found ≡ None))
+    MatchResult result (λ done. found ≡ Some new) (λ why. (new ≡ old) × (why ≡ stop.Syntax ↔ found ≡ None))
 
 module _ {B : Type 0} (has_self has_name : B → Bool) (add : B → Maker → B) where
   -- what was made, with one thing more; nothing where it is a second one that is bad
@@ -47,28 +47,28 @@ module _ {B : Type 0} (has_self has_name : B → Bool) (add : B → Maker → B)
   with_line old Bad = None
 
   -- the words make one thing, by what is read of them
-  abbrev pub Puts : {X : Type 0} → (X → Maker) → Reading X → List (List ℕ) → B → B
-      → Result (Unit {0}) Stop → Type 0
-  Puts make reading words old new result =
+  abbrev pub PutsRead : {X : Type 0} → (X → Maker) → Reading X → List (List ℕ) → B → B
+      → Result (Unit {0}) LineError → Type 0
+  PutsRead make reading words old new result =
       Steps (option_and_then (λ x. with old (make x)) (whole reading words)) old new result
 
-  abbrev pub PutsMaker : Reading Maker → List (List ℕ) → B → B → Result (Unit {0}) Stop → Type 0
-  PutsMaker reading words old new result = Puts (λ maker. maker) reading words old new result
+  abbrev pub PutsMaker : Reading Maker → List (List ℕ) → B → B → Result (Unit {0}) LineError → Type 0
+  PutsMaker reading words old new result = PutsRead (λ maker. maker) reading words old new result
 
   -- a line that makes something, or is empty, is taken; another one is left, and nothing is changed
-  abbrev pub Makes : Line → B → B → Result Bool Stop → Type 0
+  abbrev pub Makes : Line → B → B → Result Bool LineError → Type 0
   Makes line old new result =
       MatchResult result
       (λ taken. (taken ≡ true → with_line old line ≡ Some new)
       × (taken ≡ false → (new ≡ old) × (makes line ≡ false)))
-      (λ why. (new ≡ old) × (asks line ≡ false) × (why ≡ stop.Bad ↔ with_line old line ≡ None))
+      (λ why. (new ≡ old) × (asks line ≡ false) × (why ≡ stop.Syntax ↔ with_line old line ≡ None))
 
 abbrev pub line_asked : Option Question → Line
 line_asked None = Blank
 line_asked (Some question) = Ask question
 
 -- a line that asks something, or is empty, is taken. It is bad exactly where it is neither: memory is refused where it asks
-abbrev pub Asks : Line → Result (Option Question) Stop → Type 0
+abbrev pub Asks : Line → Result (Option Question) LineError → Type 0
 Asks line result =
     MatchResult result (λ asked. line ≡ line_asked asked)
-    (λ why. (line ≢ Blank) × (why ≡ stop.Bad ↔ asks line ≡ false))
+    (λ why. (line ≢ Blank) × (why ≡ stop.Syntax ↔ asks line ≡ false))

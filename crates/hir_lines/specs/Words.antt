@@ -12,7 +12,7 @@ use Rattle.hir_path.specs.declared.path.Path.TheVariants.{BarePath}
 use Rattle.hir_lines.specs.Numerals.{number_of, int_of}
 use Rattle.hir_lines.specs.Names.{name_of}
 use Rattle.hir_lines.specs.Operators.{op_of}
-use Rattle.hir_lines.specs.Readings.{Reading, ◌>>=◌, gives, first_word, look_up, all_of, parts_of, comma}
+use Rattle.hir_lines.specs.Readings.{Reading, ◌>>=◌, gives, first_word, look_up, all_of, split_parts, comma}
 
 -- a number, or a dash for none
 unfoldable pub optional_of : List ℕ → Option (Option ℕ)
@@ -20,7 +20,7 @@ optional_of word = if bytes_eq word (codes "-") then Some None else option_map (
 
 -- numbers separated by commas, or a dash for none
 unfoldable pub list_of : List ℕ → Option (List ℕ)
-list_of word = if bytes_eq word (codes "-") then Some [] else all_of number_of (parts_of comma word)
+list_of word = if bytes_eq word (codes "-") then Some [] else all_of number_of (split_parts comma word)
 
 abbrev pub number : Reading ℕ
 number = first_word number_of

@@ -3,7 +3,7 @@
 ghost use Rattle.hir_lines.specs.ArmsAndStatements.{expr_statement, let_statement, macro_statement};
 ghost use Rattle.hir_lines.specs.Readings.{SaysWhole};
 
-use crate::stop::Bad;
+use crate::line_error::Malformed;
 use crate::words::{Word, Words};
 use hir_base::MacroDefId;
 use hir_node::{Item, MatchArm, Statement};
@@ -16,7 +16,7 @@ impl Word for MatchArm {
     ghost meaning = { arm_of };
 
     #[tactic(auto, unfolding(crate::specs::ArmsAndStatements::arm_of))]
-    fn read(word: &[u8]) -> Result<MatchArm, Bad> {
+    fn read(word: &[u8]) -> Result<MatchArm, Malformed> {
         let mut parts: PartsOfWord<'_> = Words::new(word);
         let arm = MatchArm {
             pat: parts.id()?,
@@ -28,7 +28,7 @@ impl Word for MatchArm {
     }
 }
 
-fn let_statement(parts: &mut PartsOfWord<'_>) -> Result<Statement, Bad>
+fn let_statement(parts: &mut PartsOfWord<'_>) -> Result<Statement, Malformed>
     ensures { SaysWhole let_statement parts.old result }
 {
     let pat = parts.id()?;
@@ -44,7 +44,7 @@ fn let_statement(parts: &mut PartsOfWord<'_>) -> Result<Statement, Bad>
     })
 }
 
-fn expr_statement(parts: &mut PartsOfWord<'_>, has_semi: bool) -> Result<Statement, Bad>
+fn expr_statement(parts: &mut PartsOfWord<'_>, has_semi: bool) -> Result<Statement, Malformed>
     ensures { SaysWhole (expr_statement has_semi) parts.old result }
 {
     let expr = parts.id()?;
@@ -52,7 +52,7 @@ fn expr_statement(parts: &mut PartsOfWord<'_>, has_semi: bool) -> Result<Stateme
     Ok(Statement::Expr { expr, has_semi })
 }
 
-fn macro_statement(parts: &mut PartsOfWord<'_>) -> Result<Statement, Bad>
+fn macro_statement(parts: &mut PartsOfWord<'_>) -> Result<Statement, Malformed>
     ensures { SaysWhole macro_statement parts.old result }
 {
     let definition = MacroDefId::from_raw(parts.number()?);
@@ -66,7 +66,7 @@ impl Word for Statement {
     ghost meaning = { statement_of };
 
     #[tactic(auto, unfolding(crate::specs::ArmsAndStatements::statement_of))]
-    fn read(word: &[u8]) -> Result<Statement, Bad> {
+    fn read(word: &[u8]) -> Result<Statement, Malformed> {
         let mut parts: PartsOfWord<'_> = Words::new(word);
         if parts.skip(b"let") {
             let_statement(&mut parts)
@@ -80,7 +80,7 @@ impl Word for Statement {
             parts.end()?;
             Ok(Statement::Item(Item::Other))
         } else {
-            Err(Bad)
+            Err(Malformed)
         }
     }
 }

@@ -5,8 +5,8 @@ ghost use Rattle.hir_lines.specs.Readings.{SaysAll, SaysWhole};
 ghost use Rattle.hir_lines.specs.Taking.{Asks};
 ghost use Rattle.hir_lines.specs.Words.{number};
 
+use crate::line_error::{LineError, Malformed};
 use crate::question::{BodyQuestion, Question, StoreQuestion};
-use crate::stop::{Bad, Stop};
 use crate::words::{Line, Words, name_of};
 use hir_base::Idx;
 use std::alloc::Global;
@@ -14,7 +14,7 @@ use std::alloc::Global;
 /// Takes a line, if it asks something: its question; or is empty: none.
 ///
 /// `Bad` where it is neither, as where it makes something; `Memory` where memory was refused: of no line that is bad.
-pub fn ask(alloc: Global, text: &[u8]) -> Result<Option<Question>, Stop>
+pub fn ask(alloc: Global, text: &[u8]) -> Result<Option<Question>, LineError>
     ensures asks { Asks (line_of text.now) result }
 {
     if text.is_empty() {
@@ -27,7 +27,7 @@ pub fn ask(alloc: Global, text: &[u8]) -> Result<Option<Question>, Stop>
 
 /// The question that the words of a line ask.
 #[tactic(auto, unfolding(crate::specs::Line::question))]
-fn question(alloc: Global, words: &mut Line<'_>) -> Result<Question, Stop>
+fn question(alloc: Global, words: &mut Line<'_>) -> Result<Question, LineError>
     ensures { SaysAll question words.old result }
 {
     if words.skip(b"children") {
@@ -44,12 +44,12 @@ fn question(alloc: Global, words: &mut Line<'_>) -> Result<Question, Stop>
     } else if words.skip(b"captures") {
         Ok(Question::OfBody(BodyQuestion::Captures(last_id(words)?)))
     } else {
-        Err(Stop::Bad)
+        Err(LineError::Syntax)
     }
 }
 
 /// The id that is the only word left.
-fn last_id<K>(words: &mut Line<'_>) -> Result<Idx<K>, Bad>
+fn last_id<K>(words: &mut Line<'_>) -> Result<Idx<K>, Malformed>
     ensures { SaysWhole number words.old result }
 {
     let id = words.id()?;
@@ -57,7 +57,7 @@ fn last_id<K>(words: &mut Line<'_>) -> Result<Idx<K>, Bad>
     Ok(id)
 }
 
-fn resolve(alloc: Global, words: &mut Line<'_>) -> Result<Question, Stop>
+fn resolve(alloc: Global, words: &mut Line<'_>) -> Result<Question, LineError>
     ensures { SaysAll resolve words.old result }
 {
     let expr = words.id()?;

@@ -1,6 +1,6 @@
 //! Where what lines make goes.
 
-use crate::stop::Stop;
+use crate::line_error::LineError;
 use hir_base::{HygieneId, Name};
 use hir_node::{Binding, BindingId, Expr, ExprId, ExprOrPatId, Pat, PatId, TypeRef};
 
@@ -11,7 +11,7 @@ pub trait Builder {
     ghost use Rattle.std.specs.Prelude.{◌≡◌, Bool};
     ghost use Rattle.hir_lines.specs.Makers.{Maker};
     ghost use Rattle.hir_lines.specs.Makers as make;
-    ghost use Rattle.hir_lines.specs.Taking.{Adds};
+    ghost use Rattle.hir_lines.specs.Taking.{AddsOne};
 
     // Whether a self parameter was given; a name.
     ghost has_self: { Self → Bool };
@@ -30,42 +30,42 @@ pub trait Builder {
         ensures { result ≡ has_name self.now };
 
     /// Adds a binding.
-    fn binding(&mut self, binding: Binding) -> Result<(), Stop>
-        ensures { Adds (add self.old (make.Binding binding)) self.old self.new result };
+    fn binding(&mut self, binding: Binding) -> Result<(), LineError>
+        ensures { AddsOne (add self.old (make.Binding binding)) self.old self.new result };
 
     /// Adds a pattern.
-    fn pat(&mut self, pat: Pat) -> Result<(), Stop>
-        ensures { Adds (add self.old (make.Pat pat)) self.old self.new result };
+    fn pat(&mut self, pat: Pat) -> Result<(), LineError>
+        ensures { AddsOne (add self.old (make.Pat pat)) self.old self.new result };
 
     /// Adds a type.
-    fn type_ref(&mut self, type_ref: TypeRef) -> Result<(), Stop>
-        ensures { Adds (add self.old (make.TypeRef type_ref)) self.old self.new result };
+    fn type_ref(&mut self, type_ref: TypeRef) -> Result<(), LineError>
+        ensures { AddsOne (add self.old (make.TypeRef type_ref)) self.old self.new result };
 
     /// Adds an expression.
-    fn expr(&mut self, expr: Expr) -> Result<(), Stop>
-        ensures { Adds (add self.old (make.Expr expr)) self.old self.new result };
+    fn expr(&mut self, expr: Expr) -> Result<(), LineError>
+        ensures { AddsOne (add self.old (make.Expr expr)) self.old self.new result };
 
     /// Sets the hygiene of the path that the expression or the pattern is.
-    fn hygiene(&mut self, id: ExprOrPatId, hygiene: HygieneId) -> Result<(), Stop>
-        ensures { Adds (add self.old (make.Hygiene id hygiene)) self.old self.new result };
+    fn hygiene(&mut self, id: ExprOrPatId, hygiene: HygieneId) -> Result<(), LineError>
+        ensures { AddsOne (add self.old (make.Hygiene id hygiene)) self.old self.new result };
 
     /// Sets the self parameter, by its binding.
-    fn self_param(&mut self, id: BindingId) -> Result<(), Stop>
-        ensures { Adds (add self.old (make.SelfParam id)) self.old self.new result };
+    fn self_param(&mut self, id: BindingId) -> Result<(), LineError>
+        ensures { AddsOne (add self.old (make.SelfParam id)) self.old self.new result };
 
     /// Adds a parameter, by its pattern.
-    fn param(&mut self, id: PatId) -> Result<(), Stop>
-        ensures { Adds (add self.old (make.Param id)) self.old self.new result };
+    fn param(&mut self, id: PatId) -> Result<(), LineError>
+        ensures { AddsOne (add self.old (make.Param id)) self.old self.new result };
 
     /// Sets the name of the function.
-    fn fn_name(&mut self, name: Name) -> Result<(), Stop>
-        ensures { Adds (add self.old (make.FnName name)) self.old self.new result };
+    fn fn_name(&mut self, name: Name) -> Result<(), LineError>
+        ensures { AddsOne (add self.old (make.FnName name)) self.old self.new result };
 
     /// Begins the list of roots, where there is no list yet.
-    fn roots(&mut self) -> Result<(), Stop>
-        ensures { Adds (add self.old make.Roots) self.old self.new result };
+    fn roots(&mut self) -> Result<(), LineError>
+        ensures { AddsOne (add self.old make.Roots) self.old self.new result };
 
     /// Adds a root.
-    fn root(&mut self, id: ExprId) -> Result<(), Stop>
-        ensures { Adds (add self.old (make.Root id)) self.old self.new result };
+    fn root(&mut self, id: ExprId) -> Result<(), LineError>
+        ensures { AddsOne (add self.old (make.Root id)) self.old self.new result };
 }

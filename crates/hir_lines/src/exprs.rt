@@ -2,13 +2,13 @@
 
 ghost use Rattle.std.specs.Prelude.{IfOk, ◌≡◌};
 ghost use Rattle.hir_lines.specs.Makers as make;
-ghost use Rattle.hir_lines.specs.Taking.{Puts};
+ghost use Rattle.hir_lines.specs.Taking.{PutsRead};
 ghost use Rattle.hir_lines.specs.Exprs.{array_expr, assign_expr, bin_expr, block_expr, call_expr, closure_expr, expr, if_expr, int_expr, let_expr, loop_expr, match_expr, path_expr, ref_expr, repeat_expr, tuple_expr, no_types};
 
 use crate::builder::Builder;
+use crate::line_error::LineError;
 use crate::numerals::int as int_of;
 use crate::operators::op as op_of;
-use crate::stop::Stop;
 use crate::words::{Line, path_of};
 use hir_base::{BlockId, Seq};
 use hir_node::{
@@ -19,8 +19,12 @@ use std::alloc::{AllocError, Global};
 
 /// Makes the expression of the words behind `expr`.
 #[tactic(auto, unfolding(crate::specs::Exprs::expr))]
-pub fn expr<B: Builder>(alloc: Global, words: &mut Line<'_>, builder: &mut B) -> Result<(), Stop>
-    ensures { Puts B.has_self B.has_name B.add make.Expr expr words.old builder.old builder.new result }
+pub fn expr<B: Builder>(
+    alloc: Global,
+    words: &mut Line<'_>,
+    builder: &mut B,
+) -> Result<(), LineError>
+    ensures { PutsRead B.has_self B.has_name B.add make.Expr expr words.old builder.old builder.new result }
 {
     if words.skip(b"path") {
         path(alloc, words, builder)
@@ -60,52 +64,57 @@ pub fn expr<B: Builder>(alloc: Global, words: &mut Line<'_>, builder: &mut B) ->
         words.end()?;
         builder.expr(Expr::Missing)
     } else {
-        Err(Stop::Bad)
+        Err(LineError::Syntax)
     }
 }
 
-fn path<B: Builder>(alloc: Global, words: &mut Line<'_>, builder: &mut B) -> Result<(), Stop>
-    ensures { Puts B.has_self B.has_name B.add make.Expr path_expr words.old builder.old builder.new result }
+fn path<B: Builder>(alloc: Global, words: &mut Line<'_>, builder: &mut B) -> Result<(), LineError>
+    ensures { PutsRead B.has_self B.has_name B.add make.Expr path_expr words.old builder.old
+        builder.new result }
 {
     let name = words.name()?;
     words.end()?;
     builder.expr(Expr::Path(path_of(alloc, name)?))
 }
 
-fn int<B: Builder>(words: &mut Line<'_>, builder: &mut B) -> Result<(), Stop>
-    ensures { Puts B.has_self B.has_name B.add make.Expr int_expr words.old builder.old builder.new result }
+fn int<B: Builder>(words: &mut Line<'_>, builder: &mut B) -> Result<(), LineError>
+    ensures { PutsRead B.has_self B.has_name B.add make.Expr int_expr words.old builder.old
+        builder.new result }
 {
     let Some(n) = int_of(words.word()?) else {
-        return Err(Stop::Bad);
+        return Err(LineError::Syntax);
     };
     words.end()?;
     builder.expr(Expr::Literal(Literal::Int(n, None)))
 }
 
-fn call<B: Builder>(alloc: Global, words: &mut Line<'_>, builder: &mut B) -> Result<(), Stop>
-    ensures { Puts B.has_self B.has_name B.add make.Expr call_expr words.old builder.old builder.new result }
+fn call<B: Builder>(alloc: Global, words: &mut Line<'_>, builder: &mut B) -> Result<(), LineError>
+    ensures { PutsRead B.has_self B.has_name B.add make.Expr call_expr words.old builder.old
+        builder.new result }
 {
     let callee = words.id()?;
     let args = words.list(alloc)?;
     builder.expr(Expr::Call { callee, args })
 }
 
-fn tuple<B: Builder>(alloc: Global, words: &mut Line<'_>, builder: &mut B) -> Result<(), Stop>
-    ensures { Puts B.has_self B.has_name B.add make.Expr tuple_expr words.old builder.old builder.new result }
+fn tuple<B: Builder>(alloc: Global, words: &mut Line<'_>, builder: &mut B) -> Result<(), LineError>
+    ensures { PutsRead B.has_self B.has_name B.add make.Expr tuple_expr words.old builder.old
+        builder.new result }
 {
     let exprs = words.list(alloc)?;
     builder.expr(Expr::Tuple { exprs })
 }
 
-fn array<B: Builder>(alloc: Global, words: &mut Line<'_>, builder: &mut B) -> Result<(), Stop>
-    ensures { Puts B.has_self B.has_name B.add make.Expr array_expr words.old builder.old builder.new result }
+fn array<B: Builder>(alloc: Global, words: &mut Line<'_>, builder: &mut B) -> Result<(), LineError>
+    ensures { PutsRead B.has_self B.has_name B.add make.Expr array_expr words.old builder.old
+        builder.new result }
 {
     let elements = words.list(alloc)?;
     builder.expr(Expr::Array(Array::ElementList { elements }))
 }
 
-fn repeat<B: Builder>(words: &mut Line<'_>, builder: &mut B) -> Result<(), Stop>
-    ensures { Puts B.has_self B.has_name B.add make.Expr repeat_expr words.old builder.old
+fn repeat<B: Builder>(words: &mut Line<'_>, builder: &mut B) -> Result<(), LineError>
+    ensures { PutsRead B.has_self B.has_name B.add make.Expr repeat_expr words.old builder.old
         builder.new result }
 {
     let repeat = Array::Repeat {
@@ -116,8 +125,9 @@ fn repeat<B: Builder>(words: &mut Line<'_>, builder: &mut B) -> Result<(), Stop>
     builder.expr(Expr::Array(repeat))
 }
 
-fn reference<B: Builder>(words: &mut Line<'_>, builder: &mut B) -> Result<(), Stop>
-    ensures { Puts B.has_self B.has_name B.add make.Expr ref_expr words.old builder.old builder.new result }
+fn reference<B: Builder>(words: &mut Line<'_>, builder: &mut B) -> Result<(), LineError>
+    ensures { PutsRead B.has_self B.has_name B.add make.Expr ref_expr words.old builder.old
+        builder.new result }
 {
     let reference = Expr::Ref {
         expr: words.id()?,
@@ -128,11 +138,12 @@ fn reference<B: Builder>(words: &mut Line<'_>, builder: &mut B) -> Result<(), St
     builder.expr(reference)
 }
 
-fn binary<B: Builder>(words: &mut Line<'_>, builder: &mut B) -> Result<(), Stop>
-    ensures { Puts B.has_self B.has_name B.add make.Expr bin_expr words.old builder.old builder.new result }
+fn binary<B: Builder>(words: &mut Line<'_>, builder: &mut B) -> Result<(), LineError>
+    ensures { PutsRead B.has_self B.has_name B.add make.Expr bin_expr words.old builder.old
+        builder.new result }
 {
     let Some(op) = op_of(words.word()?) else {
-        return Err(Stop::Bad);
+        return Err(LineError::Syntax);
     };
     let op = Some(op);
     let lhs = words.id()?;
@@ -141,8 +152,9 @@ fn binary<B: Builder>(words: &mut Line<'_>, builder: &mut B) -> Result<(), Stop>
     builder.expr(Expr::BinaryOp { lhs, rhs, op })
 }
 
-fn let_expr<B: Builder>(words: &mut Line<'_>, builder: &mut B) -> Result<(), Stop>
-    ensures { Puts B.has_self B.has_name B.add make.Expr let_expr words.old builder.old builder.new result }
+fn let_expr<B: Builder>(words: &mut Line<'_>, builder: &mut B) -> Result<(), LineError>
+    ensures { PutsRead B.has_self B.has_name B.add make.Expr let_expr words.old builder.old
+        builder.new result }
 {
     let pat = words.id()?;
     let expr = words.id()?;
@@ -150,8 +162,9 @@ fn let_expr<B: Builder>(words: &mut Line<'_>, builder: &mut B) -> Result<(), Sto
     builder.expr(Expr::Let { pat, expr })
 }
 
-fn if_expr<B: Builder>(words: &mut Line<'_>, builder: &mut B) -> Result<(), Stop>
-    ensures { Puts B.has_self B.has_name B.add make.Expr if_expr words.old builder.old builder.new result }
+fn if_expr<B: Builder>(words: &mut Line<'_>, builder: &mut B) -> Result<(), LineError>
+    ensures { PutsRead B.has_self B.has_name B.add make.Expr if_expr words.old builder.old
+        builder.new result }
 {
     let if_expr = Expr::If {
         condition: words.id()?,
@@ -162,8 +175,9 @@ fn if_expr<B: Builder>(words: &mut Line<'_>, builder: &mut B) -> Result<(), Stop
     builder.expr(if_expr)
 }
 
-fn loop_expr<B: Builder>(words: &mut Line<'_>, builder: &mut B) -> Result<(), Stop>
-    ensures { Puts B.has_self B.has_name B.add make.Expr loop_expr words.old builder.old builder.new result }
+fn loop_expr<B: Builder>(words: &mut Line<'_>, builder: &mut B) -> Result<(), LineError>
+    ensures { PutsRead B.has_self B.has_name B.add make.Expr loop_expr words.old builder.old
+        builder.new result }
 {
     let loop_expr = Expr::Loop {
         body: words.id()?,
@@ -174,8 +188,8 @@ fn loop_expr<B: Builder>(words: &mut Line<'_>, builder: &mut B) -> Result<(), St
     builder.expr(loop_expr)
 }
 
-fn assignment<B: Builder>(words: &mut Line<'_>, builder: &mut B) -> Result<(), Stop>
-    ensures { Puts B.has_self B.has_name B.add make.Expr assign_expr words.old builder.old
+fn assignment<B: Builder>(words: &mut Line<'_>, builder: &mut B) -> Result<(), LineError>
+    ensures { PutsRead B.has_self B.has_name B.add make.Expr assign_expr words.old builder.old
         builder.new result }
 {
     let target = words.id()?;
@@ -184,16 +198,25 @@ fn assignment<B: Builder>(words: &mut Line<'_>, builder: &mut B) -> Result<(), S
     builder.expr(Expr::Assignment { target, value })
 }
 
-fn match_expr<B: Builder>(alloc: Global, words: &mut Line<'_>, builder: &mut B) -> Result<(), Stop>
-    ensures { Puts B.has_self B.has_name B.add make.Expr match_expr words.old builder.old builder.new result }
+fn match_expr<B: Builder>(
+    alloc: Global,
+    words: &mut Line<'_>,
+    builder: &mut B,
+) -> Result<(), LineError>
+    ensures { PutsRead B.has_self B.has_name B.add make.Expr match_expr words.old builder.old
+        builder.new result }
 {
     let expr = words.id()?;
     let arms = words.each(alloc)?;
     builder.expr(Expr::Match { expr, arms })
 }
 
-fn closure<B: Builder>(alloc: Global, words: &mut Line<'_>, builder: &mut B) -> Result<(), Stop>
-    ensures { Puts B.has_self B.has_name B.add make.Expr closure_expr words.old builder.old
+fn closure<B: Builder>(
+    alloc: Global,
+    words: &mut Line<'_>,
+    builder: &mut B,
+) -> Result<(), LineError>
+    ensures { PutsRead B.has_self B.has_name B.add make.Expr closure_expr words.old builder.old
         builder.new result }
 {
     let body = words.id()?;
@@ -220,8 +243,9 @@ fn no_types(alloc: Global, args: &[PatId]) -> Result<Seq<Option<TypeRefId>>, All
     Ok(types)
 }
 
-fn block<B: Builder>(alloc: Global, words: &mut Line<'_>, builder: &mut B) -> Result<(), Stop>
-    ensures { Puts B.has_self B.has_name B.add make.Expr block_expr words.old builder.old builder.new result }
+fn block<B: Builder>(alloc: Global, words: &mut Line<'_>, builder: &mut B) -> Result<(), LineError>
+    ensures { PutsRead B.has_self B.has_name B.add make.Expr block_expr words.old builder.old
+        builder.new result }
 {
     let id = words.optional()?.map(BlockId::from_raw);
     let tail = words.optional_id()?;

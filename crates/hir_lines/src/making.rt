@@ -3,13 +3,13 @@
 ghost use Rattle.std.specs.Prelude.{◌≡◌, MatchResult, true};
 ghost use Rattle.hir_lines.specs.Line.{bind, expr_hygiene, fn_name, line_of, param, pat_hygiene, root, roots, self_param};
 ghost use Rattle.hir_lines.specs.Makers as make;
-ghost use Rattle.hir_lines.specs.Taking.{Makes, Puts, PutsMaker};
+ghost use Rattle.hir_lines.specs.Taking.{Makes, PutsRead, PutsMaker};
 ghost use Rattle.hir_lines.specs.Types.{type_ref};
 
 use crate::builder::Builder;
 use crate::exprs::expr;
+use crate::line_error::LineError;
 use crate::pats::pat;
-use crate::stop::Stop;
 use crate::types::type_ref;
 use crate::words::{Line, Words, name_of};
 use hir_node::{Binding, BindingAnnotation, ExprOrPatId};
@@ -19,7 +19,7 @@ use std::alloc::Global;
 ///
 /// `Bad` where no line is written so, or a second self parameter or name comes; `Memory` where memory was refused or an arena is full,
 /// at no bad line. After either nothing was added.
-pub fn make<B: Builder>(alloc: Global, text: &[u8], builder: &mut B) -> Result<bool, Stop>
+pub fn make<B: Builder>(alloc: Global, text: &[u8], builder: &mut B) -> Result<bool, LineError>
     ensures makes { Makes B.has_self B.has_name B.add (line_of text.now) builder.old builder.new result }
 {
     if text.is_empty() {
@@ -54,14 +54,14 @@ pub fn make<B: Builder>(alloc: Global, text: &[u8], builder: &mut B) -> Result<b
 }
 
 /// The line was taken, unless it was refused.
-fn unless_refused(outcome: Result<(), Stop>) -> Result<bool, Stop>
+fn unless_refused(outcome: Result<(), LineError>) -> Result<bool, LineError>
     ensures { MatchResult outcome (λ done. result ≡ Ok true) (λ why. result ≡ Err why) }
 {
     outcome?;
     Ok(true)
 }
 
-fn bind<B: Builder>(alloc: Global, words: &mut Line<'_>, builder: &mut B) -> Result<(), Stop>
+fn bind<B: Builder>(alloc: Global, words: &mut Line<'_>, builder: &mut B) -> Result<(), LineError>
     ensures { PutsMaker B.has_self B.has_name B.add bind words.old builder.old builder.new result }
 {
     let name = words.name()?;
@@ -75,14 +75,18 @@ fn bind<B: Builder>(alloc: Global, words: &mut Line<'_>, builder: &mut B) -> Res
     })
 }
 
-fn make_type<B: Builder>(alloc: Global, words: &mut Line<'_>, builder: &mut B) -> Result<(), Stop>
-    ensures { Puts B.has_self B.has_name B.add make.TypeRef type_ref words.old builder.old
+fn make_type<B: Builder>(
+    alloc: Global,
+    words: &mut Line<'_>,
+    builder: &mut B,
+) -> Result<(), LineError>
+    ensures { PutsRead B.has_self B.has_name B.add make.TypeRef type_ref words.old builder.old
         builder.new result }
 {
     builder.type_ref(type_ref(alloc, words)?)
 }
 
-fn expr_hygiene<B: Builder>(words: &mut Line<'_>, builder: &mut B) -> Result<(), Stop>
+fn expr_hygiene<B: Builder>(words: &mut Line<'_>, builder: &mut B) -> Result<(), LineError>
     ensures { PutsMaker B.has_self B.has_name B.add expr_hygiene words.old builder.old builder.new result }
 {
     let id = ExprOrPatId::ExprId(words.id()?);
@@ -91,7 +95,7 @@ fn expr_hygiene<B: Builder>(words: &mut Line<'_>, builder: &mut B) -> Result<(),
     builder.hygiene(id, hygiene)
 }
 
-fn pat_hygiene<B: Builder>(words: &mut Line<'_>, builder: &mut B) -> Result<(), Stop>
+fn pat_hygiene<B: Builder>(words: &mut Line<'_>, builder: &mut B) -> Result<(), LineError>
     ensures { PutsMaker B.has_self B.has_name B.add pat_hygiene words.old builder.old builder.new result }
 {
     let id = ExprOrPatId::PatId(words.id()?);
@@ -100,18 +104,18 @@ fn pat_hygiene<B: Builder>(words: &mut Line<'_>, builder: &mut B) -> Result<(), 
     builder.hygiene(id, hygiene)
 }
 
-fn self_param<B: Builder>(words: &mut Line<'_>, builder: &mut B) -> Result<(), Stop>
+fn self_param<B: Builder>(words: &mut Line<'_>, builder: &mut B) -> Result<(), LineError>
     ensures { PutsMaker B.has_self B.has_name B.add self_param words.old builder.old builder.new result }
 {
     let id = words.id()?;
     words.end()?;
     if builder.has_self_param() {
-        return Err(Stop::Bad);
+        return Err(LineError::Syntax);
     }
     builder.self_param(id)
 }
 
-fn param<B: Builder>(words: &mut Line<'_>, builder: &mut B) -> Result<(), Stop>
+fn param<B: Builder>(words: &mut Line<'_>, builder: &mut B) -> Result<(), LineError>
     ensures { PutsMaker B.has_self B.has_name B.add param words.old builder.old builder.new result }
 {
     let id = words.id()?;
@@ -119,26 +123,30 @@ fn param<B: Builder>(words: &mut Line<'_>, builder: &mut B) -> Result<(), Stop>
     builder.param(id)
 }
 
-fn fn_name<B: Builder>(alloc: Global, words: &mut Line<'_>, builder: &mut B) -> Result<(), Stop>
+fn fn_name<B: Builder>(
+    alloc: Global,
+    words: &mut Line<'_>,
+    builder: &mut B,
+) -> Result<(), LineError>
     ensures { PutsMaker B.has_self B.has_name B.add fn_name words.old builder.old builder.new result }
 {
     let name = words.name()?;
     words.end()?;
     // A second name is bad, whether or not there is memory for it.
     if builder.has_fn_name() {
-        return Err(Stop::Bad);
+        return Err(LineError::Syntax);
     }
     builder.fn_name(name_of(alloc, name)?)
 }
 
-fn roots<B: Builder>(words: &Line<'_>, builder: &mut B) -> Result<(), Stop>
+fn roots<B: Builder>(words: &Line<'_>, builder: &mut B) -> Result<(), LineError>
     ensures { PutsMaker B.has_self B.has_name B.add roots words.now builder.old builder.new result }
 {
     words.end()?;
     builder.roots()
 }
 
-fn root<B: Builder>(words: &mut Line<'_>, builder: &mut B) -> Result<(), Stop>
+fn root<B: Builder>(words: &mut Line<'_>, builder: &mut B) -> Result<(), LineError>
     ensures { PutsMaker B.has_self B.has_name B.add root words.old builder.old builder.new result }
 {
     let id = words.id()?;

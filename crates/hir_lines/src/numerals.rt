@@ -3,10 +3,10 @@
 ghost use Rattle.std.specs.Prelude.{◌≡◌, ◌+◌, ◌≤◌, Some, None, IfOk, MatchResult, length};
 ghost use Rattle.std.specs.List.{list_all};
 ghost use Rattle.hir_lines.specs.Numerals.{has_needless_zero, int_of, is_digit, is_numeral, without_minus};
-ghost use Rattle.hir_lines.specs.Readings.{parts_of, words_from};
+ghost use Rattle.hir_lines.specs.Readings.{split_parts, words_from};
 ghost use Rattle.hir_lines.specs.Words.{number};
 
-use crate::stop::Bad;
+use crate::line_error::Malformed;
 
 /// Whether a text begins with a zero before another byte.
 fn has_needless_zero(text: &[u8]) -> bool
@@ -29,12 +29,12 @@ fn is_numeral(text: &[u8]) -> bool
 }
 
 /// The number that the first word of a text is, which is read where it stands, and how long that word is.
-pub fn first_number(text: &[u8], separator: u8) -> Result<(u32, usize), Bad>
+pub fn first_number(text: &[u8], separator: u8) -> Result<(u32, usize), Malformed>
     ensures within { IfOk result (λ found. found.1 ≤ length text.now) }
     ensures number { MatchResult result
-        (λ found. number (parts_of separator text.now)
+        (λ found. number (split_parts separator text.now)
         ≡ Some (found.0, words_from separator (found.1 + 1) text.now))
-        (λ bad. number (parts_of separator text.now) ≡ None) }
+        (λ bad. number (split_parts separator text.now) ≡ None) }
 {
     // A number has at most ten digits. So its value is tested once, behind them.
     let most = text.len().min(10);
@@ -45,10 +45,10 @@ pub fn first_number(text: &[u8], separator: u8) -> Result<(u32, usize), Bad>
         end += 1;
     }
     if end == 0 || has_needless_zero(&text[..end]) || value > u64::from(u32::MAX) {
-        return Err(Bad);
+        return Err(Malformed);
     }
     if end < text.len() && text[end] != separator {
-        return Err(Bad);
+        return Err(Malformed);
     }
     Ok((value as u32, end))
 }

@@ -2,10 +2,10 @@
 
 ghost use Rattle.hir_lines.specs.Makers as make;
 ghost use Rattle.hir_lines.specs.Pats.{bind_pat, or_pat, pat, range_pat, tuple_pat, tuple_struct_pat};
-ghost use Rattle.hir_lines.specs.Taking.{Puts};
+ghost use Rattle.hir_lines.specs.Taking.{PutsRead};
 
 use crate::builder::Builder;
-use crate::stop::Stop;
+use crate::line_error::LineError;
 use crate::words::{Line, path_of};
 use hir_base::RangeOp;
 use hir_node::Pat;
@@ -13,8 +13,12 @@ use std::alloc::Global;
 
 /// Makes the pattern of the words behind `pat`.
 #[tactic(auto, unfolding(crate::specs::Pats::pat))]
-pub fn pat<B: Builder>(alloc: Global, words: &mut Line<'_>, builder: &mut B) -> Result<(), Stop>
-    ensures { Puts B.has_self B.has_name B.add make.Pat pat words.old builder.old builder.new result }
+pub fn pat<B: Builder>(
+    alloc: Global,
+    words: &mut Line<'_>,
+    builder: &mut B,
+) -> Result<(), LineError>
+    ensures { PutsRead B.has_self B.has_name B.add make.Pat pat words.old builder.old builder.new result }
 {
     if words.skip(b"bind") {
         bind(words, builder)
@@ -44,12 +48,13 @@ pub fn pat<B: Builder>(alloc: Global, words: &mut Line<'_>, builder: &mut B) -> 
         words.end()?;
         builder.pat(Pat::Missing)
     } else {
-        Err(Stop::Bad)
+        Err(LineError::Syntax)
     }
 }
 
-fn bind<B: Builder>(words: &mut Line<'_>, builder: &mut B) -> Result<(), Stop>
-    ensures { Puts B.has_self B.has_name B.add make.Pat bind_pat words.old builder.old builder.new result }
+fn bind<B: Builder>(words: &mut Line<'_>, builder: &mut B) -> Result<(), LineError>
+    ensures { PutsRead B.has_self B.has_name B.add make.Pat bind_pat words.old builder.old
+        builder.new result }
 {
     let id = words.id()?;
     let subpat = words.optional_id()?;
@@ -57,8 +62,9 @@ fn bind<B: Builder>(words: &mut Line<'_>, builder: &mut B) -> Result<(), Stop>
     builder.pat(Pat::Bind { id, subpat })
 }
 
-fn tuple<B: Builder>(alloc: Global, words: &mut Line<'_>, builder: &mut B) -> Result<(), Stop>
-    ensures { Puts B.has_self B.has_name B.add make.Pat tuple_pat words.old builder.old builder.new result }
+fn tuple<B: Builder>(alloc: Global, words: &mut Line<'_>, builder: &mut B) -> Result<(), LineError>
+    ensures { PutsRead B.has_self B.has_name B.add make.Pat tuple_pat words.old builder.old
+        builder.new result }
 {
     let tuple = Pat::Tuple {
         args: words.list(alloc)?,
@@ -67,8 +73,8 @@ fn tuple<B: Builder>(alloc: Global, words: &mut Line<'_>, builder: &mut B) -> Re
     builder.pat(tuple)
 }
 
-fn or_pat<B: Builder>(alloc: Global, words: &mut Line<'_>, builder: &mut B) -> Result<(), Stop>
-    ensures { Puts B.has_self B.has_name B.add make.Pat or_pat words.old builder.old builder.new result }
+fn or_pat<B: Builder>(alloc: Global, words: &mut Line<'_>, builder: &mut B) -> Result<(), LineError>
+    ensures { PutsRead B.has_self B.has_name B.add make.Pat or_pat words.old builder.old builder.new result }
 {
     builder.pat(Pat::Or(words.list(alloc)?))
 }
@@ -77,8 +83,8 @@ fn tuple_struct<B: Builder>(
     alloc: Global,
     words: &mut Line<'_>,
     builder: &mut B,
-) -> Result<(), Stop>
-    ensures { Puts B.has_self B.has_name B.add make.Pat tuple_struct_pat words.old builder.old
+) -> Result<(), LineError>
+    ensures { PutsRead B.has_self B.has_name B.add make.Pat tuple_struct_pat words.old builder.old
         builder.new result }
 {
     let name = words.name()?;
@@ -91,8 +97,9 @@ fn tuple_struct<B: Builder>(
     builder.pat(tuple_struct)
 }
 
-fn range<B: Builder>(words: &mut Line<'_>, builder: &mut B) -> Result<(), Stop>
-    ensures { Puts B.has_self B.has_name B.add make.Pat range_pat words.old builder.old builder.new result }
+fn range<B: Builder>(words: &mut Line<'_>, builder: &mut B) -> Result<(), LineError>
+    ensures { PutsRead B.has_self B.has_name B.add make.Pat range_pat words.old builder.old
+        builder.new result }
 {
     let range = Pat::Range {
         start: words.optional_id()?,

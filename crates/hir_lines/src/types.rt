@@ -3,14 +3,14 @@
 ghost use Rattle.hir_lines.specs.Readings.{SaysAll};
 ghost use Rattle.hir_lines.specs.Types.{array_type, path_type, pattern_type, tuple_type, type_ref};
 
-use crate::stop::Stop;
+use crate::line_error::LineError;
 use crate::words::{Line, path_of};
 use hir_node::{ArrayType, ConstRef, TypeRef};
 use std::alloc::Global;
 
 /// The type that the words behind `type` make.
 #[tactic(auto, unfolding(crate::specs::Types::type_ref))]
-pub fn type_ref(alloc: Global, words: &mut Line<'_>) -> Result<TypeRef, Stop>
+pub fn type_ref(alloc: Global, words: &mut Line<'_>) -> Result<TypeRef, LineError>
     ensures { SaysAll type_ref words.old result }
 {
     if words.skip(b"path") {
@@ -25,11 +25,11 @@ pub fn type_ref(alloc: Global, words: &mut Line<'_>) -> Result<TypeRef, Stop>
         words.end()?;
         Ok(TypeRef::Never)
     } else {
-        Err(Stop::Bad)
+        Err(LineError::Syntax)
     }
 }
 
-fn path(alloc: Global, words: &mut Line<'_>) -> Result<TypeRef, Stop>
+fn path(alloc: Global, words: &mut Line<'_>) -> Result<TypeRef, LineError>
     ensures { SaysAll path_type words.old result }
 {
     let name = words.name()?;
@@ -37,13 +37,13 @@ fn path(alloc: Global, words: &mut Line<'_>) -> Result<TypeRef, Stop>
     Ok(TypeRef::Path(path_of(alloc, name)?))
 }
 
-fn tuple(alloc: Global, words: &mut Line<'_>) -> Result<TypeRef, Stop>
+fn tuple(alloc: Global, words: &mut Line<'_>) -> Result<TypeRef, LineError>
     ensures { SaysAll tuple_type words.old result }
 {
     Ok(TypeRef::Tuple(words.list(alloc)?))
 }
 
-fn array(words: &mut Line<'_>) -> Result<TypeRef, Stop>
+fn array(words: &mut Line<'_>) -> Result<TypeRef, LineError>
     ensures { SaysAll array_type words.old result }
 {
     let ty = words.id()?;
@@ -52,7 +52,7 @@ fn array(words: &mut Line<'_>) -> Result<TypeRef, Stop>
     Ok(TypeRef::Array(ArrayType { ty, len }))
 }
 
-fn pattern(words: &mut Line<'_>) -> Result<TypeRef, Stop>
+fn pattern(words: &mut Line<'_>) -> Result<TypeRef, LineError>
     ensures { SaysAll pattern_type words.old result }
 {
     let ty = words.id()?;

@@ -3,12 +3,12 @@
 ghost use Rattle.std.specs.Prelude.{◌≡◌, ◌∷◌, ◌++◌, ◌+◌, ◌<◌, ◌≤◌, ◌↔◌, [], ℕ, List, None, Some, MatchResult, IfOk, IsTrue, codes, false, length, take, true};
 ghost use Rattle.std.specs.List.{count_by};
 ghost use Rattle.hir_lines.specs.Names.{is_name};
-ghost use Rattle.hir_lines.specs.Readings.{HasWord, IsRestFrom, Plain, Reads, ReadsAll, Says, SaysOrStops, StartsOtherwise, each, is_byte, parts_of, words_from};
+ghost use Rattle.hir_lines.specs.Readings.{HasWord, IsRestFrom, Plain, ReadsWords, ReadsAll, Says, SaysOrStops, StartsOtherwise, each, is_byte, split_parts, words_from};
 ghost use Rattle.hir_lines.specs.Words.{expansion, hygiene, list, list_of, name, number, optional, plain};
 
+use crate::line_error::{LineError, Malformed};
 use crate::names::is_name;
 use crate::numerals::first_number;
-use crate::stop::{Bad, Stop};
 use hir_base::{HygieneId, Idx, Name, Seq, ShortList, SyntaxContext};
 use hir_node::Path;
 use std::alloc::{AllocError, Global};
@@ -37,13 +37,13 @@ impl<'a, const SEPARATOR: u8> Model for Words<'a, SEPARATOR> {
 impl<'a, const SEPARATOR: u8> Words<'a, SEPARATOR> {
     /// The words of a text.
     pub fn new(text: &'a [u8]) -> Words<'a, SEPARATOR>
-        ensures { result ≡ parts_of SEPARATOR text.now }
+        ensures { result ≡ split_parts SEPARATOR text.now }
     {
         Words { text, start: 0 }
     }
 
     /// Takes the next word.
-    pub fn word(&mut self) -> Result<&'a [u8], Bad>
+    pub fn word(&mut self) -> Result<&'a [u8], Malformed>
         ensures { MatchResult result (λ word. self.old ≡ word.now ∷ self.new) (λ bad. self.old ≡ []) }
     {
         let text = rest_from(self.text, self.start)?;
@@ -69,8 +69,8 @@ impl<'a, const SEPARATOR: u8> Words<'a, SEPARATOR> {
     }
 
     /// Takes the next word, if it is a number.
-    pub fn number(&mut self) -> Result<u32, Bad>
-        ensures { Reads number self.old result self.new }
+    pub fn number(&mut self) -> Result<u32, Malformed>
+        ensures { ReadsWords number self.old result self.new }
     {
         let text = rest_from(self.text, self.start)?;
         let (number, end) = first_number(text, SEPARATOR)?;
@@ -79,15 +79,15 @@ impl<'a, const SEPARATOR: u8> Words<'a, SEPARATOR> {
     }
 
     /// Takes the next word, if it is the number of something.
-    pub fn id<K>(&mut self) -> Result<Idx<K>, Bad>
-        ensures { Reads number self.old result self.new }
+    pub fn id<K>(&mut self) -> Result<Idx<K>, Malformed>
+        ensures { ReadsWords number self.old result self.new }
     {
         Ok(Idx::from_raw(self.number()?))
     }
 
     /// Takes the next word, if it is a number or a dash.
-    pub fn optional(&mut self) -> Result<Option<u32>, Bad>
-        ensures { Reads optional self.old result self.new }
+    pub fn optional(&mut self) -> Result<Option<u32>, Malformed>
+        ensures { ReadsWords optional self.old result self.new }
     {
         let text = rest_from(self.text, self.start)?;
         // A dash that separates is no word.
@@ -99,8 +99,8 @@ impl<'a, const SEPARATOR: u8> Words<'a, SEPARATOR> {
     }
 
     /// Takes the next word, if it is the number of something or a dash.
-    pub fn optional_id<K>(&mut self) -> Result<Option<Idx<K>>, Bad>
-        ensures { Reads optional self.old result self.new }
+    pub fn optional_id<K>(&mut self) -> Result<Option<Idx<K>>, Malformed>
+        ensures { ReadsWords optional self.old result self.new }
     {
         match self.optional()? {
             Some(number) => Ok(Some(Idx::from_raw(number))),
@@ -109,28 +109,28 @@ impl<'a, const SEPARATOR: u8> Words<'a, SEPARATOR> {
     }
 
     /// Takes the next word, if it is a name.
-    pub fn name(&mut self) -> Result<&'a [u8], Bad>
+    pub fn name(&mut self) -> Result<&'a [u8], Malformed>
         ensures { MatchResult result
             (λ word. (is_name word.now ≡ true) × (name self.old ≡ Some (word.now, self.new)))
             (λ bad. name self.old ≡ None) }
     {
         let word = self.word()?;
         if !is_name(word) {
-            return Err(Bad);
+            return Err(Malformed);
         }
         Ok(word)
     }
 
     /// Takes the next word, if it is the number of a macro expansion: the hygiene of that expansion.
-    pub fn expansion(&mut self) -> Result<HygieneId, Bad>
-        ensures { Reads expansion self.old result self.new }
+    pub fn expansion(&mut self) -> Result<HygieneId, Malformed>
+        ensures { ReadsWords expansion self.old result self.new }
     {
         Ok(HygieneId::new(SyntaxContext::Expansion(self.number()?)))
     }
 
     /// Takes the next word, if it is the number of a macro expansion; where no word is left, the hygiene is that of source text.
-    pub fn hygiene(&mut self) -> Result<HygieneId, Bad>
-        ensures { Reads hygiene self.old result self.new }
+    pub fn hygiene(&mut self) -> Result<HygieneId, Malformed>
+        ensures { ReadsWords hygiene self.old result self.new }
     {
         if self.is_empty() {
             return Ok(HygieneId::ROOT);
@@ -139,7 +139,7 @@ impl<'a, const SEPARATOR: u8> Words<'a, SEPARATOR> {
     }
 
     /// Takes all the words that are left, if each says a value of this type. That memory was refused is said behind the last.
-    pub fn each<T: Word + Drop>(&mut self, alloc: Global) -> Result<Seq<T>, Stop>
+    pub fn each<T: Word + Drop>(&mut self, alloc: Global) -> Result<Seq<T>, LineError>
         ensures { ReadsAll (each T.meaning) self.old result }
     {
         // Room for each and no more: a list that grows while it is read keeps room that it never uses.
@@ -152,11 +152,11 @@ impl<'a, const SEPARATOR: u8> Words<'a, SEPARATOR> {
     }
 
     /// Refuses words that are left.
-    pub fn end(&self) -> Result<(), Bad>
+    pub fn end(&self) -> Result<(), Malformed>
         ensures { MatchResult result (λ done. self.now ≡ []) (λ bad. HasWord self.now) }
     {
         if !self.is_empty() {
-            return Err(Bad);
+            return Err(Malformed);
         }
         Ok(())
     }
@@ -180,7 +180,7 @@ impl<'a, const SEPARATOR: u8> Words<'a, SEPARATOR> {
 impl<'a> Words<'a, b' '> {
     /// The numbers of the last word, if it is a list of them. That memory was refused is said behind the last.
     // The word isn't cut off first: where another is behind it, one of the numbers has a space, and is none.
-    pub fn list<K>(&self, alloc: Global) -> Result<ShortList<Idx<K>>, Stop>
+    pub fn list<K>(&self, alloc: Global) -> Result<ShortList<Idx<K>>, LineError>
         ensures { ReadsAll list self.now result }
     {
         let text = rest_from(self.text, self.start)?;
@@ -195,7 +195,7 @@ pub trait Word: Sized {
     ghost meaning: { List ℕ → Option Self };
 
     /// The value of this type that a word says.
-    fn read(word: &[u8]) -> Result<Self, Bad>
+    fn read(word: &[u8]) -> Result<Self, Malformed>
         ensures { Says meaning word.now result };
 }
 
@@ -220,7 +220,7 @@ pub fn path_of(alloc: Global, word: &[u8]) -> Result<Path, AllocError>
 
 /// The numbers that a word is, or none for a dash.
 #[tactic(auto, unfolding(crate::specs::Words::list_of))]
-fn list<K>(alloc: Global, word: &[u8]) -> Result<ShortList<Idx<K>>, Stop>
+fn list<K>(alloc: Global, word: &[u8]) -> Result<ShortList<Idx<K>>, LineError>
     ensures { SaysOrStops list_of word.now result }
 {
     let mut kept = ShortList::new();
@@ -269,12 +269,12 @@ fn count(text: &[u8], byte: u8) -> usize
 }
 
 /// The rest of a text from a place on, unless that is past its end.
-fn rest_from(text: &[u8], start: usize) -> Result<&[u8], Bad>
+fn rest_from(text: &[u8], start: usize) -> Result<&[u8], Malformed>
     ensures { MatchResult result (λ rest. IsRestFrom start text.now rest.now)
         (λ bad. length text.now < start) }
 {
     if start > text.len() {
-        return Err(Bad);
+        return Err(Malformed);
     }
     Ok(&text[start..])
 }
@@ -282,7 +282,7 @@ fn rest_from(text: &[u8], start: usize) -> Result<&[u8], Bad>
 /// How long the first word of a text is.
 fn word_len(text: &[u8], separator: u8) -> usize
     ensures within { result ≤ length text.now }
-    ensures first { parts_of separator text.now
+    ensures first { split_parts separator text.now
         ≡ take result text.now ∷ words_from separator (result + 1) text.now }
 {
     let mut end = 0;
@@ -297,8 +297,8 @@ fn begins_with(text: &[u8], word: &[u8], separator: u8) -> bool
     requires { Plain separator word.now }
     ensures within { IsTrue result → length word.now ≤ length text.now }
     ensures yes { IsTrue result →
-        parts_of separator text.now ≡ word.now ∷ words_from separator (length word.now + 1) text.now }
-    ensures no { result ≡ false → StartsOtherwise word.now (parts_of separator text.now) }
+        split_parts separator text.now ≡ word.now ∷ words_from separator (length word.now + 1) text.now }
+    ensures no { result ≡ false → StartsOtherwise word.now (split_parts separator text.now) }
 {
     if !text.starts_with(word) {
         return false;

@@ -37,7 +37,7 @@ pub fn only<T: Drop>(alloc: Global, item: Result<T, AllocError>) -> Result<Seq<T
 }
 
 /// Both, if they could be made.
-pub fn both<T: Drop, U: Drop>(
+pub fn zip_ok<T: Drop, U: Drop>(
     first: Result<T, AllocError>,
     second: Result<U, AllocError>,
 ) -> Result<(T, U), AllocError> {
@@ -106,7 +106,7 @@ pub fn type_args(
     ty: u32,
     bindings: Result<Seq<AssociatedTypeBinding>, AllocError>,
 ) -> Result<GenericArgs, AllocError> {
-    match both(one(alloc, GenericArg::Ty(Idx::from_raw(ty))), bindings) {
+    match zip_ok(one(alloc, GenericArg::Ty(Idx::from_raw(ty))), bindings) {
         Ok((args, bindings)) => Ok(GenericArgs {
             args,
             has_self_type: false,
@@ -146,7 +146,7 @@ pub fn with_lists(
     type_anchor: Option<TypeRefId>,
     texts: &[&str],
 ) -> Result<Path, AllocError> {
-    let path = match both(lists, plain(alloc, texts)) {
+    let path = match zip_ok(lists, plain(alloc, texts)) {
         Ok((generic_args, mod_path)) => Ok(NormalPath {
             generic_args,
             type_anchor,
@@ -184,7 +184,7 @@ fn binding(
     ty: u32,
     bounds: Result<Seq<TypeBound>, AllocError>,
 ) -> Result<AssociatedTypeBinding, AllocError> {
-    match both(Name::new(alloc, name), both(args, bounds)) {
+    match zip_ok(Name::new(alloc, name), zip_ok(args, bounds)) {
         Ok((name, (args, bounds))) => Ok(AssociatedTypeBinding {
             name,
             args,

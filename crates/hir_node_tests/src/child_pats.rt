@@ -22,7 +22,7 @@ fn are_left(left: ChildPats<'_>, wanted: &[u32]) -> bool {
 fn slice(alloc: Global) -> Result<Pat, AllocError> {
     let prefix = ShortList::from_slice(alloc, &[Idx::from_raw(1)]);
     let suffix = ShortList::from_slice(alloc, &[Idx::from_raw(3)]);
-    match build::both(prefix, suffix) {
+    match build::zip_ok(prefix, suffix) {
         Ok((prefix, suffix)) => Ok(Pat::Slice {
             prefix,
             slice: Some(Idx::from_raw(2)),

@@ -24,7 +24,7 @@ fn have_args_first(segments: PathSegments<'_>) -> bool {
 
 // Whether the path begins with the name `a`, without arguments. The path is taken.
 fn begins_with_a(alloc: Global, path: Result<Path, AllocError>) -> Result<bool, AllocError> {
-    match build::both(path, Name::new(alloc, "a")) {
+    match build::zip_ok(path, Name::new(alloc, "a")) {
         Ok((path, name)) => {
             let holds = path.segments().first() == Some(PathSegment::missing(&name));
             drop(path);

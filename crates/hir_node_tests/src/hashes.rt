@@ -69,11 +69,11 @@ fn param(alloc: Global) -> Result<(Option<Name>, TypeRefId), AllocError> {
 fn function(alloc: Global) -> Result<FnType, AllocError> {
     let params = build::only(alloc, param(alloc));
     let params = build::with(params, Ok((None, Idx::from_raw(2))));
-    let words = build::both(
+    let words = build::zip_ok(
         build::names(alloc, &["'a", "'b"]),
         Text::from_str(alloc, "efiapi"),
     );
-    match build::both(params, words) {
+    match build::zip_ok(params, words) {
         Ok((params, (binder, abi))) => Ok(FnType {
             binder: Some(binder),
             params,

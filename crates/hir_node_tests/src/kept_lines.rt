@@ -2,7 +2,7 @@
 //! comparison is dear to prove, since it proves its laws.
 
 use hir_base::{HygieneId, Name, Seq};
-use hir_lines::{Builder, Stop, ask, make};
+use hir_lines::{Builder, LineError, ask, make};
 use hir_node::{Binding, BindingId, Expr, ExprId, ExprOrPatId, Pat, PatId, TypeRef};
 use std::alloc::Global;
 
@@ -67,14 +67,15 @@ struct BuiltLines {
 
 impl BuiltLines {
     ghost use Rattle.std.specs.Prelude.{[], ◌∷◌, ◌++◌};
-    ghost use Rattle.hir_lines.specs.Taking.{Adds};
+    ghost use Rattle.hir_lines.specs.Taking.{AddsOne};
 
-    fn keep(&mut self, maker: Maker) -> Result<(), Stop>
-        ensures { Adds (record self.old { makers = self.old.makers ++ maker ∷ [] }) self.old self.new result }
+    fn keep(&mut self, maker: Maker) -> Result<(), LineError>
+        ensures { AddsOne (record self.old { makers = self.old.makers ++ maker ∷ [] }) self.old
+            self.new result }
     {
         match self.makers.push(maker) {
             Ok(()) => Ok(()),
-            Err(_) => Err(Stop::Memory),
+            Err(_) => Err(LineError::Memory),
         }
     }
 }
@@ -112,67 +113,67 @@ impl Builder for BuiltLines {
         false
     }
 
-    fn binding(&mut self, binding: Binding) -> Result<(), Stop> {
+    fn binding(&mut self, binding: Binding) -> Result<(), LineError> {
         self.keep(Maker::Binding(binding))
     }
 
-    fn pat(&mut self, pat: Pat) -> Result<(), Stop> {
+    fn pat(&mut self, pat: Pat) -> Result<(), LineError> {
         self.keep(Maker::Pat(pat))
     }
 
-    fn type_ref(&mut self, _type_ref: TypeRef) -> Result<(), Stop> {
+    fn type_ref(&mut self, _type_ref: TypeRef) -> Result<(), LineError> {
         self.keep(Maker::SomeType)
     }
 
-    fn expr(&mut self, expr: Expr) -> Result<(), Stop> {
+    fn expr(&mut self, expr: Expr) -> Result<(), LineError> {
         self.keep(Maker::Expr(expr))
     }
 
-    fn hygiene(&mut self, id: ExprOrPatId, hygiene: HygieneId) -> Result<(), Stop> {
+    fn hygiene(&mut self, id: ExprOrPatId, hygiene: HygieneId) -> Result<(), LineError> {
         self.keep(Maker::Hygiene(id, hygiene))
     }
 
-    fn self_param(&mut self, id: BindingId) -> Result<(), Stop> {
+    fn self_param(&mut self, id: BindingId) -> Result<(), LineError> {
         self.keep(Maker::SelfParam(id))
     }
 
-    fn param(&mut self, id: PatId) -> Result<(), Stop> {
+    fn param(&mut self, id: PatId) -> Result<(), LineError> {
         self.keep(Maker::Param(id))
     }
 
-    fn fn_name(&mut self, name: Name) -> Result<(), Stop> {
+    fn fn_name(&mut self, name: Name) -> Result<(), LineError> {
         self.keep(Maker::FnName(name))
     }
 
-    fn roots(&mut self) -> Result<(), Stop> {
+    fn roots(&mut self) -> Result<(), LineError> {
         self.keep(Maker::Roots)
     }
 
-    fn root(&mut self, id: ExprId) -> Result<(), Stop> {
+    fn root(&mut self, id: ExprId) -> Result<(), LineError> {
         self.keep(Maker::Root(id))
     }
 }
 
 /// What a text says to a builder without a self parameter and a name.
-pub fn say_line(alloc: Global, text: &[u8]) -> Result<Line, Stop> {
+pub fn say_line(alloc: Global, text: &[u8]) -> Result<Line, LineError> {
     let mut kept = BuiltLines {
         makers: Seq::new(alloc),
     };
     match make(alloc, text, &mut kept) {
         Ok(true) => Ok(kept_line(kept)),
         Ok(false) => ask_line(alloc, text),
-        Err(Stop::Bad) => Ok(Line::Bad),
-        Err(Stop::Memory) => Err(Stop::Memory),
+        Err(LineError::Syntax) => Ok(Line::Bad),
+        Err(LineError::Memory) => Err(LineError::Memory),
     }
 }
 
 /// What a text says that makes nothing.
-fn ask_line(alloc: Global, text: &[u8]) -> Result<Line, Stop> {
+fn ask_line(alloc: Global, text: &[u8]) -> Result<Line, LineError> {
     match ask(alloc, text) {
         Ok(Some(_)) => Ok(Line::Ask),
         Ok(None) => Ok(Line::Blank),
-        Err(Stop::Bad) => Ok(Line::Bad),
-        Err(Stop::Memory) => Err(Stop::Memory),
+        Err(LineError::Syntax) => Ok(Line::Bad),
+        Err(LineError::Memory) => Err(LineError::Memory),
     }
 }
 

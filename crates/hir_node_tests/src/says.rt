@@ -3,13 +3,13 @@
 
 use crate::kept_lines::{Line, Maker, are_same, say_line};
 use hir_base::{Idx, Seq};
-use hir_lines::Stop;
+use hir_lines::LineError;
 use std::alloc::{AllocError, Global};
 use std::mem::drop;
 use std::process::Abort;
 use std::test::Fail;
 
-fn is_said(alloc: Global, text: &[u8], line: &Line) -> Result<bool, Stop> {
+fn is_said(alloc: Global, text: &[u8], line: &Line) -> Result<bool, LineError> {
     let said = say_line(alloc, text)?;
     let is_said = are_same(&said, line);
     drop(said);

@@ -1,12 +1,12 @@
 //! Generic arguments, as `::<T0,L1,Item=T3>`: types, lifetimes and constants by their numbers, and the bindings of associated types.
 
-use crate::reading::{both, joined_or_none, push, three};
+use crate::reading::{joined_or_none, push, three, zip_ok};
 use hir_base::{Idx, Name, Seq};
 use hir_path::{
     AssociatedTypeBinding, ConstRef, GenericArg, GenericArgs, GenericArgsParentheses, TypeBound,
     TypeRefId,
 };
-use hir_words::{Stop, Words};
+use hir_words::{TextError, Words};
 use std::alloc::Global;
 
 /// How many arguments may stand around others, each in a binding of the one before.
@@ -41,20 +41,20 @@ pub(crate) fn next_letter(words: &Words<'_>) -> Option<u8> {
 }
 
 /// The number behind a letter.
-pub(crate) fn lettered_id<K>(words: &mut Words<'_>) -> Result<Idx<K>, Stop> {
+pub(crate) fn lettered_id<K>(words: &mut Words<'_>) -> Result<Idx<K>, TextError> {
     let _ = words.take(1);
     words.id()
 }
 
 /// A type, a lifetime or a constant, by its letter and its number.
-fn read_arg(words: &mut Words<'_>) -> Result<GenericArg, Stop> {
+fn read_arg(words: &mut Words<'_>) -> Result<GenericArg, TextError> {
     match next_letter(words) {
         Some(b'T') => Ok(GenericArg::Ty(lettered_id(words)?)),
         Some(b'L') => Ok(GenericArg::Lifetime(lettered_id(words)?)),
         Some(_) => Ok(GenericArg::Const(ConstRef {
             expr: lettered_id(words)?,
         })),
-        None => Err(Stop::Bad),
+        None => Err(TextError::Syntax),
     }
 }
 
@@ -80,7 +80,7 @@ fn goes_on(words: &mut Words<'_>) -> bool {
 }
 
 /// The types, lifetimes and constants that come next, joined by `,`.
-fn read_list(words: &mut Words<'_>, alloc: Global) -> Result<Seq<GenericArg>, Stop> {
+fn read_list(words: &mut Words<'_>, alloc: Global) -> Result<Seq<GenericArg>, TextError> {
     let mut args = Seq::new(alloc);
     if next_letter(words).is_none() {
         return Ok(args);
@@ -95,15 +95,15 @@ fn read_list(words: &mut Words<'_>, alloc: Global) -> Result<Seq<GenericArg>, St
 }
 
 /// The name of an associated type.
-fn read_name(words: &mut Words<'_>, alloc: Global) -> Result<Name, Stop> {
+fn read_name(words: &mut Words<'_>, alloc: Global) -> Result<Name, TextError> {
     if next_letter(words).is_some() {
-        return Err(Stop::Bad);
+        return Err(TextError::Syntax);
     }
     words.name(alloc)
 }
 
 /// The bounds of an associated type, where there are any.
-fn opt_bounds(words: &mut Words<'_>, alloc: Global) -> Result<Seq<TypeBound>, Stop> {
+fn opt_bounds(words: &mut Words<'_>, alloc: Global) -> Result<Seq<TypeBound>, TextError> {
     if words.eat(b":") {
         return joined_or_none(words, alloc, b"+");
     }
@@ -111,7 +111,7 @@ fn opt_bounds(words: &mut Words<'_>, alloc: Global) -> Result<Seq<TypeBound>, St
 }
 
 /// The type that an associated type is, where there is one.
-fn opt_type(words: &mut Words<'_>) -> Result<Option<TypeRefId>, Stop> {
+fn opt_type(words: &mut Words<'_>) -> Result<Option<TypeRefId>, TextError> {
     if words.eat(b"=T") {
         return Ok(Some(words.id()?));
     }
@@ -120,12 +120,16 @@ fn opt_type(words: &mut Words<'_>) -> Result<Option<TypeRefId>, Stop> {
 
 /// The arguments of an associated type, where it has any. In them others may be nested less deep than `depth`.
 #[cycle(read_within)]
-fn opt_args(words: &mut Words<'_>, alloc: Global, depth: u8) -> Result<Option<GenericArgs>, Stop> {
+fn opt_args(
+    words: &mut Words<'_>,
+    alloc: Global,
+    depth: u8,
+) -> Result<Option<GenericArgs>, TextError> {
     if !words.eat(b"::<") {
         return Ok(None);
     }
     if depth == 0 {
-        return Err(Stop::Bad);
+        return Err(TextError::Syntax);
     }
     Ok(Some(read_within(words, alloc, depth - 1)?))
 }
@@ -136,10 +140,10 @@ fn read_binding(
     words: &mut Words<'_>,
     alloc: Global,
     depth: u8,
-) -> Result<AssociatedTypeBinding, Stop> {
-    let front = both(read_name(words, alloc), opt_args(words, alloc, depth));
-    let back = both(opt_bounds(words, alloc), opt_type(words));
-    let ((name, args), (bounds, type_ref)) = both(front, back)?;
+) -> Result<AssociatedTypeBinding, TextError> {
+    let front = zip_ok(read_name(words, alloc), opt_args(words, alloc, depth));
+    let back = zip_ok(opt_bounds(words, alloc), opt_type(words));
+    let ((name, args), (bounds, type_ref)) = zip_ok(front, back)?;
     Ok(AssociatedTypeBinding {
         name,
         args,
@@ -154,7 +158,7 @@ fn read_bindings(
     words: &mut Words<'_>,
     alloc: Global,
     depth: u8,
-) -> Result<Seq<AssociatedTypeBinding>, Stop> {
+) -> Result<Seq<AssociatedTypeBinding>, TextError> {
     let mut bindings = Seq::new(alloc);
     for _ in 0..words.rest().len() {
         push(&mut bindings, read_binding(words, alloc, depth))?;
@@ -162,7 +166,7 @@ fn read_bindings(
             return Ok(bindings);
         }
     }
-    Err(Stop::Bad)
+    Err(TextError::Syntax)
 }
 
 /// The bindings of associated types, where this says that there are any.
@@ -172,7 +176,7 @@ fn opt_bindings(
     alloc: Global,
     depth: u8,
     has_bindings: bool,
-) -> Result<Seq<AssociatedTypeBinding>, Stop> {
+) -> Result<Seq<AssociatedTypeBinding>, TextError> {
     if has_bindings {
         return read_bindings(words, alloc, depth);
     }
@@ -181,7 +185,7 @@ fn opt_bindings(
 
 /// What stands behind `::<`, to the end `>`. In it others may be nested as deep as `depth`.
 #[cycle(read_within)]
-fn read_within(words: &mut Words<'_>, alloc: Global, depth: u8) -> Result<GenericArgs, Stop> {
+fn read_within(words: &mut Words<'_>, alloc: Global, depth: u8) -> Result<GenericArgs, TextError> {
     let has_self_type = words.eat(b"self;");
     let parenthesized = read_parentheses(words);
     let is_empty = words.is_at(b">");
@@ -199,13 +203,13 @@ fn read_within(words: &mut Words<'_>, alloc: Global, depth: u8) -> Result<Generi
 }
 
 /// Generic arguments, from `::<` on.
-pub(crate) fn read_args(words: &mut Words<'_>, alloc: Global) -> Result<GenericArgs, Stop> {
+pub(crate) fn read_args(words: &mut Words<'_>, alloc: Global) -> Result<GenericArgs, TextError> {
     words.expect(b"::<")?;
     read_within(words, alloc, DEEPEST)
 }
 
 /// The same behind a space.
-pub fn next_args(words: &mut Words<'_>, alloc: Global) -> Result<GenericArgs, Stop> {
+pub fn next_args(words: &mut Words<'_>, alloc: Global) -> Result<GenericArgs, TextError> {
     words.expect(b" ")?;
     read_args(words, alloc)
 }

@@ -1,14 +1,14 @@
 //! Bindings with their hygiene, labels and lifetimes, as the lines behind `bind`, `label` and `lifetime` have them.
 
 use crate::definitions::next_lifetime_param;
-use crate::reading::both;
+use crate::reading::zip_ok;
 use hir_base::{HygieneId, SyntaxContext};
 use hir_node::{Binding, BindingAnnotation, BindingProblems, Label, LifetimeRef};
-use hir_words::{Answer, Stop, Words};
+use hir_words::{Answer, TextError, Words};
 use std::alloc::{AllocError, Global};
 
 /// A hygiene: the number of an expansion, or `root`.
-fn read_hygiene(words: &mut Words<'_>) -> Result<HygieneId, Stop> {
+fn read_hygiene(words: &mut Words<'_>) -> Result<HygieneId, TextError> {
     if words.eat(b"root") {
         return Ok(HygieneId::ROOT);
     }
@@ -16,13 +16,13 @@ fn read_hygiene(words: &mut Words<'_>) -> Result<HygieneId, Stop> {
 }
 
 /// A hygiene behind a space.
-pub fn next_hygiene(words: &mut Words<'_>) -> Result<HygieneId, Stop> {
+pub fn next_hygiene(words: &mut Words<'_>) -> Result<HygieneId, TextError> {
     words.expect(b" ")?;
     read_hygiene(words)
 }
 
 /// A hygiene, where one comes next: else `root`.
-pub fn opt_hygiene(words: &mut Words<'_>) -> Result<HygieneId, Stop> {
+pub fn opt_hygiene(words: &mut Words<'_>) -> Result<HygieneId, TextError> {
     if words.flag(b"root") {
         return Ok(HygieneId::ROOT);
     }
@@ -61,10 +61,10 @@ fn opt_problem(words: &mut Words<'_>) -> Option<BindingProblems> {
 }
 
 /// A binding, behind the word `bind`.
-pub fn read_binding(words: &mut Words<'_>, alloc: Global) -> Result<Binding, Stop> {
+pub fn read_binding(words: &mut Words<'_>, alloc: Global) -> Result<Binding, TextError> {
     let name = words.next_name(alloc);
     let mode = words.flag_in(&MODES);
-    let (name, hygiene) = both(name, opt_hygiene(words))?;
+    let (name, hygiene) = zip_ok(name, opt_hygiene(words))?;
     Ok(Binding {
         name,
         mode: mode.unwrap_or(BindingAnnotation::Unannotated),
@@ -74,7 +74,7 @@ pub fn read_binding(words: &mut Words<'_>, alloc: Global) -> Result<Binding, Sto
 }
 
 /// A label, behind the word `label`.
-pub fn read_label(words: &mut Words<'_>, alloc: Global) -> Result<Label, Stop> {
+pub fn read_label(words: &mut Words<'_>, alloc: Global) -> Result<Label, TextError> {
     Ok(Label {
         name: words.next_name(alloc)?,
     })
@@ -99,7 +99,7 @@ const FORMS: [(&str, Form); 5] = [
 ];
 
 /// A lifetime, behind the word `lifetime`.
-pub fn read_lifetime(words: &mut Words<'_>, alloc: Global) -> Result<LifetimeRef, Stop> {
+pub fn read_lifetime(words: &mut Words<'_>, alloc: Global) -> Result<LifetimeRef, TextError> {
     match words.next_in(&FORMS)? {
         Form::Named => Ok(LifetimeRef::Named(words.next_name(alloc)?)),
         Form::Static => Ok(LifetimeRef::Static),

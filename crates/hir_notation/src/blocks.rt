@@ -1,9 +1,9 @@
 //! Blocks with their statements, matches with their arms, and loops.
 
-use crate::reading::{Read, behind_spaces, both, three};
+use crate::reading::{Read, behind_spaces, three, zip_ok};
 use hir_base::{BlockId, MacroDefId};
 use hir_node::{Expr, Item, LabelId, LoopSource, MatchArm, Statement, Unsafe};
-use hir_words::{Stop, Words};
+use hir_words::{TextError, Words};
 use std::alloc::Global;
 
 /// The form of a statement.
@@ -28,13 +28,13 @@ const FORMS: [(&str, Form); 5] = [
 const LOOPS: [(&str, LoopSource); 2] = [("while", LoopSource::While), ("for", LoopSource::ForLoop)];
 
 /// A label, where the next word has one.
-pub(crate) fn opt_label(words: &mut Words<'_>) -> Result<Option<LabelId>, Stop> {
+pub(crate) fn opt_label(words: &mut Words<'_>) -> Result<Option<LabelId>, TextError> {
     words.prefixed_id(b"label:")
 }
 
-pub(crate) fn block_expr(words: &mut Words<'_>, alloc: Global) -> Result<Expr, Stop> {
+pub(crate) fn block_expr(words: &mut Words<'_>, alloc: Global) -> Result<Expr, TextError> {
     let id = opt_block(words)?;
-    let (tail, label) = both(words.next_opt_id(), opt_label(words))?;
+    let (tail, label) = zip_ok(words.next_opt_id(), opt_label(words))?;
     let unsafe_ = opt_unsafe(words);
     let statements = behind_spaces(words, alloc)?;
     Ok(Expr::Block {
@@ -46,7 +46,7 @@ pub(crate) fn block_expr(words: &mut Words<'_>, alloc: Global) -> Result<Expr, S
     })
 }
 
-fn opt_block(words: &mut Words<'_>) -> Result<Option<BlockId>, Stop> {
+fn opt_block(words: &mut Words<'_>) -> Result<Option<BlockId>, TextError> {
     match words.next_opt_number()? {
         Some(number) => Ok(Some(BlockId::from_raw(number))),
         None => Ok(None),
@@ -62,7 +62,7 @@ fn opt_unsafe(words: &mut Words<'_>) -> Unsafe {
 }
 
 impl Read for Statement {
-    fn read(words: &mut Words<'_>, _: Global) -> Result<Statement, Stop> {
+    fn read(words: &mut Words<'_>, _: Global) -> Result<Statement, TextError> {
         match words.keyword_in(&FORMS)? {
             Form::Let => let_statement(words),
             Form::Semi => expr_statement(words, true),
@@ -73,9 +73,9 @@ impl Read for Statement {
     }
 }
 
-fn let_statement(words: &mut Words<'_>) -> Result<Statement, Stop> {
-    let (pat, type_ref) = both(words.part_id(), words.part_opt_id())?;
-    let (initializer, else_branch) = both(words.part_opt_id(), words.part_opt_id())?;
+fn let_statement(words: &mut Words<'_>) -> Result<Statement, TextError> {
+    let (pat, type_ref) = zip_ok(words.part_id(), words.part_opt_id())?;
+    let (initializer, else_branch) = zip_ok(words.part_opt_id(), words.part_opt_id())?;
     Ok(Statement::Let {
         pat,
         type_ref,
@@ -84,19 +84,19 @@ fn let_statement(words: &mut Words<'_>) -> Result<Statement, Stop> {
     })
 }
 
-fn expr_statement(words: &mut Words<'_>, has_semi: bool) -> Result<Statement, Stop> {
+fn expr_statement(words: &mut Words<'_>, has_semi: bool) -> Result<Statement, TextError> {
     Ok(Statement::Expr {
         expr: words.part_id()?,
         has_semi,
     })
 }
 
-fn part_macro(words: &mut Words<'_>) -> Result<MacroDefId, Stop> {
+fn part_macro(words: &mut Words<'_>) -> Result<MacroDefId, TextError> {
     Ok(MacroDefId::from_raw(words.part_number(b":")?))
 }
 
-pub(crate) fn loop_expr(words: &mut Words<'_>) -> Result<Expr, Stop> {
-    let (body, label) = both(words.next_id(), opt_label(words))?;
+pub(crate) fn loop_expr(words: &mut Words<'_>) -> Result<Expr, TextError> {
+    let (body, label) = zip_ok(words.next_id(), opt_label(words))?;
     Ok(Expr::Loop {
         body,
         label,
@@ -105,13 +105,13 @@ pub(crate) fn loop_expr(words: &mut Words<'_>) -> Result<Expr, Stop> {
 }
 
 impl Read for MatchArm {
-    fn read(words: &mut Words<'_>, _: Global) -> Result<MatchArm, Stop> {
+    fn read(words: &mut Words<'_>, _: Global) -> Result<MatchArm, TextError> {
         let (pat, guard, expr) = three(words.id(), words.part_opt_id(), words.part_id())?;
         Ok(MatchArm { pat, guard, expr })
     }
 }
 
-pub(crate) fn match_expr(words: &mut Words<'_>, alloc: Global) -> Result<Expr, Stop> {
-    let (expr, arms) = both(words.next_id(), behind_spaces(words, alloc))?;
+pub(crate) fn match_expr(words: &mut Words<'_>, alloc: Global) -> Result<Expr, TextError> {
+    let (expr, arms) = zip_ok(words.next_id(), behind_spaces(words, alloc))?;
     Ok(Expr::Match { expr, arms })
 }

@@ -1,10 +1,10 @@
 //! Bounds, as `T3`, `?T3`, `for<NAMES>T3`, `L0`, `use<T,L0>` and `error`, and lists of them that are joined by `+`.
 
 use crate::args::{lettered_id, next_letter};
-use crate::reading::{Read, both, joined_or_none, one_or_more};
+use crate::reading::{Read, joined_or_none, one_or_more, zip_ok};
 use hir_base::{Name, Seq};
 use hir_path::{PathId, TraitBoundModifier, TypeBound, UseArgRef};
-use hir_words::{Stop, Words};
+use hir_words::{TextError, Words};
 use std::alloc::Global;
 
 /// The form of a bound.
@@ -28,19 +28,19 @@ const FORMS: [(&str, Form); 6] = [
 ];
 
 /// The type that is the path of a trait.
-fn read_trait(words: &mut Words<'_>) -> Result<PathId, Stop> {
+fn read_trait(words: &mut Words<'_>) -> Result<PathId, TextError> {
     words.expect(b"T")?;
     read_path_id(words)
 }
 
 /// The same behind its letter.
-fn read_path_id(words: &mut Words<'_>) -> Result<PathId, Stop> {
+fn read_path_id(words: &mut Words<'_>) -> Result<PathId, TextError> {
     Ok(PathId::from_type_ref_unchecked(words.id()?))
 }
 
 /// A lifetime by its number, or a name.
 impl Read for UseArgRef {
-    fn read(words: &mut Words<'_>, alloc: Global) -> Result<UseArgRef, Stop> {
+    fn read(words: &mut Words<'_>, alloc: Global) -> Result<UseArgRef, TextError> {
         if next_letter(words) == Some(b'L') {
             return Ok(UseArgRef::Lifetime(lettered_id(words)?));
         }
@@ -49,7 +49,7 @@ impl Read for UseArgRef {
 }
 
 /// What `use<` lists, to the end `>`.
-fn read_uses(words: &mut Words<'_>, alloc: Global) -> Result<Seq<UseArgRef>, Stop> {
+fn read_uses(words: &mut Words<'_>, alloc: Global) -> Result<Seq<UseArgRef>, TextError> {
     if words.eat(b">") {
         return Ok(Seq::new(alloc));
     }
@@ -59,14 +59,17 @@ fn read_uses(words: &mut Words<'_>, alloc: Global) -> Result<Seq<UseArgRef>, Sto
 }
 
 /// The names behind `for<`, to the end `>`.
-fn read_binder(words: &mut Words<'_>, alloc: Global) -> Result<Seq<Name>, Stop> {
+fn read_binder(words: &mut Words<'_>, alloc: Global) -> Result<Seq<Name>, TextError> {
     let names = joined_or_none(words, alloc, b",")?;
     words.expect(b">")?;
     Ok(names)
 }
 
 /// The names of `for<NAMES>`, where that comes next.
-pub(crate) fn opt_binder(words: &mut Words<'_>, alloc: Global) -> Result<Option<Seq<Name>>, Stop> {
+pub(crate) fn opt_binder(
+    words: &mut Words<'_>,
+    alloc: Global,
+) -> Result<Option<Seq<Name>>, TextError> {
     if words.prefix(b"for<") {
         return Ok(Some(read_binder(words, alloc)?));
     }
@@ -74,18 +77,18 @@ pub(crate) fn opt_binder(words: &mut Words<'_>, alloc: Global) -> Result<Option<
 }
 
 /// A trait, behind its letter.
-fn path_bound(words: &mut Words<'_>, modifier: TraitBoundModifier) -> Result<TypeBound, Stop> {
+fn path_bound(words: &mut Words<'_>, modifier: TraitBoundModifier) -> Result<TypeBound, TextError> {
     Ok(TypeBound::Path(read_path_id(words)?, modifier))
 }
 
 /// A trait behind `for<`.
-fn read_for(words: &mut Words<'_>, alloc: Global) -> Result<TypeBound, Stop> {
-    let (names, path) = both(read_binder(words, alloc), read_trait(words))?;
+fn read_for(words: &mut Words<'_>, alloc: Global) -> Result<TypeBound, TextError> {
+    let (names, path) = zip_ok(read_binder(words, alloc), read_trait(words))?;
     Ok(TypeBound::ForLifetime(names, path))
 }
 
 impl Read for TypeBound {
-    fn read(words: &mut Words<'_>, alloc: Global) -> Result<TypeBound, Stop> {
+    fn read(words: &mut Words<'_>, alloc: Global) -> Result<TypeBound, TextError> {
         match words.eat_in(&FORMS)? {
             Form::Maybe => path_bound(words, TraitBoundModifier::Maybe),
             Form::ForLifetime => read_for(words, alloc),
@@ -98,13 +101,16 @@ impl Read for TypeBound {
 }
 
 /// A bound behind a space.
-pub fn next_bound(words: &mut Words<'_>, alloc: Global) -> Result<TypeBound, Stop> {
+pub fn next_bound(words: &mut Words<'_>, alloc: Global) -> Result<TypeBound, TextError> {
     words.expect(b" ")?;
     TypeBound::read(words, alloc)
 }
 
 /// Bounds joined by `+`, or `-`, behind a space.
-pub(crate) fn next_bounds(words: &mut Words<'_>, alloc: Global) -> Result<Seq<TypeBound>, Stop> {
+pub(crate) fn next_bounds(
+    words: &mut Words<'_>,
+    alloc: Global,
+) -> Result<Seq<TypeBound>, TextError> {
     words.expect(b" ")?;
     joined_or_none(words, alloc, b"+")
 }

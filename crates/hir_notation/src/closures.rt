@@ -5,7 +5,7 @@ use hir_base::{Seq, ShortList};
 use hir_node::{
     CaptureBy, ClosureKind, CoroutineKind, CoroutineSource, Expr, Movability, PatId, TypeRefId,
 };
-use hir_words::{Stop, Words};
+use hir_words::{TextError, Words};
 use std::alloc::{AllocError, Global};
 
 /// What a closure expression makes, by the word at its end.
@@ -26,7 +26,7 @@ const SOURCES: [(&str, CoroutineSource); 3] = [
     ("fn", CoroutineSource::Fn),
 ];
 
-pub(crate) fn closure_expr(words: &mut Words<'_>, alloc: Global) -> Result<Expr, Stop> {
+pub(crate) fn closure_expr(words: &mut Words<'_>, alloc: Global) -> Result<Expr, TextError> {
     let body = words.next_id()?;
     let params = read_params(words, alloc);
     let ret_type = words.prefixed_id(b"ret:");
@@ -46,7 +46,7 @@ pub(crate) fn closure_expr(words: &mut Words<'_>, alloc: Global) -> Result<Expr,
 fn read_params(
     words: &mut Words<'_>,
     alloc: Global,
-) -> Result<(ShortList<PatId>, Seq<Option<TypeRefId>>), Stop> {
+) -> Result<(ShortList<PatId>, Seq<Option<TypeRefId>>), TextError> {
     let args = words.next_ids(alloc)?;
     let types = arg_types(words, alloc, args.len())?;
     Ok((args, types))
@@ -65,7 +65,7 @@ fn arg_types(
     words: &mut Words<'_>,
     alloc: Global,
     arg_count: usize,
-) -> Result<Seq<Option<TypeRefId>>, Stop> {
+) -> Result<Seq<Option<TypeRefId>>, TextError> {
     if !words.prefix(b"types:") {
         return Ok(no_types(alloc, arg_count)?);
     }
@@ -76,7 +76,7 @@ fn arg_types(
 }
 
 impl Read for Option<TypeRefId> {
-    fn read(words: &mut Words<'_>, _: Global) -> Result<Option<TypeRefId>, Stop> {
+    fn read(words: &mut Words<'_>, _: Global) -> Result<Option<TypeRefId>, TextError> {
         words.opt_id()
     }
 }
@@ -91,7 +91,7 @@ fn no_types(alloc: Global, arg_count: usize) -> Result<Seq<Option<TypeRefId>>, A
 }
 
 /// What a closure expression makes: a closure, where the line ends.
-fn closure_kind(words: &mut Words<'_>) -> Result<ClosureKind, Stop> {
+fn closure_kind(words: &mut Words<'_>) -> Result<ClosureKind, TextError> {
     if words.is_end() {
         return Ok(ClosureKind::Closure);
     }
@@ -105,7 +105,7 @@ fn closure_kind(words: &mut Words<'_>) -> Result<ClosureKind, Stop> {
 }
 
 /// A coroutine, where its source stands behind a colon; else a closure that makes coroutines.
-fn coroutine(words: &mut Words<'_>, kind: CoroutineKind) -> Result<ClosureKind, Stop> {
+fn coroutine(words: &mut Words<'_>, kind: CoroutineKind) -> Result<ClosureKind, TextError> {
     if !words.eat(b":") {
         return Ok(ClosureKind::CoroutineClosure(kind));
     }

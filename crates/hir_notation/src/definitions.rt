@@ -1,12 +1,12 @@
 //! Definitions: a kind and a number, as `FunctionId(7)`. Any of them is read as a `Def`, and narrowed to the kinds of its place.
 
-use crate::reading::{both, three};
+use crate::reading::{three, zip_ok};
 use crate::variants::{Word, of_word};
 use hir_base::{
     AdtId, DefWithBodyId, ExpressionStoreOwnerId, GenericDefId, Id, LangItemTarget,
     LifetimeParamId, MacroId, NamedDef, TypeOrConstParamId, TypeParamId, VariantId,
 };
-use hir_words::{Answer, Stop, Words};
+use hir_words::{Answer, TextError, Words};
 use std::alloc::AllocError;
 
 /// The kind of a definition.
@@ -71,7 +71,7 @@ impl Word for DefKind {
 }
 
 /// A definition.
-pub fn read_def(words: &mut Words<'_>) -> Result<Def, Stop> {
+pub fn read_def(words: &mut Words<'_>) -> Result<Def, TextError> {
     let kind = of_word(&KINDS, words.keyword());
     let number = words.part_number(b"(");
     let (kind, number, ()) = three(kind, number, words.expect(b")"))?;
@@ -79,13 +79,13 @@ pub fn read_def(words: &mut Words<'_>) -> Result<Def, Stop> {
 }
 
 /// The same behind a space.
-pub fn next_def(words: &mut Words<'_>) -> Result<Def, Stop> {
+pub fn next_def(words: &mut Words<'_>) -> Result<Def, TextError> {
     words.expect(b" ")?;
     read_def(words)
 }
 
 /// The definition as one that may have generic parameters.
-pub fn as_generic(def: Def) -> Result<GenericDefId, Stop> {
+pub fn as_generic(def: Def) -> Result<GenericDefId, TextError> {
     let number = def.number;
     match def.kind {
         DefKind::Struct => Ok(GenericDefId::AdtId(AdtId::StructId(Id::from_raw(number)))),
@@ -98,13 +98,13 @@ pub fn as_generic(def: Def) -> Result<GenericDefId, Stop> {
         DefKind::Trait => Ok(GenericDefId::TraitId(Id::from_raw(number))),
         DefKind::TypeAlias => Ok(GenericDefId::TypeAliasId(Id::from_raw(number))),
         DefKind::EnumVariant | DefKind::Macro2 | DefKind::MacroRules | DefKind::ProcMacro => {
-            Err(Stop::Bad)
+            Err(TextError::Syntax)
         }
     }
 }
 
 /// The definition as one that may have a body.
-pub fn as_def_with_body(def: Def) -> Result<DefWithBodyId, Stop> {
+pub fn as_def_with_body(def: Def) -> Result<DefWithBodyId, TextError> {
     let number = def.number;
     match def.kind {
         DefKind::Function => Ok(DefWithBodyId::FunctionId(Id::from_raw(number))),
@@ -119,12 +119,12 @@ pub fn as_def_with_body(def: Def) -> Result<DefWithBodyId, Stop> {
         | DefKind::TypeAlias
         | DefKind::Macro2
         | DefKind::MacroRules
-        | DefKind::ProcMacro => Err(Stop::Bad),
+        | DefKind::ProcMacro => Err(TextError::Syntax),
     }
 }
 
 /// The definition as one that has fields.
-pub fn as_variant(def: Def) -> Result<VariantId, Stop> {
+pub fn as_variant(def: Def) -> Result<VariantId, TextError> {
     let number = def.number;
     match def.kind {
         DefKind::EnumVariant => Ok(VariantId::EnumVariantId(Id::from_raw(number))),
@@ -139,12 +139,12 @@ pub fn as_variant(def: Def) -> Result<VariantId, Stop> {
         | DefKind::TypeAlias
         | DefKind::Macro2
         | DefKind::MacroRules
-        | DefKind::ProcMacro => Err(Stop::Bad),
+        | DefKind::ProcMacro => Err(TextError::Syntax),
     }
 }
 
 /// The definition as one that tables have a name of.
-pub fn as_named(def: Def) -> Result<NamedDef, Stop> {
+pub fn as_named(def: Def) -> Result<NamedDef, TextError> {
     let number = def.number;
     match def.kind {
         DefKind::Enum => Ok(NamedDef::EnumId(Id::from_raw(number))),
@@ -159,7 +159,7 @@ pub fn as_named(def: Def) -> Result<NamedDef, Stop> {
         DefKind::Macro2 => Ok(NamedDef::MacroId(MacroId::Macro2Id(Id::from_raw(number)))),
         DefKind::MacroRules => Ok(NamedDef::MacroId(MacroId::MacroRulesId(Id::from_raw(number)))),
         DefKind::ProcMacro => Ok(NamedDef::MacroId(MacroId::ProcMacroId(Id::from_raw(number)))),
-        DefKind::Impl => Err(Stop::Bad),
+        DefKind::Impl => Err(TextError::Syntax),
     }
 }
 
@@ -301,7 +301,7 @@ const OWNERS: [(&str, Owner); 3] = [
 ];
 
 /// Whose store it is: `body`, `signature` or `fields`, and the definition, behind a space.
-pub fn next_owner(words: &mut Words<'_>) -> Result<ExpressionStoreOwnerId, Stop> {
+pub fn next_owner(words: &mut Words<'_>) -> Result<ExpressionStoreOwnerId, TextError> {
     let owner = words.next_in(&OWNERS)?;
     let def = next_def(words)?;
     match owner {
@@ -312,18 +312,18 @@ pub fn next_owner(words: &mut Words<'_>) -> Result<ExpressionStoreOwnerId, Stop>
 }
 
 /// A definition that may have generic parameters, behind a space.
-fn next_generic(words: &mut Words<'_>) -> Result<GenericDefId, Stop> {
+fn next_generic(words: &mut Words<'_>) -> Result<GenericDefId, TextError> {
     as_generic(next_def(words)?)
 }
 
 /// A type parameter of a definition: the definition and a number, each behind a space.
-pub(crate) fn next_type_param(words: &mut Words<'_>) -> Result<TypeParamId, Stop> {
-    let (parent, local_id) = both(next_generic(words), words.next_id())?;
+pub(crate) fn next_type_param(words: &mut Words<'_>) -> Result<TypeParamId, TextError> {
+    let (parent, local_id) = zip_ok(next_generic(words), words.next_id())?;
     Ok(TypeParamId::from_unchecked(TypeOrConstParamId { parent, local_id }))
 }
 
 /// A lifetime parameter of a definition: the definition and a number, each behind a space.
-pub(crate) fn next_lifetime_param(words: &mut Words<'_>) -> Result<LifetimeParamId, Stop> {
-    let (parent, local_id) = both(next_generic(words), words.next_id())?;
+pub(crate) fn next_lifetime_param(words: &mut Words<'_>) -> Result<LifetimeParamId, TextError> {
+    let (parent, local_id) = zip_ok(next_generic(words), words.next_id())?;
     Ok(LifetimeParamId { parent, local_id })
 }

@@ -2,12 +2,12 @@
 
 use crate::path_text::write_mod_path;
 use crate::paths::next_mod_path;
-use crate::reading::both;
+use crate::reading::zip_ok;
 use crate::sources::{next_source, pointer, syntax, write_source};
 use crate::variants::{Word, of_word};
 use hir_base::{InFile, SyntaxNodePtr};
 use hir_source::{ExpressionStoreDiagnostics, MissingBodyItemKind};
-use hir_words::{Answer, Stop, Words};
+use hir_words::{Answer, TextError, Words};
 use std::alloc::{AllocError, Global};
 
 const ITEM_KINDS: [MissingBodyItemKind; 5] = [
@@ -61,7 +61,7 @@ const KINDS: [(&str, Kind); 8] = [
 pub fn read_diagnostic(
     words: &mut Words<'_>,
     alloc: Global,
-) -> Result<ExpressionStoreDiagnostics, Stop> {
+) -> Result<ExpressionStoreDiagnostics, TextError> {
     let kind = words.next_in(&KINDS)?;
     let source = next_source(words)?;
     match kind {
@@ -102,8 +102,8 @@ fn inactive_code(
     node: InFile<SyntaxNodePtr>,
     words: &mut Words<'_>,
     alloc: Global,
-) -> Result<ExpressionStoreDiagnostics, Stop> {
-    let (cfg, opts) = both(words.next_text(alloc), words.next_text(alloc))?;
+) -> Result<ExpressionStoreDiagnostics, TextError> {
+    let (cfg, opts) = zip_ok(words.next_text(alloc), words.next_text(alloc))?;
     Ok(ExpressionStoreDiagnostics::InactiveCode { node, cfg, opts })
 }
 

@@ -1,7 +1,7 @@
 //! Editions, by their years.
 
 use hir_base::Edition;
-use hir_words::{Stop, Words};
+use hir_words::{TextError, Words};
 
 const EDITIONS: [(&str, Edition); 4] = [
     ("2015", Edition::Edition2015),
@@ -11,12 +11,12 @@ const EDITIONS: [(&str, Edition); 4] = [
 ];
 
 /// An edition behind a space.
-pub fn next_edition(words: &mut Words<'_>) -> Result<Edition, Stop> {
+pub fn next_edition(words: &mut Words<'_>) -> Result<Edition, TextError> {
     words.next_in(&EDITIONS)
 }
 
 /// The edition at the end of a line: 2021 where the line ends before it.
-pub fn opt_edition(words: &mut Words<'_>) -> Result<Edition, Stop> {
+pub fn opt_edition(words: &mut Words<'_>) -> Result<Edition, TextError> {
     if words.is_end() {
         return Ok(Edition::Edition2021);
     }

@@ -6,12 +6,12 @@ use crate::closures::closure_expr;
 use crate::literals::{LiteralForm, read_literal};
 use crate::operators::{next_binary, next_unary};
 use crate::paths::next_path;
-use crate::reading::{Read, behind_spaces, both, in_box, joined_or_none, three};
+use crate::reading::{Read, behind_spaces, in_box, joined_or_none, three, zip_ok};
 use hir_base::{Name, Seq};
 use hir_node::{
     Array, Boxed, Expr, GenericArgs, Mutability, OffsetOf, Rawness, RecordLitField, RecordSpread,
 };
-use hir_words::{Stop, Words};
+use hir_words::{TextError, Words};
 use std::alloc::Global;
 
 /// The form of an expression.
@@ -114,7 +114,7 @@ const FORMS: [(&str, Form); 40] = [
 ];
 
 /// The expression of the words behind `expr`.
-pub fn read_expr(words: &mut Words<'_>, alloc: Global) -> Result<Expr, Stop> {
+pub fn read_expr(words: &mut Words<'_>, alloc: Global) -> Result<Expr, TextError> {
     match words.next_in(&FORMS)? {
         Form::Simple(form) => simple_expr(form, words),
         Form::Jump(form) => jump_expr(form, words),
@@ -123,13 +123,13 @@ pub fn read_expr(words: &mut Words<'_>, alloc: Global) -> Result<Expr, Stop> {
     }
 }
 
-fn simple_expr(form: Simple, words: &mut Words<'_>) -> Result<Expr, Stop> {
+fn simple_expr(form: Simple, words: &mut Words<'_>) -> Result<Expr, TextError> {
     match form {
         Simple::Missing => Ok(Expr::Missing),
         Simple::Underscore => Ok(Expr::Underscore),
         Simple::IncludeBytes => Ok(Expr::IncludeBytes),
         Simple::Repeat => {
-            let (initializer, repeat) = both(words.next_id(), words.next_id())?;
+            let (initializer, repeat) = zip_ok(words.next_id(), words.next_id())?;
             Ok(Expr::Array(Array::Repeat {
                 initializer,
                 repeat,
@@ -149,12 +149,12 @@ fn simple_expr(form: Simple, words: &mut Words<'_>) -> Result<Expr, Stop> {
             })
         }
         Simple::Let => {
-            let (pat, expr) = both(words.next_id(), words.next_id())?;
+            let (pat, expr) = zip_ok(words.next_id(), words.next_id())?;
             Ok(Expr::Let { pat, expr })
         }
         Simple::Loop => loop_expr(words),
         Simple::Cast => {
-            let (expr, type_ref) = both(words.next_id(), words.next_id())?;
+            let (expr, type_ref) = zip_ok(words.next_id(), words.next_id())?;
             Ok(Expr::Cast { expr, type_ref })
         }
         Simple::Ref => Ok(Expr::Ref {
@@ -163,7 +163,7 @@ fn simple_expr(form: Simple, words: &mut Words<'_>) -> Result<Expr, Stop> {
             mutability: Mutability::from_mutable(words.flag(b"mut")),
         }),
         Simple::Unary => {
-            let (op, expr) = both(next_unary(words), words.next_id())?;
+            let (op, expr) = zip_ok(next_unary(words), words.next_id())?;
             Ok(Expr::UnaryOp { expr, op })
         }
         Simple::Binary => {
@@ -171,23 +171,23 @@ fn simple_expr(form: Simple, words: &mut Words<'_>) -> Result<Expr, Stop> {
             Ok(Expr::BinaryOp { lhs, rhs, op })
         }
         Simple::Assign => {
-            let (target, value) = both(words.next_id(), words.next_id())?;
+            let (target, value) = zip_ok(words.next_id(), words.next_id())?;
             Ok(Expr::Assignment { target, value })
         }
         Simple::Index => {
-            let (base, index) = both(words.next_id(), words.next_id())?;
+            let (base, index) = zip_ok(words.next_id(), words.next_id())?;
             Ok(Expr::Index { base, index })
         }
     }
 }
 
-fn jump_expr(form: Jump, words: &mut Words<'_>) -> Result<Expr, Stop> {
+fn jump_expr(form: Jump, words: &mut Words<'_>) -> Result<Expr, TextError> {
     match form {
         Jump::Continue => Ok(Expr::Continue {
             label: opt_label(words)?,
         }),
         Jump::Break => {
-            let (expr, label) = both(words.next_opt_id(), opt_label(words))?;
+            let (expr, label) = zip_ok(words.next_opt_id(), opt_label(words))?;
             Ok(Expr::Break { expr, label })
         }
         Jump::Return => Ok(Expr::Return {
@@ -208,26 +208,26 @@ fn jump_expr(form: Jump, words: &mut Words<'_>) -> Result<Expr, Stop> {
     }
 }
 
-fn compound_expr(form: Compound, words: &mut Words<'_>, alloc: Global) -> Result<Expr, Stop> {
+fn compound_expr(form: Compound, words: &mut Words<'_>, alloc: Global) -> Result<Expr, TextError> {
     match form {
         Compound::Path => Ok(Expr::Path(next_path(words, alloc)?)),
         Compound::Array => Ok(Expr::Array(Array::ElementList {
             elements: words.next_ids(alloc)?,
         })),
         Compound::OffsetOf => {
-            let (container, fields) = both(words.next_id(), next_names(words, alloc))?;
+            let (container, fields) = zip_ok(words.next_id(), next_names(words, alloc))?;
             Ok(Expr::OffsetOf(OffsetOf { container, fields }))
         }
         Compound::Block => block_expr(words, alloc),
         Compound::Call => {
-            let (callee, args) = both(words.next_id(), words.next_ids(alloc))?;
+            let (callee, args) = zip_ok(words.next_id(), words.next_ids(alloc))?;
             Ok(Expr::Call { callee, args })
         }
         Compound::Method => method_expr(words, alloc),
         Compound::Match => match_expr(words, alloc),
         Compound::Record => record_expr(words, alloc),
         Compound::Field => {
-            let (expr, name) = both(words.next_id(), words.next_name(alloc))?;
+            let (expr, name) = zip_ok(words.next_id(), words.next_name(alloc))?;
             Ok(Expr::Field { expr, name })
         }
         Compound::Closure => closure_expr(words, alloc),
@@ -238,23 +238,23 @@ fn compound_expr(form: Compound, words: &mut Words<'_>, alloc: Global) -> Result
 }
 
 /// Names behind a space: joined by `,`, or `-`.
-fn next_names(words: &mut Words<'_>, alloc: Global) -> Result<Seq<Name>, Stop> {
+fn next_names(words: &mut Words<'_>, alloc: Global) -> Result<Seq<Name>, TextError> {
     words.expect(b" ")?;
     joined_or_none(words, alloc, b",")
 }
 
 /// The generic arguments at the line's end, where there are any.
-fn opt_args(words: &mut Words<'_>, alloc: Global) -> Result<Option<Boxed<GenericArgs>>, Stop> {
+fn opt_args(words: &mut Words<'_>, alloc: Global) -> Result<Option<Boxed<GenericArgs>>, TextError> {
     if words.is_end() {
         return Ok(None);
     }
     Ok(Some(in_box(alloc, next_args(words, alloc))?))
 }
 
-fn method_expr(words: &mut Words<'_>, alloc: Global) -> Result<Expr, Stop> {
-    let front = both(words.next_id(), words.next_name(alloc));
-    let back = both(words.next_ids(alloc), opt_args(words, alloc));
-    let ((receiver, method_name), (args, generic_args)) = both(front, back)?;
+fn method_expr(words: &mut Words<'_>, alloc: Global) -> Result<Expr, TextError> {
+    let front = zip_ok(words.next_id(), words.next_name(alloc));
+    let back = zip_ok(words.next_ids(alloc), opt_args(words, alloc));
+    let ((receiver, method_name), (args, generic_args)) = zip_ok(front, back)?;
     Ok(Expr::MethodCall {
         receiver,
         method_name,
@@ -264,13 +264,13 @@ fn method_expr(words: &mut Words<'_>, alloc: Global) -> Result<Expr, Stop> {
 }
 
 impl Read for RecordLitField {
-    fn read(words: &mut Words<'_>, alloc: Global) -> Result<RecordLitField, Stop> {
-        let (name, expr) = both(words.name(alloc), words.part_id())?;
+    fn read(words: &mut Words<'_>, alloc: Global) -> Result<RecordLitField, TextError> {
+        let (name, expr) = zip_ok(words.name(alloc), words.part_id())?;
         Ok(RecordLitField { name, expr })
     }
 }
 
-fn record_expr(words: &mut Words<'_>, alloc: Global) -> Result<Expr, Stop> {
+fn record_expr(words: &mut Words<'_>, alloc: Global) -> Result<Expr, TextError> {
     let path = next_path(words, alloc);
     let fields = in_box(alloc, behind_spaces(words, alloc));
     let (path, fields, spread) = three(path, fields, spread(words))?;
@@ -282,7 +282,7 @@ fn record_expr(words: &mut Words<'_>, alloc: Global) -> Result<Expr, Stop> {
 }
 
 /// What comes after the fields of a record literal.
-fn spread(words: &mut Words<'_>) -> Result<RecordSpread, Stop> {
+fn spread(words: &mut Words<'_>) -> Result<RecordSpread, TextError> {
     if !words.prefix(b"..") {
         return Ok(RecordSpread::None);
     }

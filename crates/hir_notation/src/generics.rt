@@ -2,18 +2,18 @@
 
 use crate::bounds::{next_bound, opt_binder};
 use crate::path_text::{join_names, write_bound};
-use crate::reading::{both, three};
+use crate::reading::{three, zip_ok};
 use hir_base::{Idx, Name};
 use hir_generics::{
     ConstParamData, LifetimeBoundType, LifetimeParamData, TypeOrConstParamData, TypeParamData,
     TypeParamProvenance, WherePredicate,
 };
 use hir_path::ConstRef;
-use hir_words::{Answer, Stop, Words};
+use hir_words::{Answer, TextError, Words};
 use std::alloc::{AllocError, Global};
 
 /// What a parameter is if no argument is given, behind `default:`.
-fn opt_default<K>(words: &mut Words<'_>) -> Result<Option<Idx<K>>, Stop> {
+fn opt_default<K>(words: &mut Words<'_>) -> Result<Option<Idx<K>>, TextError> {
     words.prefixed_id(b"default:")
 }
 
@@ -24,8 +24,11 @@ const PROVENANCES: [(&str, TypeParamProvenance); 2] = [
 ];
 
 /// A type parameter, behind the word `type-param`.
-pub fn read_type_param(words: &mut Words<'_>, alloc: Global) -> Result<TypeOrConstParamData, Stop> {
-    let (name, default) = both(words.next_opt_name(alloc), opt_default(words))?;
+pub fn read_type_param(
+    words: &mut Words<'_>,
+    alloc: Global,
+) -> Result<TypeOrConstParamData, TextError> {
+    let (name, default) = zip_ok(words.next_opt_name(alloc), opt_default(words))?;
     let provenance = words.flag_in(&PROVENANCES);
     Ok(TypeOrConstParamData::TypeParamData(TypeParamData {
         name,
@@ -38,14 +41,14 @@ pub fn read_type_param(words: &mut Words<'_>, alloc: Global) -> Result<TypeOrCon
 pub fn read_const_param(
     words: &mut Words<'_>,
     alloc: Global,
-) -> Result<TypeOrConstParamData, Stop> {
+) -> Result<TypeOrConstParamData, TextError> {
     let name = words.next_name(alloc);
     let (name, ty, default) = three(name, words.next_id(), opt_const(words))?;
     Ok(TypeOrConstParamData::ConstParamData(ConstParamData { name, ty, default }))
 }
 
 /// The constant that a parameter is if no argument is given.
-fn opt_const(words: &mut Words<'_>) -> Result<Option<ConstRef>, Stop> {
+fn opt_const(words: &mut Words<'_>) -> Result<Option<ConstRef>, TextError> {
     match opt_default(words)? {
         Some(expr) => Ok(Some(ConstRef { expr })),
         None => Ok(None),
@@ -56,7 +59,7 @@ fn opt_const(words: &mut Words<'_>) -> Result<Option<ConstRef>, Stop> {
 pub fn read_lifetime_param(
     words: &mut Words<'_>,
     alloc: Global,
-) -> Result<LifetimeParamData, Stop> {
+) -> Result<LifetimeParamData, TextError> {
     Ok(LifetimeParamData {
         name: words.next_name(alloc)?,
         bound_type: bound_type(words),
@@ -72,7 +75,7 @@ fn bound_type(words: &mut Words<'_>) -> LifetimeBoundType {
 }
 
 /// The predicate that a type meets a bound, behind the word `where`.
-pub fn read_where(words: &mut Words<'_>, alloc: Global) -> Result<WherePredicate, Stop> {
+pub fn read_where(words: &mut Words<'_>, alloc: Global) -> Result<WherePredicate, TextError> {
     let target = words.next_id();
     let bound = next_bound(words, alloc);
     let (target, bound, lifetimes) = three(target, bound, opt_binder(words, alloc))?;
@@ -84,8 +87,8 @@ pub fn read_where(words: &mut Words<'_>, alloc: Global) -> Result<WherePredicate
 }
 
 /// The predicate that a lifetime outlives another, behind the word `where-lifetime`.
-pub fn read_where_lifetime(words: &mut Words<'_>) -> Result<WherePredicate, Stop> {
-    let (target, bound) = both(words.next_id(), words.next_id())?;
+pub fn read_where_lifetime(words: &mut Words<'_>) -> Result<WherePredicate, TextError> {
+    let (target, bound) = zip_ok(words.next_id(), words.next_id())?;
     Ok(WherePredicate::Lifetime { target, bound })
 }
 

@@ -39,7 +39,7 @@ pub use generics::{
     read_const_param, read_lifetime_param, read_type_param, read_where, read_where_lifetime,
     write_lifetime_param, write_predicate, write_type_or_const,
 };
-pub use hir_words::{Answer, Stop, Words};
+pub use hir_words::{Answer, TextError, Words};
 pub use literals::write_literal;
 pub use nodes::{Node, next_node, write_node};
 pub use path_text::{

@@ -3,7 +3,7 @@
 use crate::variants::{Word, of_word};
 use hir_base::{BuiltinFloat, BuiltinInt, BuiltinUint, Text};
 use hir_node::{FloatTypeWrapper, Literal};
-use hir_words::{Answer, Stop, Words};
+use hir_words::{Answer, TextError, Words};
 use std::alloc::{AllocError, Global};
 
 /// The form of a literal.
@@ -51,7 +51,7 @@ pub(crate) fn read_literal(
     form: LiteralForm,
     words: &mut Words<'_>,
     alloc: Global,
-) -> Result<Literal, Stop> {
+) -> Result<Literal, TextError> {
     match form {
         LiteralForm::String => Ok(Literal::String(words.next_text(alloc)?)),
         LiteralForm::Bytes => Ok(Literal::ByteString(words.next_bytes(alloc)?)),
@@ -65,49 +65,49 @@ pub(crate) fn read_literal(
 }
 
 /// A text of one character.
-fn next_char(words: &mut Words<'_>, alloc: Global) -> Result<char, Stop> {
+fn next_char(words: &mut Words<'_>, alloc: Global) -> Result<char, TextError> {
     let text = words.next_text(alloc)?;
     let mut chars = text.as_str().chars();
     match (chars.next(), chars.next()) {
         (Some(c), None) => Ok(c),
-        (_, _) => Err(Stop::Bad),
+        (_, _) => Err(TextError::Syntax),
     }
 }
 
 /// The suffix at the line's end, where there is one.
-fn opt_suffix<T: Word>(all: &[T], words: &mut Words<'_>) -> Result<Option<T>, Stop> {
+fn opt_suffix<T: Word>(all: &[T], words: &mut Words<'_>) -> Result<Option<T>, TextError> {
     if words.is_end() {
         return Ok(None);
     }
     Ok(Some(of_word(all, words.next_keyword()?)?))
 }
 
-fn int_literal(words: &mut Words<'_>) -> Result<Literal, Stop> {
+fn int_literal(words: &mut Words<'_>) -> Result<Literal, TextError> {
     words.expect(b" ")?;
     let value = words.int()?;
     Ok(Literal::Int(value, opt_suffix(&INTS, words)?))
 }
 
-fn uint_literal(words: &mut Words<'_>) -> Result<Literal, Stop> {
+fn uint_literal(words: &mut Words<'_>) -> Result<Literal, TextError> {
     words.expect(b" ")?;
     let value = words.big()?;
     Ok(Literal::Uint(value, opt_suffix(&UINTS, words)?))
 }
 
-fn float_literal(words: &mut Words<'_>, alloc: Global) -> Result<Literal, Stop> {
+fn float_literal(words: &mut Words<'_>, alloc: Global) -> Result<Literal, TextError> {
     let text = FloatTypeWrapper::new(float_text(words, alloc)?);
     Ok(Literal::Float(text, opt_suffix(&FLOATS, words)?))
 }
 
 /// The text of a float: digits and `.`, or in quotes.
-fn float_text(words: &mut Words<'_>, alloc: Global) -> Result<Text, Stop> {
+fn float_text(words: &mut Words<'_>, alloc: Global) -> Result<Text, TextError> {
     if words.is_at(b" \"") {
         return words.next_text(alloc);
     }
     words.expect(b" ")?;
     let digits = words.decimal();
     if digits.is_empty() {
-        return Err(Stop::Bad);
+        return Err(TextError::Syntax);
     }
     Ok(Text::from_str(alloc, std::str::from_utf8(digits)?)?)
 }

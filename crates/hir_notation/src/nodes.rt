@@ -1,9 +1,9 @@
 //! Nodes of each arena, as `expr:3`.
 
-use crate::reading::both;
+use crate::reading::zip_ok;
 use hir_base::Idx;
 use hir_path::{BindingId, ExprId, LabelId, LifetimeRefId, PatId, TypeRefId};
-use hir_words::{Answer, Stop, Words};
+use hir_words::{Answer, TextError, Words};
 use std::alloc::AllocError;
 
 /// A node of an arena.
@@ -50,8 +50,8 @@ fn node_of(arena: Arena, number: u32) -> Node {
 }
 
 /// A node behind a space.
-pub fn next_node(words: &mut Words<'_>) -> Result<Node, Stop> {
-    let (arena, number) = both(words.next_in(&ARENAS), words.part_number(b":"))?;
+pub fn next_node(words: &mut Words<'_>) -> Result<Node, TextError> {
+    let (arena, number) = zip_ok(words.next_in(&ARENAS), words.part_number(b":"))?;
     Ok(node_of(arena, number))
 }
 

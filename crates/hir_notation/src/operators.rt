@@ -2,7 +2,7 @@
 
 use crate::variants::of_word;
 use hir_base::{ArithOp, BinaryOp, CmpOp, LogicOp, Ordering, UnaryOp};
-use hir_words::{Stop, Words};
+use hir_words::{TextError, Words};
 
 const BETWEEN: [BinaryOp; 29] = [
     BinaryOp::LogicOp(LogicOp::Or),
@@ -71,7 +71,7 @@ const BETWEEN: [BinaryOp; 29] = [
 const BEFORE: [UnaryOp; 3] = [UnaryOp::Deref, UnaryOp::Not, UnaryOp::Neg];
 
 /// The operator between two expressions; none for `missing`.
-pub(crate) fn next_binary(words: &mut Words<'_>) -> Result<Option<BinaryOp>, Stop> {
+pub(crate) fn next_binary(words: &mut Words<'_>) -> Result<Option<BinaryOp>, TextError> {
     if words.flag(b"missing") {
         return Ok(None);
     }
@@ -79,6 +79,6 @@ pub(crate) fn next_binary(words: &mut Words<'_>) -> Result<Option<BinaryOp>, Sto
 }
 
 /// The operator before an expression.
-pub(crate) fn next_unary(words: &mut Words<'_>) -> Result<UnaryOp, Stop> {
+pub(crate) fn next_unary(words: &mut Words<'_>) -> Result<UnaryOp, TextError> {
     of_word(&BEFORE, words.next_word()?)
 }

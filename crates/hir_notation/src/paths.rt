@@ -2,10 +2,10 @@
 
 use crate::args::read_args;
 use crate::definitions::{as_lang, read_def};
-use crate::reading::{both, in_box, push};
+use crate::reading::{in_box, push, zip_ok};
 use hir_base::{Id, ModPath, Name, PathKind, Seq};
 use hir_path::{Boxed, GenericArgs, NormalPath, Path, TypeRefId};
-use hir_words::{Stop, Words, value_of};
+use hir_words::{TextError, Words, value_of};
 use std::alloc::Global;
 
 const KINDS: [(&str, PathKind); 3] = [
@@ -20,7 +20,7 @@ pub(crate) fn is_kind(word: &[u8]) -> bool {
 }
 
 /// How many modules above: the number in parentheses, or one.
-fn read_super(words: &mut Words<'_>) -> Result<u8, Stop> {
+fn read_super(words: &mut Words<'_>) -> Result<u8, TextError> {
     if !words.eat(b"(") {
         return Ok(1);
     }
@@ -30,14 +30,14 @@ fn read_super(words: &mut Words<'_>) -> Result<u8, Stop> {
 }
 
 /// The crate behind `$crate(`.
-fn read_crate(words: &mut Words<'_>) -> Result<PathKind, Stop> {
+fn read_crate(words: &mut Words<'_>) -> Result<PathKind, TextError> {
     let krate = words.number()?;
     words.expect(b")")?;
     Ok(PathKind::DollarCrate(Id::from_raw(krate)))
 }
 
 /// The kind of a path that begins with a word; none where that is the name of a segment.
-fn opt_kind(words: &mut Words<'_>) -> Result<Option<PathKind>, Stop> {
+fn opt_kind(words: &mut Words<'_>) -> Result<Option<PathKind>, TextError> {
     if words.eat(b"$crate(") {
         return Ok(Some(read_crate(words)?));
     }
@@ -53,7 +53,7 @@ fn opt_kind(words: &mut Words<'_>) -> Result<Option<PathKind>, Stop> {
 }
 
 /// The kind of a path, and whether a segment comes next.
-fn read_kind(words: &mut Words<'_>) -> Result<(PathKind, bool), Stop> {
+fn read_kind(words: &mut Words<'_>) -> Result<(PathKind, bool), TextError> {
     if words.eat(b"::") {
         return Ok((PathKind::Abs, words.is_at_name()));
     }
@@ -67,16 +67,16 @@ fn read_kind(words: &mut Words<'_>) -> Result<(PathKind, bool), Stop> {
 }
 
 /// The name of a segment.
-fn read_segment(words: &mut Words<'_>, alloc: Global) -> Result<Name, Stop> {
+fn read_segment(words: &mut Words<'_>, alloc: Global) -> Result<Name, TextError> {
     let mut ahead = *words;
     if is_kind(ahead.bare_name()) {
-        return Err(Stop::Bad);
+        return Err(TextError::Syntax);
     }
     words.name(alloc)
 }
 
 /// The names of segments.
-fn read_names(words: &mut Words<'_>, alloc: Global) -> Result<Seq<Name>, Stop> {
+fn read_names(words: &mut Words<'_>, alloc: Global) -> Result<Seq<Name>, TextError> {
     let mut names = Seq::new(alloc);
     for _ in 0..words.rest().len() {
         push(&mut names, read_segment(words, alloc))?;
@@ -84,11 +84,15 @@ fn read_names(words: &mut Words<'_>, alloc: Global) -> Result<Seq<Name>, Stop> {
             return Ok(names);
         }
     }
-    Err(Stop::Bad)
+    Err(TextError::Syntax)
 }
 
 /// The names of segments, where this says that there are any.
-fn opt_names(words: &mut Words<'_>, alloc: Global, has_names: bool) -> Result<Seq<Name>, Stop> {
+fn opt_names(
+    words: &mut Words<'_>,
+    alloc: Global,
+    has_names: bool,
+) -> Result<Seq<Name>, TextError> {
     if has_names {
         return read_names(words, alloc);
     }
@@ -96,14 +100,14 @@ fn opt_names(words: &mut Words<'_>, alloc: Global, has_names: bool) -> Result<Se
 }
 
 /// A path without arguments.
-pub fn read_mod_path(words: &mut Words<'_>, alloc: Global) -> Result<ModPath, Stop> {
+pub fn read_mod_path(words: &mut Words<'_>, alloc: Global) -> Result<ModPath, TextError> {
     let (kind, has_names) = read_kind(words)?;
     let names = opt_names(words, alloc, has_names)?;
     mod_path(alloc, kind, names)
 }
 
 /// The same behind a space.
-pub(crate) fn next_mod_path(words: &mut Words<'_>, alloc: Global) -> Result<ModPath, Stop> {
+pub(crate) fn next_mod_path(words: &mut Words<'_>, alloc: Global) -> Result<ModPath, TextError> {
     words.expect(b" ")?;
     read_mod_path(words, alloc)
 }
@@ -116,7 +120,7 @@ struct Segments {
 }
 
 /// The arguments of a segment, where it has any.
-fn opt_args(words: &mut Words<'_>, alloc: Global) -> Result<Option<GenericArgs>, Stop> {
+fn opt_args(words: &mut Words<'_>, alloc: Global) -> Result<Option<GenericArgs>, TextError> {
     if words.is_at(b"::<") {
         return Ok(Some(read_args(words, alloc)?));
     }
@@ -124,7 +128,11 @@ fn opt_args(words: &mut Words<'_>, alloc: Global) -> Result<Option<GenericArgs>,
 }
 
 /// The next segment, which is put behind the others.
-fn push_segment(words: &mut Words<'_>, alloc: Global, segments: &mut Segments) -> Result<(), Stop> {
+fn push_segment(
+    words: &mut Words<'_>,
+    alloc: Global,
+    segments: &mut Segments,
+) -> Result<(), TextError> {
     push(&mut segments.names, read_segment(words, alloc))?;
     push(&mut segments.places, opt_args(words, alloc))
 }
@@ -134,7 +142,7 @@ fn opt_segments(
     words: &mut Words<'_>,
     alloc: Global,
     has_segments: bool,
-) -> Result<Segments, Stop> {
+) -> Result<Segments, TextError> {
     let mut segments = Segments {
         names: Seq::new(alloc),
         places: Seq::new(alloc),
@@ -148,11 +156,11 @@ fn opt_segments(
             return Ok(segments);
         }
     }
-    Err(Stop::Bad)
+    Err(TextError::Syntax)
 }
 
 /// The type in `<>` that a path begins at, where there is one.
-fn opt_anchor(words: &mut Words<'_>) -> Result<Option<TypeRefId>, Stop> {
+fn opt_anchor(words: &mut Words<'_>) -> Result<Option<TypeRefId>, TextError> {
     if !words.eat(b"<") {
         return Ok(None);
     }
@@ -162,7 +170,7 @@ fn opt_anchor(words: &mut Words<'_>) -> Result<Option<TypeRefId>, Stop> {
 }
 
 /// The kind of a path behind its anchor, if it has one, and whether a segment comes next.
-fn kind_behind(words: &mut Words<'_>, has_anchor: bool) -> Result<(PathKind, bool), Stop> {
+fn kind_behind(words: &mut Words<'_>, has_anchor: bool) -> Result<(PathKind, bool), TextError> {
     if has_anchor && !words.eat(b"::") {
         return Ok((PathKind::Plain, false));
     }
@@ -183,13 +191,13 @@ pub(crate) fn has_args(places: &[Option<GenericArgs>]) -> bool {
 fn read_places(
     words: &mut Words<'_>,
     places: Seq<Option<GenericArgs>>,
-) -> Result<Seq<Option<GenericArgs>>, Stop> {
+) -> Result<Seq<Option<GenericArgs>>, TextError> {
     if !words.eat(b"/") {
         return Ok(places);
     }
     let count = usize::from(words.byte()?);
     if count < places.len() && has_args(&places.as_slice()[count..]) {
-        return Err(Stop::Bad);
+        return Err(TextError::Syntax);
     }
     resize(places, count)
 }
@@ -198,7 +206,7 @@ fn read_places(
 fn resize(
     places: Seq<Option<GenericArgs>>,
     count: usize,
-) -> Result<Seq<Option<GenericArgs>>, Stop> {
+) -> Result<Seq<Option<GenericArgs>>, TextError> {
     let mut places = places.into_vec();
     places.truncate(count);
     for _ in places.len()..count {
@@ -208,7 +216,7 @@ fn resize(
 }
 
 /// The name behind a lang item, where there is one.
-fn opt_lang_name(words: &mut Words<'_>, alloc: Global) -> Result<Option<Boxed<Name>>, Stop> {
+fn opt_lang_name(words: &mut Words<'_>, alloc: Global) -> Result<Option<Boxed<Name>>, TextError> {
     if words.eat(b"::") {
         return Ok(Some(in_box(alloc, read_segment(words, alloc))?));
     }
@@ -216,7 +224,7 @@ fn opt_lang_name(words: &mut Words<'_>, alloc: Global) -> Result<Option<Boxed<Na
 }
 
 /// The definition behind `lang(`, and its name.
-fn read_lang(words: &mut Words<'_>, alloc: Global) -> Result<Path, Stop> {
+fn read_lang(words: &mut Words<'_>, alloc: Global) -> Result<Path, TextError> {
     let def = read_def(words)?;
     words.expect(b")")?;
     Ok(Path::LangItem(as_lang(def), opt_lang_name(words, alloc)?))
@@ -225,8 +233,8 @@ fn read_lang(words: &mut Words<'_>, alloc: Global) -> Result<Path, Stop> {
 /// The names and the places of a path, with its anchor.
 fn normal_of(
     type_anchor: Option<TypeRefId>,
-    parts: Result<(ModPath, Seq<Option<GenericArgs>>), Stop>,
-) -> Result<NormalPath, Stop> {
+    parts: Result<(ModPath, Seq<Option<GenericArgs>>), TextError>,
+) -> Result<NormalPath, TextError> {
     let (mod_path, generic_args) = parts?;
     Ok(NormalPath {
         generic_args,
@@ -242,20 +250,20 @@ fn normal_path(
     type_anchor: Option<TypeRefId>,
     kind: PathKind,
     segments: Segments,
-) -> Result<Path, Stop> {
+) -> Result<Path, TextError> {
     let Segments { names, places } = segments;
     let places = read_places(words, places);
-    let parts = both(mod_path(alloc, kind, names), places);
+    let parts = zip_ok(mod_path(alloc, kind, names), places);
     Ok(Path::Normal(in_box(alloc, normal_of(type_anchor, parts))?))
 }
 
 /// A path without arguments, of this kind and with these names.
-fn mod_path(alloc: Global, kind: PathKind, names: Seq<Name>) -> Result<ModPath, Stop> {
+fn mod_path(alloc: Global, kind: PathKind, names: Seq<Name>) -> Result<ModPath, TextError> {
     Ok(ModPath::from_segments(alloc, kind, names)?)
 }
 
 /// A path.
-pub fn read_path(words: &mut Words<'_>, alloc: Global) -> Result<Path, Stop> {
+pub fn read_path(words: &mut Words<'_>, alloc: Global) -> Result<Path, TextError> {
     if words.eat(b"lang(") {
         return read_lang(words, alloc);
     }
@@ -271,7 +279,7 @@ pub fn read_path(words: &mut Words<'_>, alloc: Global) -> Result<Path, Stop> {
 }
 
 /// A path behind a space.
-pub fn next_path(words: &mut Words<'_>, alloc: Global) -> Result<Path, Stop> {
+pub fn next_path(words: &mut Words<'_>, alloc: Global) -> Result<Path, TextError> {
     words.expect(b" ")?;
     read_path(words, alloc)
 }

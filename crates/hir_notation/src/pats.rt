@@ -1,10 +1,10 @@
 //! Patterns: each form is read by its keyword and its parts.
 
 use crate::paths::next_path;
-use crate::reading::{Read, behind_spaces, both, three};
+use crate::reading::{Read, behind_spaces, three, zip_ok};
 use hir_base::RangeOp;
 use hir_node::{Mutability, Pat, RecordFieldPat};
-use hir_words::{Stop, Words};
+use hir_words::{TextError, Words};
 use std::alloc::Global;
 
 /// The form of a pattern.
@@ -62,21 +62,21 @@ const FORMS: [(&str, Form); 17] = [
 ];
 
 /// The pattern of the words behind `pat`.
-pub fn read_pat(words: &mut Words<'_>, alloc: Global) -> Result<Pat, Stop> {
+pub fn read_pat(words: &mut Words<'_>, alloc: Global) -> Result<Pat, TextError> {
     match words.next_in(&FORMS)? {
         Form::Simple(form) => simple_pat(form, words),
         Form::Compound(form) => compound_pat(form, words, alloc),
     }
 }
 
-fn simple_pat(form: Simple, words: &mut Words<'_>) -> Result<Pat, Stop> {
+fn simple_pat(form: Simple, words: &mut Words<'_>) -> Result<Pat, TextError> {
     match form {
         Simple::Missing => Ok(Pat::Missing),
         Simple::Rest => Ok(Pat::Rest),
         Simple::Wild => Ok(Pat::Wild),
         Simple::NotNull => Ok(Pat::NotNull),
         Simple::Range => {
-            let (start, end) = both(words.next_opt_id(), words.next_opt_id())?;
+            let (start, end) = zip_ok(words.next_opt_id(), words.next_opt_id())?;
             Ok(Pat::Range {
                 start,
                 end,
@@ -86,7 +86,7 @@ fn simple_pat(form: Simple, words: &mut Words<'_>) -> Result<Pat, Stop> {
         Simple::Lit => Ok(Pat::Lit(words.next_id()?)),
         Simple::Expr => Ok(Pat::Expr(words.next_id()?)),
         Simple::Bind => {
-            let (id, subpat) = both(words.next_id(), words.next_opt_id())?;
+            let (id, subpat) = zip_ok(words.next_id(), words.next_opt_id())?;
             Ok(Pat::Bind { id, subpat })
         }
         Simple::Ref => Ok(Pat::Ref {
@@ -102,17 +102,17 @@ fn simple_pat(form: Simple, words: &mut Words<'_>) -> Result<Pat, Stop> {
     }
 }
 
-fn compound_pat(form: Compound, words: &mut Words<'_>, alloc: Global) -> Result<Pat, Stop> {
+fn compound_pat(form: Compound, words: &mut Words<'_>, alloc: Global) -> Result<Pat, TextError> {
     match form {
         Compound::Tuple => {
-            let (args, ellipsis) = both(words.next_ids(alloc), ellipsis(words))?;
+            let (args, ellipsis) = zip_ok(words.next_ids(alloc), ellipsis(words))?;
             Ok(Pat::Tuple { args, ellipsis })
         }
         Compound::Or => Ok(Pat::Or(words.next_ids(alloc)?)),
         Compound::Record => record_pat(words, alloc),
         Compound::Slice => {
-            let front = both(words.next_ids(alloc), words.next_opt_id());
-            let ((prefix, slice), suffix) = both(front, words.next_ids(alloc))?;
+            let front = zip_ok(words.next_ids(alloc), words.next_opt_id());
+            let ((prefix, slice), suffix) = zip_ok(front, words.next_ids(alloc))?;
             Ok(Pat::Slice {
                 prefix,
                 slice,
@@ -125,7 +125,7 @@ fn compound_pat(form: Compound, words: &mut Words<'_>, alloc: Global) -> Result<
 }
 
 /// The place of the rest among arguments, where there is one.
-fn ellipsis(words: &mut Words<'_>) -> Result<Option<u32>, Stop> {
+fn ellipsis(words: &mut Words<'_>) -> Result<Option<u32>, TextError> {
     if words.prefix(b"..") {
         return Ok(Some(words.number()?));
     }
@@ -133,14 +133,14 @@ fn ellipsis(words: &mut Words<'_>) -> Result<Option<u32>, Stop> {
 }
 
 impl Read for RecordFieldPat {
-    fn read(words: &mut Words<'_>, alloc: Global) -> Result<RecordFieldPat, Stop> {
-        let (name, pat) = both(words.name(alloc), words.part_id())?;
+    fn read(words: &mut Words<'_>, alloc: Global) -> Result<RecordFieldPat, TextError> {
+        let (name, pat) = zip_ok(words.name(alloc), words.part_id())?;
         Ok(RecordFieldPat { name, pat })
     }
 }
 
-fn record_pat(words: &mut Words<'_>, alloc: Global) -> Result<Pat, Stop> {
-    let (path, args) = both(next_path(words, alloc), behind_spaces(words, alloc))?;
+fn record_pat(words: &mut Words<'_>, alloc: Global) -> Result<Pat, TextError> {
+    let (path, args) = zip_ok(next_path(words, alloc), behind_spaces(words, alloc))?;
     Ok(Pat::Record {
         path,
         args,
@@ -156,7 +156,7 @@ fn range_op(words: &mut Words<'_>) -> RangeOp {
     }
 }
 
-fn tuple_struct_pat(words: &mut Words<'_>, alloc: Global) -> Result<Pat, Stop> {
+fn tuple_struct_pat(words: &mut Words<'_>, alloc: Global) -> Result<Pat, TextError> {
     let path = next_path(words, alloc);
     let args = words.next_ids(alloc);
     let (path, args, ellipsis) = three(path, args, ellipsis(words))?;

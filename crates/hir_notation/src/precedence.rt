@@ -2,7 +2,7 @@
 
 use crate::variants::{Word, of_word};
 use hir_base::ExprPrecedence;
-use hir_words::{Stop, Words};
+use hir_words::{TextError, Words};
 
 const PRECEDENCES: [ExprPrecedence; 16] = [
     ExprPrecedence::Jump,
@@ -30,7 +30,7 @@ impl Word for ExprPrecedence {
 }
 
 /// The precedence behind a space.
-pub fn next_precedence(words: &mut Words<'_>) -> Result<ExprPrecedence, Stop> {
+pub fn next_precedence(words: &mut Words<'_>) -> Result<ExprPrecedence, TextError> {
     of_word(&PRECEDENCES, words.next_keyword()?)
 }
 

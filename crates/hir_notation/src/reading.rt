@@ -2,28 +2,34 @@
 
 use hir_base::{Name, Seq};
 use hir_path::Boxed;
-use hir_words::{Stop, Words};
+use hir_words::{TextError, Words};
 use std::alloc::Global;
 
 /// What can be read from a line.
 pub(crate) trait Read: Drop + Sized {
     /// Reads one.
-    fn read(words: &mut Words<'_>, alloc: Global) -> Result<Self, Stop>;
+    fn read(words: &mut Words<'_>, alloc: Global) -> Result<Self, TextError>;
 }
 
 impl Read for Name {
-    fn read(words: &mut Words<'_>, alloc: Global) -> Result<Name, Stop> {
+    fn read(words: &mut Words<'_>, alloc: Global) -> Result<Name, TextError> {
         words.name(alloc)
     }
 }
 
 /// Puts an item behind the others, where it could be read.
-pub(crate) fn push<T: Drop>(items: &mut Seq<T>, item: Result<T, Stop>) -> Result<(), Stop> {
+pub(crate) fn push<T: Drop>(
+    items: &mut Seq<T>,
+    item: Result<T, TextError>,
+) -> Result<(), TextError> {
     Ok(items.push(item?)?)
 }
 
 /// A value in a box, where it could be read.
-pub(crate) fn in_box<T: Drop>(alloc: Global, value: Result<T, Stop>) -> Result<Boxed<T>, Stop> {
+pub(crate) fn in_box<T: Drop>(
+    alloc: Global,
+    value: Result<T, TextError>,
+) -> Result<Boxed<T>, TextError> {
     Ok(Boxed::new(alloc, value?)?)
 }
 
@@ -32,7 +38,7 @@ pub(crate) fn one_or_more<T: Read>(
     words: &mut Words<'_>,
     alloc: Global,
     between: &[u8],
-) -> Result<Seq<T>, Stop> {
+) -> Result<Seq<T>, TextError> {
     let mut items = Seq::new(alloc);
     for _ in 0..words.rest().len() {
         push(&mut items, T::read(words, alloc))?;
@@ -40,7 +46,7 @@ pub(crate) fn one_or_more<T: Read>(
             return Ok(items);
         }
     }
-    Err(Stop::Bad)
+    Err(TextError::Syntax)
 }
 
 /// The same, or `-` for none.
@@ -48,7 +54,7 @@ pub(crate) fn joined_or_none<T: Read>(
     words: &mut Words<'_>,
     alloc: Global,
     between: &[u8],
-) -> Result<Seq<T>, Stop> {
+) -> Result<Seq<T>, TextError> {
     if words.eat(b"-") {
         return Ok(Seq::new(alloc));
     }
@@ -56,7 +62,10 @@ pub(crate) fn joined_or_none<T: Read>(
 }
 
 /// Each that stands behind a space, to the line's end or to a word that begins with `..`.
-pub(crate) fn behind_spaces<T: Read>(words: &mut Words<'_>, alloc: Global) -> Result<Seq<T>, Stop> {
+pub(crate) fn behind_spaces<T: Read>(
+    words: &mut Words<'_>,
+    alloc: Global,
+) -> Result<Seq<T>, TextError> {
     let mut items = Seq::new(alloc);
     for _ in 0..words.rest().len() {
         if words.is_end() || words.is_at(b" ..") {
@@ -70,10 +79,10 @@ pub(crate) fn behind_spaces<T: Read>(words: &mut Words<'_>, alloc: Global) -> Re
 
 /// Both parts, where each could be read: else why the first that couldn't. Whoever reads a form reads all its parts and asks once, so that
 /// nothing is given back on the way.
-pub(crate) fn both<A: Drop, B: Drop>(
-    first: Result<A, Stop>,
-    second: Result<B, Stop>,
-) -> Result<(A, B), Stop> {
+pub(crate) fn zip_ok<A: Drop, B: Drop>(
+    first: Result<A, TextError>,
+    second: Result<B, TextError>,
+) -> Result<(A, B), TextError> {
     let first = first?;
     let second = second?;
     Ok((first, second))
@@ -81,11 +90,11 @@ pub(crate) fn both<A: Drop, B: Drop>(
 
 /// The same of three parts.
 pub(crate) fn three<A: Drop, B: Drop, C: Drop>(
-    first: Result<A, Stop>,
-    second: Result<B, Stop>,
-    third: Result<C, Stop>,
-) -> Result<(A, B, C), Stop> {
-    let (first, second) = both(first, second)?;
+    first: Result<A, TextError>,
+    second: Result<B, TextError>,
+    third: Result<C, TextError>,
+) -> Result<(A, B, C), TextError> {
+    let (first, second) = zip_ok(first, second)?;
     let third = third?;
     Ok((first, second, third))
 }

@@ -1,18 +1,18 @@
 //! Pointers to syntax and their files, as `0:7:3-9`: file, kind, start and end.
 
-use crate::reading::{both, three};
+use crate::reading::{three, zip_ok};
 use hir_base::{AstPtr, InFile, SyntaxNodePtr, TextRange};
-use hir_words::{Answer, Stop, Words};
+use hir_words::{Answer, TextError, Words};
 use std::alloc::AllocError;
 
 /// A range: start, `-` and end.
-fn read_range(words: &mut Words<'_>) -> Result<TextRange, Stop> {
-    let (start, end) = both(words.number(), words.part_number(b"-"))?;
+fn read_range(words: &mut Words<'_>) -> Result<TextRange, TextError> {
+    let (start, end) = zip_ok(words.number(), words.part_number(b"-"))?;
     Ok(TextRange { start, end })
 }
 
 /// A kind of syntax behind a colon, and behind another its range.
-fn read_pointer(words: &mut Words<'_>) -> Result<SyntaxNodePtr, Stop> {
+fn read_pointer(words: &mut Words<'_>) -> Result<SyntaxNodePtr, TextError> {
     words.expect(b":")?;
     let kind = words.short();
     let colon = words.expect(b":");
@@ -21,8 +21,8 @@ fn read_pointer(words: &mut Words<'_>) -> Result<SyntaxNodePtr, Stop> {
 }
 
 /// A source behind a space.
-pub fn next_source(words: &mut Words<'_>) -> Result<InFile<SyntaxNodePtr>, Stop> {
-    let (file_id, value) = both(words.next_def(), read_pointer(words))?;
+pub fn next_source(words: &mut Words<'_>) -> Result<InFile<SyntaxNodePtr>, TextError> {
+    let (file_id, value) = zip_ok(words.next_def(), read_pointer(words))?;
     Ok(InFile { file_id, value })
 }
 

@@ -3,10 +3,10 @@
 use crate::bounds::{next_bounds, opt_binder};
 use crate::definitions::next_type_param;
 use crate::paths::next_path;
-use crate::reading::{Read, behind_spaces, both, in_box, three};
+use crate::reading::{Read, behind_spaces, in_box, three, zip_ok};
 use hir_base::{ExternAbi, Name, Text};
 use hir_node::{ArrayType, Boxed, ConstRef, FnType, Mutability, RefType, TypeRef, TypeRefId};
-use hir_words::{Answer, Stop, Words};
+use hir_words::{Answer, TextError, Words};
 use std::alloc::{AllocError, Global};
 
 /// A calling convention that is known by a word.
@@ -38,7 +38,7 @@ fn abi_of(known: KnownAbi) -> ExternAbi {
 }
 
 /// A calling convention, behind `extern:`: a word that is known, or any text in quotes.
-fn read_abi(words: &mut Words<'_>, alloc: Global) -> Result<ExternAbi, Stop> {
+fn read_abi(words: &mut Words<'_>, alloc: Global) -> Result<ExternAbi, TextError> {
     if words.is_at(b"\"") {
         return Ok(ExternAbi::Named(Text::from_string(words.string(alloc)?)));
     }
@@ -46,7 +46,7 @@ fn read_abi(words: &mut Words<'_>, alloc: Global) -> Result<ExternAbi, Stop> {
 }
 
 /// The calling convention where `extern:` comes next: that of Rust where it doesn't. Before a number it is the name of a parameter.
-pub fn opt_abi(words: &mut Words<'_>, alloc: Global) -> Result<ExternAbi, Stop> {
+pub fn opt_abi(words: &mut Words<'_>, alloc: Global) -> Result<ExternAbi, TextError> {
     let mut ahead = *words;
     if !ahead.prefix(b"extern:") || matches!(ahead.rest(), [b'0'..=b'9', ..]) {
         return Ok(ExternAbi::Rust);
@@ -76,23 +76,23 @@ fn opt_mut(words: &mut Words<'_>) -> Mutability {
 }
 
 /// The name of a parameter and a colon, where they come next.
-fn opt_param_name(words: &mut Words<'_>, alloc: Global) -> Result<Option<Name>, Stop> {
+fn opt_param_name(words: &mut Words<'_>, alloc: Global) -> Result<Option<Name>, TextError> {
     if !words.is_at_name() {
         return Ok(None);
     }
-    let (name, ()) = both(words.name(alloc), words.expect(b":"))?;
+    let (name, ()) = zip_ok(words.name(alloc), words.expect(b":"))?;
     Ok(Some(name))
 }
 
 /// A parameter of a function pointer: its type, perhaps behind a name.
 impl Read for (Option<Name>, TypeRefId) {
-    fn read(words: &mut Words<'_>, alloc: Global) -> Result<(Option<Name>, TypeRefId), Stop> {
-        both(opt_param_name(words, alloc), words.id())
+    fn read(words: &mut Words<'_>, alloc: Global) -> Result<(Option<Name>, TypeRefId), TextError> {
+        zip_ok(opt_param_name(words, alloc), words.id())
     }
 }
 
 /// The type of a function pointer.
-fn read_fn(words: &mut Words<'_>, alloc: Global) -> Result<FnType, Stop> {
+fn read_fn(words: &mut Words<'_>, alloc: Global) -> Result<FnType, TextError> {
     let binder = opt_binder(words, alloc);
     let is_unsafe = words.flag(b"unsafe");
     let abi = opt_abi(words, alloc);
@@ -108,8 +108,8 @@ fn read_fn(words: &mut Words<'_>, alloc: Global) -> Result<FnType, Stop> {
 }
 
 /// A reference: its type, its lifetime, and whether it is mutable.
-fn read_ref(words: &mut Words<'_>) -> Result<RefType, Stop> {
-    let (ty, lifetime) = both(words.next_id(), words.next_opt_id())?;
+fn read_ref(words: &mut Words<'_>) -> Result<RefType, TextError> {
+    let (ty, lifetime) = zip_ok(words.next_id(), words.next_opt_id())?;
     Ok(RefType {
         ty,
         lifetime,
@@ -118,12 +118,12 @@ fn read_ref(words: &mut Words<'_>) -> Result<RefType, Stop> {
 }
 
 /// A reference in a box.
-fn boxed_ref(words: &mut Words<'_>, alloc: Global) -> Result<Boxed<RefType>, Stop> {
+fn boxed_ref(words: &mut Words<'_>, alloc: Global) -> Result<Boxed<RefType>, TextError> {
     Ok(Boxed::new(alloc, read_ref(words)?)?)
 }
 
 /// A function pointer in a box.
-fn boxed_fn(words: &mut Words<'_>, alloc: Global) -> Result<Boxed<FnType>, Stop> {
+fn boxed_fn(words: &mut Words<'_>, alloc: Global) -> Result<Boxed<FnType>, TextError> {
     in_box(alloc, read_fn(words, alloc))
 }
 
@@ -176,34 +176,38 @@ const FORMS: [(&str, Form); 14] = [
 ];
 
 /// A type, behind the word `type`.
-pub fn read_type(words: &mut Words<'_>, alloc: Global) -> Result<TypeRef, Stop> {
+pub fn read_type(words: &mut Words<'_>, alloc: Global) -> Result<TypeRef, TextError> {
     match words.next_in(&FORMS)? {
         Form::Simple(form) => simple_type(form, words),
         Form::Compound(form) => compound_type(form, words, alloc),
     }
 }
 
-fn simple_type(form: Simple, words: &mut Words<'_>) -> Result<TypeRef, Stop> {
+fn simple_type(form: Simple, words: &mut Words<'_>) -> Result<TypeRef, TextError> {
     match form {
         Simple::Never => Ok(TypeRef::Never),
         Simple::Placeholder => Ok(TypeRef::Placeholder),
         Simple::Error => Ok(TypeRef::Error),
         Simple::RawPtr => Ok(TypeRef::RawPtr(words.next_id()?, opt_mut(words))),
         Simple::Array => {
-            let (ty, expr) = both(words.next_id(), words.next_id())?;
+            let (ty, expr) = zip_ok(words.next_id(), words.next_id())?;
             let len = ConstRef { expr };
             Ok(TypeRef::Array(ArrayType { ty, len }))
         }
         Simple::Slice => Ok(TypeRef::Slice(words.next_id()?)),
         Simple::Param => Ok(TypeRef::TypeParam(next_type_param(words)?)),
         Simple::Pattern => {
-            let (ty, pat) = both(words.next_id(), words.next_id())?;
+            let (ty, pat) = zip_ok(words.next_id(), words.next_id())?;
             Ok(TypeRef::PatternType(ty, pat))
         }
     }
 }
 
-fn compound_type(form: Compound, words: &mut Words<'_>, alloc: Global) -> Result<TypeRef, Stop> {
+fn compound_type(
+    form: Compound,
+    words: &mut Words<'_>,
+    alloc: Global,
+) -> Result<TypeRef, TextError> {
     match form {
         Compound::Tuple => Ok(TypeRef::Tuple(words.next_ids(alloc)?)),
         Compound::Path => Ok(TypeRef::Path(next_path(words, alloc)?)),

@@ -1,7 +1,7 @@
 //! Values that are written as one word each.
 
 use hir_base::{ArithOp, BinaryOp, BuiltinFloat, BuiltinInt, BuiltinUint, UnaryOp};
-use hir_words::Stop;
+use hir_words::TextError;
 
 /// A value that is written as one word.
 pub(crate) trait Word: Copy {
@@ -10,13 +10,13 @@ pub(crate) trait Word: Copy {
 }
 
 /// The value among these that has this word.
-pub(crate) fn of_word<T: Word>(all: &[T], word: &[u8]) -> Result<T, Stop> {
+pub(crate) fn of_word<T: Word>(all: &[T], word: &[u8]) -> Result<T, TextError> {
     for value in all {
         if value.text().as_bytes() == word {
             return Ok(*value);
         }
     }
-    Err(Stop::Bad)
+    Err(TextError::Syntax)
 }
 
 impl Word for BinaryOp {

@@ -1,4 +1,4 @@
-pub mod Pieces
+pub mod Layouts
 pub mod Steps
 pub mod Page
 pub mod Buffer

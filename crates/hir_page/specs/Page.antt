@@ -2,7 +2,7 @@
 use Rattle.std.specs.Prelude.{◌≡◌, ℕ, ◌+◌, ◌*◌, ◌-◌, Bool, true, false, List, [], ◌∷◌, ◌++◌, replicate, ◌==◌, if◌then◌else◌}
 use Rattle.hir_page.specs.declared.line_format.LineFormat.{LineFormat}
 use Rattle.hir_page.specs.declared.line_format.LineFormat.TheVariants.{Oneline, Newline, Indentation}
-use Rattle.hir_page.specs.Pieces.{Piece, Text, SoftSpace, Break, Indent, Outdent}
+use Rattle.hir_page.specs.Layouts.{Layout, Text, SoftSpace, Break, Indent, Outdent}
 use Rattle.hir_page.specs.Steps.{steps}
 
 -- lines: those above the last, the nearest first, and the last
@@ -121,16 +121,16 @@ abbrev pub without_empty_lines : Page → Page
 without_empty_lines p = let l = cut_lines p.above p.last in record p { above = l.0; last = l.1 }
 
 -- what a piece makes of a page
-abbrev pub render : Piece → Page → Page
+abbrev pub render : Layout → Page → Page
 render (Text bytes) p = put_all bytes p
 render SoftSpace p = with_space p
 render Break p = with_break p
 render Indent p = with_break (record p { level = p.level + 1 })
 render Outdent p = without_empty_lines (record p { level = p.level - 1 })
 
-abbrev pub all_rendered : List Piece → Page → Page
+abbrev pub all_rendered : List Layout → Page → Page
 all_rendered = steps render
 
 -- the text of pieces, in one line or in lines
-abbrev pub rendering : LineFormat → List Piece → List ℕ
+abbrev pub rendering : LineFormat → List Layout → List ℕ
 rendering format ps = page_text (all_rendered ps (empty_page format))

@@ -5,7 +5,7 @@ ghost use Rattle.std.specs.Prelude.{◌≡◌, ◌<◌, ◌∷◌, [], OnOk, OnE
 ghost use Rattle.std.specs.List.{flat_map};
 ghost use Rattle.std.specs.Char.{digit_char};
 ghost use Rattle.std.specs.Str.{chars};
-ghost use Rattle.hir_page.specs.Pieces as piece;
+ghost use Rattle.hir_page.specs.Layouts as piece;
 ghost use Rattle.hir_page.specs.Steps.{steps, StopsIn};
 ghost use Rattle.hir_page.specs.Literals.{short_escape, escape_in_string, escape_in_bytes, two_digits, hexadecimal, control_escape, long_escape, byte_escape, escaped_by, string_char, byte_pieces, quoted, string_literal, char_literal, bytes_literal, c_string_literal};
 
@@ -140,7 +140,8 @@ fn write_byte_escape<W: PieceWriter>(writer: &mut W, byte: u8) -> Result<(), All
 /// Writes a character by its short escape, if there is one.
 fn write_escaped<W: PieceWriter>(writer: &mut W, escape: &str, c: char) -> Result<(), AllocError>
     ensures ok { OnOk result (writer.new ≡ steps W.step (escaped_by escape.now (long_escape c)) writer.old) }
-    ensures err { OnErr result (StopsIn W.step W.refuses (escaped_by escape.now (long_escape c)) writer.old writer.new) }
+    ensures err { OnErr result (StopsIn W.step W.refuses
+        (escaped_by escape.now (long_escape c)) writer.old writer.new) }
 {
     if escape.is_empty() {
         return write_long_escape(writer, c);
@@ -161,7 +162,8 @@ fn write_byte<W: PieceWriter>(writer: &mut W, byte: u8) -> Result<(), AllocError
 
 fn write_string_chars<W: PieceWriter>(writer: &mut W, text: &str) -> Result<(), AllocError>
     ensures ok { OnOk result (writer.new ≡ steps W.step (flat_map string_char (chars text.now)) writer.old) }
-    ensures err { OnErr result (StopsIn W.step W.refuses (flat_map string_char (chars text.now)) writer.old writer.new) }
+    ensures err { OnErr result (StopsIn W.step W.refuses
+        (flat_map string_char (chars text.now)) writer.old writer.new) }
 {
     let mut rest = text.chars();
     while let Some(c) = rest.next() {
@@ -172,7 +174,8 @@ fn write_string_chars<W: PieceWriter>(writer: &mut W, text: &str) -> Result<(), 
 
 fn write_bytes<W: PieceWriter>(writer: &mut W, bytes: &[u8]) -> Result<(), AllocError>
     ensures ok { OnOk result (writer.new ≡ steps W.step (flat_map byte_pieces bytes.now) writer.old) }
-    ensures err { OnErr result (StopsIn W.step W.refuses (flat_map byte_pieces bytes.now) writer.old writer.new) }
+    ensures err { OnErr result (StopsIn W.step W.refuses
+        (flat_map byte_pieces bytes.now) writer.old writer.new) }
 {
     for byte in bytes {
         write_byte(writer, *byte)?;
@@ -184,7 +187,8 @@ fn write_bytes<W: PieceWriter>(writer: &mut W, bytes: &[u8]) -> Result<(), Alloc
 fn write_quoted<W: PieceWriter>(writer: &mut W, bytes: &[u8], end: &str) -> Result<(), AllocError>
     ensures ok { OnOk result (writer.new
         ≡ steps W.step (quoted (flat_map byte_pieces bytes.now) end.now) writer.old) }
-    ensures err { OnErr result (StopsIn W.step W.refuses (quoted (flat_map byte_pieces bytes.now) end.now) writer.old writer.new) }
+    ensures err { OnErr result (StopsIn W.step W.refuses
+        (quoted (flat_map byte_pieces bytes.now) end.now) writer.old writer.new) }
 {
     writer.text("\"")?;
     write_bytes(writer, bytes)?;

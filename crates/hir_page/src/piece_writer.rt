@@ -1,7 +1,7 @@
 //! What printing writes to: five calls, one for each kind of piece.
 ghost use Rattle.std.specs.Prelude.{◌≡◌, OnOk, OnErr};
-ghost use Rattle.hir_page.specs.Pieces as piece;
-ghost use Rattle.hir_page.specs.Pieces.{Piece};
+ghost use Rattle.hir_page.specs.Layouts as piece;
+ghost use Rattle.hir_page.specs.Layouts.{Layout};
 
 use std::alloc::AllocError;
 
@@ -11,10 +11,10 @@ use std::alloc::AllocError;
 /// is refused. What code writes by these calls is proved once, for every implementation.
 pub trait PieceWriter {
     // the value after a piece, from the piece and the value before it
-    ghost step: { Piece → Self → Self };
+    ghost step: { Layout → Self → Self };
 
     // relates a piece for which memory was refused, the value before it, and the value that this leaves
-    ghost refuses: { Piece → Self → Self → Type 0 };
+    ghost refuses: { Layout → Self → Self → Type 0 };
 
     /// Writes text.
     fn text(&mut self, text: &str) -> Result<(), AllocError>

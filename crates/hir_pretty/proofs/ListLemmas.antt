@@ -8,59 +8,59 @@ use Rattle.hir_base.specs.declared.mod_path.PathKind.TheVariants.{Plain}
 use Rattle.hir_generics.specs.declared.{data.LifetimeParamData.LifetimeParamData, predicate.WherePredicate.WherePredicate, param.TypeOrConstParamData.TypeOrConstParamData}
 use Rattle.hir_items.specs.Bodies.{formals_of}
 use Rattle.hir_items.specs.declared.{formals.Param.Param, signatures.FunctionParts.FunctionParts}
-use Rattle.hir_printer.specs.Prelude.{Setting, Item, text, br, into, out, t, p, opt, when, join, comma_joined, binding_items, colons_first, type_param_items, following}
+use Rattle.hir_printer.specs.Prelude.{PrintEnv, Doc, text, br, into, out, t, p, opt, when, join, comma_joined, binding_docs, colons_first, type_param_docs, following}
 use Rattle.hir_printer.proofs.ListLemmas.{drop_item, is_cons, following_append, following_joined}
 use Rattle.hir_printer.proofs.OrderLemmas.{cons_length}
-use Rattle.hir_pretty.specs.AddedItems.{marked_items}
+use Rattle.hir_pretty.specs.AddedDocs.{marked_docs}
 use Rattle.hir_pretty.specs.Bodies.{formal_params}
-use Rattle.hir_pretty.specs.Signatures.{type_name, argument_items, arguments, function_types, each_lifetime, each_type_or_const, in_angles, each_predicate, where_items}
+use Rattle.hir_pretty.specs.Signatures.{type_name, argument_docs, arguments, function_types, each_lifetime, each_type_or_const, in_angles, each_predicate, where_docs}
 use Rattle.hir_pretty.specs.Variants.{kind_word}
 
 -- 1. Separators
 
-pub is_longer : {X : Type 0} (f : X → List Item) (xs : List X) (n : ℕ) → n ≡ length xs → nat_lt 0 n ≡ is_cons (map f xs)
+pub is_longer : {X : Type 0} (f : X → List Doc) (xs : List X) (n : ℕ) → n ≡ length xs → nat_lt 0 n ≡ is_cons (map f xs)
 is_longer f [] n e = subst (λ m. nat_lt 0 m ≡ false) (sym e) refl
 is_longer f (x ∷ xs) n e = lt-ltb 0 n (omega (arith, e))
 
 -- two lists one after the other, in `<` and `>`
-pub angles : (xs ys : List (List Item)) (b : Bool) → b ≡ is_cons xs
+pub angles : (xs ys : List (List Doc)) (b : Bool) → b ≡ is_cons xs
     → text (codes "<") ++ following (text (codes ", ")) false xs ++ following (text (codes ", ")) b ys ++ text (codes ">") ≡ text (codes "<") ++ comma_joined (xs ++ ys) ++ text (codes ">")
 angles xs ys b e =
     let sep = text (codes ", ") in
     ap (λ zs. text (codes "<") ++ zs ++ text (codes ">"))
     (ap₂ (λ zs c. zs ++ following sep c ys) (following_joined sep xs) e ∙ following_append sep xs ys)
 
-pub some_angles : (s : Setting) (lifetimes : List LifetimeParamData) (types : List TypeOrConstParamData) → (types ≡ [] → lifetimes ≡ [] → ⊥)
+pub some_angles : (s : PrintEnv) (lifetimes : List LifetimeParamData) (types : List TypeOrConstParamData) → (types ≡ [] → lifetimes ≡ [] → ⊥)
     → (let each = each_lifetime s lifetimes ++ each_type_or_const s (enumerate_from 0 types) in text (codes "<") ++ comma_joined each ++ text (codes ">") ≡ in_angles each)
 some_angles s [] [] both = absurd (both refl refl)
 some_angles s [] (y ∷ ys) both = refl
 some_angles s (x ∷ xs) types both = refl
 
-pub some_where : (s : Setting) (predicates : List WherePredicate) (b : Bool) → b ≡ (length predicates == 0) → b ≡ false
-    → text (codes "\nwhere\n") ++ into ++ each_predicate s predicates ++ out ++ br ≡ where_items s predicates
+pub some_where : (s : PrintEnv) (predicates : List WherePredicate) (b : Bool) → b ≡ (length predicates == 0) → b ≡ false
+    → text (codes "\nwhere\n") ++ into ++ each_predicate s predicates ++ out ++ br ≡ where_docs s predicates
 some_where s [] b e f = absurd (true≢false (sym e ∙ f))
 some_where s (x ∷ xs) b e f = refl
 
-pub no_where : (s : Setting) (predicates : List WherePredicate) (b : Bool) → b ≡ (length predicates == 0) → b ≡ true → [] ≡ where_items s predicates
+pub no_where : (s : PrintEnv) (predicates : List WherePredicate) (b : Bool) → b ≡ (length predicates == 0) → b ≡ true → [] ≡ where_docs s predicates
 no_where s [] b e f = refl
 no_where s (x ∷ xs) b e f = absurd (true≢false (sym f ∙ e ∙ cons_length x xs))
 
 -- a path's kind, and its names
-pub kinds_first : (s : Setting) (kind : PathKind) → colons_first kind ≡ is_cons (kind_word s kind)
+pub kinds_first : (s : PrintEnv) (kind : PathKind) → colons_first kind ≡ is_cons (kind_word s kind)
 kinds_first s Plain = refl
 kinds_first s kind = refl
 
-pub module_is : (s : Setting) (kind : PathKind) (names : List (List Item))
+pub module_is : (s : PrintEnv) (kind : PathKind) (names : List (List Doc))
     → join (text (codes "::")) (kind_word s kind) ++ following (text (codes "::")) (colons_first kind) names ≡ join (text (codes "::")) (kind_word s kind ++ names)
 module_is s kind names =
     ap (λ b. join (text (codes "::")) (kind_word s kind) ++ following (text (codes "::")) b names) (kinds_first s kind) ∙ following_append (text (codes "::")) (kind_word s kind) names
 
 -- the binding of `self`, and the formal patterns
-pub formals_begin : (s : Setting) (self : Option ℕ) (b : Bool) (params : List (Param ℕ)) → b ≡ is_some self
-    → opt (binding_items s) self ++ following (text (codes ", ")) b (map p (formals_of params)) ≡ comma_joined (formal_params s self (formals_of params))
+pub formals_begin : (s : PrintEnv) (self : Option ℕ) (b : Bool) (params : List (Param ℕ)) → b ≡ is_some self
+    → opt (binding_docs s) self ++ following (text (codes ", ")) b (map p (formals_of params)) ≡ comma_joined (formal_params s self (formals_of params))
 formals_begin s None b params e = ap (λ c. following (text (codes ", ")) c (map p (formals_of params))) e ∙ following_joined (text (codes ", ")) (map p (formals_of params))
 formals_begin s (Some id) b params e =
-    ap (λ c. binding_items s id ++ following (text (codes ", ")) c (map p (formals_of params))) e ∙ following_append (text (codes ", ")) (binding_items s id ∷ []) (map p (formals_of params))
+    ap (λ c. binding_docs s id ++ following (text (codes ", ")) c (map p (formals_of params))) e ∙ following_append (text (codes ", ")) (binding_docs s id ∷ []) (map p (formals_of params))
 
 pub formals_step : (after : Bool) (params : List (Param ℕ)) (i : ℕ) (x : Param ℕ) → i < length params → x ≡ get_or params i x
     → when after (text (codes ", ")) ++ p x.formal ++ following (text (codes ", ")) true (map p (formals_of (drop (i + 1) params)))
@@ -77,31 +77,31 @@ pub map_second : {X Y : Type 0} (f : X → Y) (n : ℕ) (xs : List X) → map (�
 map_second f n [] = refl
 map_second f n (x ∷ xs) = ap (λ ys. f x ∷ ys) (map_second f (n + 1) xs)
 
-pub plain_arguments : (n : ℕ) (xs : List ℕ) → map (argument_items None) (enumerate_from n xs) ≡ map t xs
+pub plain_arguments : (n : ℕ) (xs : List ℕ) → map (argument_docs None) (enumerate_from n xs) ≡ map t xs
 plain_arguments n [] = refl
 plain_arguments n (x ∷ xs) = ap (λ ys. t x ∷ ys) (plain_arguments (n + 1) xs)
 
 pub marked_arguments : (marks : List Bool) (places : List ℕ) (n : ℕ) (xs : List ℕ)
     → ((i : ℕ) → i < n + length xs → get_or marks i false ≡ list_any (λ place. place == i) places)
-    → map (marked_items marks) (enumerate_from n xs) ≡ map (argument_items (Some places)) (enumerate_from n xs)
+    → map (marked_docs marks) (enumerate_from n xs) ≡ map (argument_docs (Some places)) (enumerate_from n xs)
 marked_arguments marks places n [] h = refl
 marked_arguments marks places n (x ∷ xs) h =
     ap₂ (λ b ys. (when b (text (codes "const: ")) ++ t x) ∷ ys) (h n (omega arith)) (marked_arguments marks places (n + 1) xs (λ i k. h i (omega (arith, k))))
 
 -- a marked argument and those behind it
-pub marked_step : (sep : List Item) (marks : List Bool) (at x : ℕ) (xs : List ℕ) → at < length xs → x ≡ get_or xs at x
+pub marked_step : (sep : List Doc) (marks : List Bool) (at x : ℕ) (xs : List ℕ) → at < length xs → x ≡ get_or xs at x
     → when (nat_lt 0 at) sep ++ when (get_or marks at false) (text (codes "const: ")) ++ t x
-    ++ following sep (nat_lt 0 (at + 1)) (map (marked_items marks) (enumerate_from (at + 1) (drop (at + 1) xs)))
-    ≡ following sep (nat_lt 0 at) (map (marked_items marks) (enumerate_from at (drop at xs)))
+    ++ following sep (nat_lt 0 (at + 1)) (map (marked_docs marks) (enumerate_from (at + 1) (drop (at + 1) xs)))
+    ≡ following sep (nat_lt 0 at) (map (marked_docs marks) (enumerate_from at (drop at xs)))
 marked_step sep marks at x xs h e =
-    let rest : List Item = following sep true (map (marked_items marks) (enumerate_from (at + 1) (drop (at + 1) xs))) in
-    ap (λ b. when (nat_lt 0 at) sep ++ when (get_or marks at false) (text (codes "const: ")) ++ t x ++ following sep b (map (marked_items marks) (enumerate_from (at + 1) (drop (at + 1) xs))))
+    let rest : List Doc = following sep true (map (marked_docs marks) (enumerate_from (at + 1) (drop (at + 1) xs))) in
+    ap (λ b. when (nat_lt 0 at) sep ++ when (get_or marks at false) (text (codes "const: ")) ++ t x ++ following sep b (map (marked_docs marks) (enumerate_from (at + 1) (drop (at + 1) xs))))
     (lt-ltb 0 (at + 1) (omega arith))
     ∙ ap (λ zs. zs ++ rest) (append_assoc (when (nat_lt 0 at) sep) (when (get_or marks at false) (text (codes "const: "))) (t x))
-    ∙ sym (ap (λ (r : List ℕ). following sep (nat_lt 0 at) (map (marked_items marks) (enumerate_from at r))) (drop_item xs at x h e))
+    ∙ sym (ap (λ (r : List ℕ). following sep (nat_lt 0 at) (map (marked_docs marks) (enumerate_from at r))) (drop_item xs at x h e))
 
-pub marked_end : (sep : List Item) (b : Bool) (marks : List Bool) (at : ℕ) (xs : List ℕ) → length xs ≤ at → [] ≡ following sep b (map (marked_items marks) (enumerate_from at (drop at xs)))
-marked_end sep b marks at xs h = sym (ap (λ (r : List ℕ). following sep b (map (marked_items marks) (enumerate_from at r))) (drop_all at xs h))
+pub marked_end : (sep : List Doc) (b : Bool) (marks : List Bool) (at : ℕ) (xs : List ℕ) → length xs ≤ at → [] ≡ following sep b (map (marked_docs marks) (enumerate_from at (drop at xs)))
+marked_end sep b marks at xs h = sym (ap (λ (r : List ℕ). following sep b (map (marked_docs marks) (enumerate_from at r))) (drop_all at xs h))
 
 -- 3. What is read of a signature
 
@@ -120,6 +120,6 @@ pub a_result : (f : FunctionParts) (places : Option (List ℕ)) (params : List �
 a_result f places params ret d e h =
     append_assoc (text (codes "(") ++ arguments places params ++ text (codes ")")) (text (codes " -> ")) (t ret) ∙ types_is f places params (Some ret) d e h
 
-pub type_names : (s : Setting) (at : ℕ) (name : Option (List ℕ)) → type_param_items s at (Ok name) ≡ type_name s at name
+pub type_names : (s : PrintEnv) (at : ℕ) (name : Option (List ℕ)) → type_param_docs s at (Ok name) ≡ type_name s at name
 type_names s at None = refl
 type_names s at (Some name) = refl

@@ -29,16 +29,16 @@ use Rattle.hir_generics.specs.declared.param.TypeOrConstParamData.TheVariants as
 use Rattle.hir_generics.specs.declared.predicate.WherePredicate.TheVariants as predicate
 use Rattle.hir_faults.specs.Recursion.{fold_down, rank}
 use Rattle.hir_expr_store.specs.{Contents.Contents, SideTables.no_side_tables}
-use Rattle.hir_printer.specs.Prelude.{Missing, Questions, Setting, Item, pieces, first_missing, text_of, item_list_pieces}
+use Rattle.hir_printer.specs.Prelude.{Missing, NameLookups, PrintEnv, Doc, pieces, first_missing, text_of, doc_list_pieces}
 use Rattle.hir_expr_store.specs.declared.missing.Missing.TheVariants as missing
 use Rattle.hir_items.specs.declared.signatures.FieldsShape.TheVariants as shape
 use Rattle.hir_items.specs.declared.signatures.RawVisibility.TheVariants as visibility
 use Rattle.hir_items.specs.Bodies.{BodyContents}
 use Rattle.hir_items.specs.declared.signatures.FunctionParts.{FunctionParts}
 use Rattle.hir_items.specs.Generics.{Generics, empty}
-use Rattle.hir_pretty.specs.Bodies.{Parents, body_items}
-use Rattle.hir_pretty.specs.Variants.{variant_items, without_fields}
-use Rattle.hir_pretty.specs.Signatures.{function_items, struct_items, unimplemented_items}
+use Rattle.hir_pretty.specs.Bodies.{Parents, body_docs}
+use Rattle.hir_pretty.specs.Variants.{variant_docs, without_fields}
+use Rattle.hir_pretty.specs.Signatures.{function_docs, struct_docs, unimplemented_docs}
 
 -- constants have no name, statics are `S`, functions `foo`, structs `T`, enums `E`, variants `V`
 abbrev name : NamedDef → Result (Option (List ℕ)) Missing
@@ -53,7 +53,7 @@ name (named.EnumVariantId id) = Ok (Some (codes "V"))
 name (named.ConstId id) = Ok None
 name (named.MacroId id) = Ok None
 
-abbrev tables : Questions
+abbrev tables : NameLookups
 tables = record {
   name = name;
   crate_name = λ id. Err (missing.Crate id);
@@ -62,11 +62,11 @@ tables = record {
 }
 
 -- what nothing is known of
-abbrev no_tables : Questions
+abbrev no_tables : NameLookups
 no_tables = record tables { name = λ def. Err (missing.Name def) }
 
-abbrev setting : Questions → Contents → Setting
-setting tables store = record { nodes = store.nodes; tables = tables; words = []; one_line = false }
+abbrev print_env : NameLookups → Contents → PrintEnv
+print_env tables store = record { nodes = store.nodes; tables = tables; words = []; one_line = false }
 
 abbrev root : ℕ → Root
 root id = record { node = id; ends = record { exprs = id; pats = 0; bindings = 0 } }
@@ -98,14 +98,14 @@ abbrev of_enum_0 : Parents
 of_enum_0 id = Ok 0
 
 -- the text of items, and the first definition that is missing among them
-abbrev text_from : Contents → (Setting → List Item) → List ℕ
-text_from c items = let s = setting tables c in text_of s (item_list_pieces s (items s))
+abbrev text_from : Contents → (PrintEnv → List Doc) → List ℕ
+text_from c items = let s = print_env tables c in text_of s (doc_list_pieces s (items s))
 
-abbrev missing_from : Questions → Contents → (Setting → List Item) → Option Missing
-missing_from tables c items = let s = setting tables c in first_missing (item_list_pieces s (items s))
+abbrev missing_from : NameLookups → Contents → (PrintEnv → List Doc) → Option Missing
+missing_from tables c items = let s = print_env tables c in first_missing (doc_list_pieces s (items s))
 
 abbrev body_text : DefWithBodyId → BodyContents → List ℕ
-body_text owner b = text_from b.store (λ s. body_items s of_enum_0 owner b)
+body_text owner b = text_from b.store (λ s. body_docs s of_enum_0 owner b)
 
 bodies :
     (body_text (body.ConstId 0) (only (var (codes "x"))) ≡ codes "const _ = x;")
@@ -121,8 +121,8 @@ bodies = (refl, refl, refl, refl)
 
 -- what is missing first: the enum of a variant, and then its name; and fields
 first_is_missing :
-    ((let b = only (var (codes "x")) in missing_from no_tables b.store (λ s. body_items s (λ id. Err (missing.Variant id)) (body.VariantId 0) b)) ≡ Some (missing.Variant 0))
-    × ((let b = only (var (codes "x")) in missing_from no_tables b.store (λ s. body_items s of_enum_0 (body.VariantId 0) b)) ≡ Some (missing.Name (named.EnumId 0)))
+    ((let b = only (var (codes "x")) in missing_from no_tables b.store (λ s. body_docs s (λ id. Err (missing.Variant id)) (body.VariantId 0) b)) ≡ Some (missing.Variant 0))
+    × ((let b = only (var (codes "x")) in missing_from no_tables b.store (λ s. body_docs s of_enum_0 (body.VariantId 0) b)) ≡ Some (missing.Name (named.EnumId 0)))
     × (missing_from tables (store [] [] [] []) (λ s. without_fields s of_enum_0 (variant.StructId 0)) ≡ Some (missing.Fields (variant.StructId 0)))
 unfolding pieces fold_down rank height digits
 first_is_missing = (refl, refl, refl)
@@ -131,12 +131,12 @@ abbrev of_name : List ℕ → Option ℕ → TypeOrConstParamData
 of_name name default = param.TypeParamData (record { name = Some name; default = default; provenance = provenance.TypeParamList })
 
 fields_and_structs :
-    ((let c = store [] (type_named (codes "u32") ∷ []) [] [] in text_from c (λ s. variant_items s of_enum_0 (variant.StructId 0) (record {
+    ((let c = store [] (type_named (codes "u32") ∷ []) [] [] in text_from c (λ s. variant_docs s of_enum_0 (variant.StructId 0) (record {
       shape = shape.Record;
       fields = record { name = codes "a"; type_ref = 0; visibility = visibility.Public; is_unsafe = false; default_value = None } ∷ [];
       store = c;
     }))) ≡ codes "struct S {\npub a: u32,\n}\n")
-    × ((let c = store [] [] [] [] in text_from c (λ s. struct_items s None (record {
+    × ((let c = store [] [] [] [] in text_from c (λ s. struct_docs s None (record {
       name = codes "S";
       generic_params = empty;
       store = c;
@@ -144,7 +144,7 @@ fields_and_structs :
       shape = shape.Tuple;
     }))) ≡ codes "struct S(...)\n;\n")
     × ((let c = store (expr.Literal (literal.Int (pos 3) None) ∷ []) (type_named (codes "usize") ∷ type.Tuple [] ∷ type_named (codes "T") ∷ type_named (codes "Clone") ∷ []) [] [] in
-    text_from c (λ s. struct_items s (Some (record { c = true; align = Some 8; pack = None })) (record {
+    text_from c (λ s. struct_docs s (Some (record { c = true; align = Some 8; pack = None })) (record {
       name = codes "S";
       generic_params = record {
         type_or_consts = of_name (codes "T") None ∷ param.ConstParamData (record { name = codes "C"; ty = 0; default = Some (record { expr = 0 }) }) ∷ of_name (codes "X") (Some 1) ∷ [];
@@ -155,7 +155,7 @@ fields_and_structs :
       is_fundamental = true;
       shape = shape.Unit;
     }))) ≡ codes "#[repr(C)]\n#[repr(align(8))]\n#[fundamental]\nstruct S<'a, T, const C: usize = 3, X = ()>\nwhere\n    T: Clone\n;\n")
-    × (text_from (store [] [] [] []) (λ s. unimplemented_items (codes "EnumId") 5) ≡ codes "unimplemented EnumId(5)")
+    × (text_from (store [] [] [] []) (λ s. unimplemented_docs (codes "EnumId") 5) ≡ codes "unimplemented EnumId(5)")
 unfolding pieces fold_down rank height digits
 fields_and_structs = (refl, refl, refl, refl)
 
@@ -178,12 +178,12 @@ abbrev second_param : TypeRef
 second_param = type.TypeParam (record { parent = generic.FunctionId 0; local_id = 1 })
 
 functions :
-    ((let c = store [] (second_param ∷ second_param ∷ type_named (codes "Trait") ∷ []) [] [] in text_from c (λ s. function_items s (function c (record {
+    ((let c = store [] (second_param ∷ second_param ∷ type_named (codes "Trait") ∷ []) [] [] in text_from c (λ s. function_docs s (function c (record {
       type_or_consts = of_name (codes "T") None ∷ param.TypeParamData (record { name = None; default = None; provenance = provenance.ArgumentImplTrait }) ∷ [];
       lifetimes = [];
       predicates = predicate.TypeBound None 1 (bound.Path 2 modifier.None) ∷ [];
     }) (0 ∷ [])))) ≡ codes "fn impl_trait_args<T, Param[1]>(Param[1])\nwhere\n    Param[1]: Trait\n {...}\n")
-    × ((let c = store [] (type_named (codes "A") ∷ type_named (codes "B") ∷ []) [] [] in text_from c (λ s. function_items s (record (function c empty (0 ∷ 1 ∷ [])) {
+    × ((let c = store [] (type_named (codes "A") ∷ type_named (codes "B") ∷ []) [] [] in text_from c (λ s. function_docs s (record (function c empty (0 ∷ 1 ∷ [])) {
       name = codes "a";
       abi = abi.C;
       is_const = true;

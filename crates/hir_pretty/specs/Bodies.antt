@@ -3,7 +3,7 @@ use Rattle.std.specs.Prelude.{ℕ, List, [], ◌∷◌, ◌++◌, map, Option, R
 use Rattle.hir_base.specs.declared.defs.DefWithBodyId.{DefWithBodyId}
 use Rattle.hir_base.specs.declared.defs.DefWithBodyId.TheVariants as body
 use Rattle.hir_base.specs.declared.defs.NamedDef.TheVariants as named
-use Rattle.hir_printer.specs.Prelude.{Missing, Setting, Item, Lacks, text, e, p, opt, comma_joined, binding_items, found_name}
+use Rattle.hir_printer.specs.Prelude.{Missing, PrintEnv, Doc, MissingDoc, text, e, p, opt, comma_joined, binding_docs, found_name}
 use Rattle.hir_items.specs.declared.formals.Param.{Param}
 use Rattle.hir_items.specs.Bodies.{BodyContents, formals_of, last_root}
 
@@ -12,18 +12,18 @@ abbrev pub Parents : Type 0
 Parents = ℕ → Result ℕ Missing
 
 -- the name of a variant behind that of its enum, which is looked up first
-abbrev pub of_enum : Setting → ℕ → Result ℕ Missing → List Item
-of_enum s id (Err missing) = Lacks missing ∷ []
+abbrev pub of_enum : PrintEnv → ℕ → Result ℕ Missing → List Doc
+of_enum s id (Err missing) = MissingDoc missing ∷ []
 of_enum s id (Ok parent) =
     text (codes "enum ") ++ found_name (codes "<missing>") (s.tables.name (named.EnumId parent))
     ++ text (codes "::")
     ++ found_name (codes "<missing>") (s.tables.name (named.EnumVariantId id))
 
-abbrev pub variant_name : Setting → Parents → ℕ → List Item
+abbrev pub variant_name : PrintEnv → Parents → ℕ → List Doc
 variant_name s parents id = of_enum s id (parents id)
 
 -- what a body begins with; a constant without a name is `_`
-abbrev pub body_head : Setting → Parents → DefWithBodyId → List Item
+abbrev pub body_head : PrintEnv → Parents → DefWithBodyId → List Doc
 body_head s parents (body.FunctionId id) = text (codes "fn ")
     ++ found_name (codes "<missing>") (s.tables.name (named.FunctionId id))
 body_head s parents (body.StaticId id) = text (codes "static ")
@@ -33,16 +33,16 @@ body_head s parents (body.ConstId id) = text (codes "const ")
 body_head s parents (body.VariantId id) = variant_name s parents id
 
 -- the binding of `self`, where there is one, and the formal patterns
-abbrev pub formal_params : Setting → Option ℕ → List ℕ → List (List Item)
-formal_params s self_binding formals = map (binding_items s) (option_to_list self_binding) ++ map p formals
+abbrev pub formal_params : PrintEnv → Option ℕ → List ℕ → List (List Doc)
+formal_params s self_binding formals = map (binding_docs s) (option_to_list self_binding) ++ map p formals
 
 -- only a function has parameters
-abbrev pub body_params : Setting → Option ℕ → List ℕ → DefWithBodyId → List Item
+abbrev pub body_params : PrintEnv → Option ℕ → List ℕ → DefWithBodyId → List Doc
 body_params s self_binding formals (body.FunctionId id) =
     text (codes "(") ++ comma_joined (formal_params s self_binding formals) ++ text (codes ") ")
 body_params s self_binding formals owner = []
 
-abbrev pub body_end : DefWithBodyId → List Item
+abbrev pub body_end : DefWithBodyId → List Doc
 body_end (body.StaticId id) = text (codes ";")
 body_end (body.ConstId id) = text (codes ";")
 body_end owner = []
@@ -52,8 +52,8 @@ abbrev pub formal_self : Option (Param ℕ) → Option ℕ
 formal_self self_param = option_map (λ param. param.formal) self_param
 
 -- a body, which evaluates to its last root
-abbrev pub body_items : Setting → Parents → DefWithBodyId → BodyContents → List Item
-body_items s parents owner b =
+abbrev pub body_docs : PrintEnv → Parents → DefWithBodyId → BodyContents → List Doc
+body_docs s parents owner b =
     body_head s parents owner ++ body_params s (formal_self b.self_param) (formals_of b.params) owner
     ++ opt e (last_root b.store)
     ++ body_end owner

@@ -3,4 +3,4 @@ pub mod Bodies
 pub mod Variants
 pub mod Signatures
 pub mod Owners
-pub mod AddedItems
+pub mod AddedDocs

@@ -9,17 +9,17 @@ use Rattle.hir_items.specs.declared.{signatures.FunctionParts.FunctionParts, sig
 use Rattle.hir_defs.specs.Lookups.{Tables}
 use Rattle.hir_printer.specs.declared.fault.PrintFault.{PrintFault}
 use Rattle.hir_printer.specs.declared.fault.PrintFault.TheVariants as fault
-use Rattle.hir_printer.specs.Prelude.{Setting, setting, answers, PrintsPieces, item_list_pieces}
+use Rattle.hir_printer.specs.Prelude.{PrintEnv, print_env, lookups_of, PrintsPieces, doc_list_pieces}
 use Rattle.hir_pretty.specs.FoundParts.{function_found, struct_found}
-use Rattle.hir_pretty.specs.Signatures.{function_items, struct_items, unimplemented_items}
+use Rattle.hir_pretty.specs.Signatures.{function_docs, struct_docs, unimplemented_docs}
 
 -- Of a function: its signature is missing, or its pieces, with the signature's own store.
 abbrev pub PrintsFunction : {Z : Type 0} → Tables → List (List ℕ) → ℕ → Option FunctionParts
     → Result (String Z) PrintFault → Type 0
 PrintsFunction t words id None result = result
     ≡ Err (fault.Missing (missing.Signature (generic.FunctionId id)))
-PrintsFunction t words id (Some f) result = let s = setting f.store (answers t) words false in
-    PrintsPieces s (item_list_pieces s (function_items s f)) result
+PrintsFunction t words id (Some f) result = let s = print_env f.store (lookups_of t) words false in
+    PrintsPieces s (doc_list_pieces s (function_docs s f)) result
 
 -- The same of a struct.
 abbrev pub PrintsStruct : {Z : Type 0} → Tables → List (List ℕ) → ℕ → Option StructParts
@@ -27,13 +27,13 @@ abbrev pub PrintsStruct : {Z : Type 0} → Tables → List (List ℕ) → ℕ �
 PrintsStruct t words id None result = result ≡ Err
     (fault.Missing (missing.Signature (generic.AdtId (adt.StructId id))))
 PrintsStruct t words id (Some x) result =
-    let s = setting x.store (answers t) words false in
-    PrintsPieces s (item_list_pieces s (struct_items s (map.get t.reprs (id ∷ [])) x)) result
+    let s = print_env x.store (lookups_of t) words false in
+    PrintsPieces s (doc_list_pieces s (struct_docs s (map.get t.reprs (id ∷ [])) x)) result
 
 -- Of any other, of which nothing is looked up: in lines, whatever else is set.
 abbrev pub PrintsOther : {Z : Type 0} → List ℕ → ℕ → Result (String Z) PrintFault → Type 0
-PrintsOther kind id result = (s : Setting) → s.one_line ≡ false
-    → PrintsPieces s (item_list_pieces s (unimplemented_items kind id)) result
+PrintsOther kind id result = (s : PrintEnv) → s.one_line ≡ false
+    → PrintsPieces s (doc_list_pieces s (unimplemented_docs kind id)) result
 
 abbrev pub PrintsAdt : {Z : Type 0} → Tables → List (List ℕ) → AdtId → Result (String Z) PrintFault → Type 0
 PrintsAdt t words (adt.StructId id) result = PrintsStruct t words id (struct_found t id) result

@@ -2,17 +2,17 @@
 #![tactic(auto, using(hir_printer::proofs::AddLemmas::adding))]
 
 ghost use Rattle.std.specs.Prelude.{◌≡◌, OnOk, false};
-ghost use Rattle.hir_printer.specs.Prelude.{words_of, setting, opt, comma_joined, binding_items, answers, PrintsPieces, item_list_pieces, Adds};
+ghost use Rattle.hir_printer.specs.Prelude.{words_of, print_env, opt, comma_joined, binding_docs, lookups_of, PrintsPieces, doc_list_pieces, Adds};
 ghost use Rattle.hir_items.specs.Bodies.{formals_of};
-ghost use Rattle.hir_pretty.specs.Bodies.{formal_self, formal_params, body_params, body_end, body_items};
+ghost use Rattle.hir_pretty.specs.Bodies.{formal_self, formal_params, body_params, body_end, body_docs};
 ghost use Rattle.hir_pretty.specs.FoundParts.{parents};
 
-use crate::heads::add_body_head;
+use crate::body_heads::add_body_head;
 use hir_base::{DefWithBodyId, Edition};
 use hir_defs::{Body, Param, Tables};
 use hir_node::{BindingId, PatId};
 use hir_page::PieceWriter;
-use hir_printer::{PrintFault, Printer, Work};
+use hir_printer::{PrintFault, Printer, Token};
 use std::alloc::{AllocError, Global};
 
 /// Adds the binding of `self`, where there is one.
@@ -20,7 +20,7 @@ fn add_self<W: PieceWriter>(
     printer: &mut Printer<'_, W>,
     binding: Option<BindingId>,
 ) -> Result<(), AllocError>
-    ensures { OnOk result (Adds W.step printer.old (λ s. opt (binding_items s) binding) printer.new) }
+    ensures { OnOk result (Adds W.step printer.old (λ s. opt (binding_docs s) binding) printer.new) }
 {
     match binding {
         None => Ok(()),
@@ -41,7 +41,7 @@ fn add_all_formals<W: PieceWriter>(
     let mut after = self_binding.is_some();
     for param in params {
         printer.add_if(after, ", ")?;
-        printer.add(&[Work::Pattern(param.formal)])?;
+        printer.add(&[Token::Pattern(param.formal)])?;
         after = true;
     }
     Ok(())
@@ -59,9 +59,9 @@ fn add_params<W: PieceWriter>(
 {
     match owner {
         DefWithBodyId::FunctionId(_) => {
-            printer.add(&[Work::Text("(")])?;
+            printer.add(&[Token::Text("(")])?;
             add_all_formals(printer, self_binding, params)?;
-            printer.add(&[Work::Text(") ")])
+            printer.add(&[Token::Text(") ")])
         }
         DefWithBodyId::StaticId(_) | DefWithBodyId::ConstId(_) | DefWithBodyId::VariantId(_) => Ok(
             (),
@@ -78,7 +78,7 @@ fn add_end<W: PieceWriter>(
 {
     match owner {
         DefWithBodyId::FunctionId(_) | DefWithBodyId::VariantId(_) => Ok(()),
-        DefWithBodyId::StaticId(_) | DefWithBodyId::ConstId(_) => printer.add(&[Work::Text(";")]),
+        DefWithBodyId::StaticId(_) | DefWithBodyId::ConstId(_) => printer.add(&[Token::Text(";")]),
     }
 }
 
@@ -99,11 +99,11 @@ fn add_body<W: PieceWriter>(
     owner: &DefWithBodyId,
 ) -> Result<(), AllocError>
     ensures { OnOk result (Adds W.step printer.old
-        (λ s. body_items s (parents tables.now) owner.now body.now) printer.new) }
+        (λ s. body_docs s (parents tables.now) owner.now body.now) printer.new) }
 {
     add_body_head(printer, tables, owner)?;
     add_params(printer, owner, formal_self(body), body.params())?;
-    printer.add(&[Work::Whole(body.root_expr())])?;
+    printer.add(&[Token::Expr(body.root_expr())])?;
     add_end(printer, owner)
 }
 
@@ -119,8 +119,9 @@ pub fn print_body_hir(
     owner: DefWithBodyId,
     edition: Edition,
 ) -> Result<String, PrintFault>
-    ensures { let s = setting body.now.store (answers tables.now) (words_of tables.now.words edition) false in
-        PrintsPieces s (item_list_pieces s (body_items s (parents tables.now) owner body.now)) result }
+    ensures { let s = print_env body.now.store (lookups_of tables.now)
+        (words_of tables.now.words edition) false in
+        PrintsPieces s (doc_list_pieces s (body_docs s (parents tables.now) owner body.now)) result }
 {
     let mut printer = Printer::new(alloc, body.store(), tables, edition, false);
     add_body(&mut printer, tables, body, &owner)?;

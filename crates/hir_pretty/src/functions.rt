@@ -3,16 +3,16 @@
 
 ghost use Rattle.std.specs.Prelude.{◌≡◌, ◌<◌, ◌==◌, ◌++◌, OnOk, IfOk, map, ℕ, length, Some, get_or, false, codes, option_map};
 ghost use Rattle.std.specs.List.{enumerate_from, list_any};
-ghost use Rattle.hir_printer.specs.Prelude.{words_of, setting, text, comma_joined, answers, PrintsPieces, item_list_pieces, Adds};
-ghost use Rattle.hir_pretty.specs.AddedItems.{marked_items};
-ghost use Rattle.hir_pretty.specs.Signatures.{abi_items, arguments, flags, function_front, function_types, function_items};
+ghost use Rattle.hir_printer.specs.Prelude.{words_of, print_env, text, comma_joined, lookups_of, PrintsPieces, doc_list_pieces, Adds};
+ghost use Rattle.hir_pretty.specs.AddedDocs.{marked_docs};
+ghost use Rattle.hir_pretty.specs.Signatures.{abi_docs, arguments, flags, function_head, function_types, function_docs};
 
 use crate::generics::{add_generics, add_where};
 use hir_base::{Edition, ExternAbi, FunctionId};
 use hir_defs::{FunctionSignature, Tables};
 use hir_node::TypeRefId;
 use hir_page::PieceWriter;
-use hir_printer::{PrintFault, Printer, Work};
+use hir_printer::{PrintFault, Printer, Token};
 use std::alloc::{AllocError, Global};
 
 fn add_quoted<'a, W: PieceWriter>(
@@ -22,7 +22,11 @@ fn add_quoted<'a, W: PieceWriter>(
     ensures { OnOk result (Adds W.step printer.old
         (λ s. text (codes "extern \"") ++ text abi.now ++ text (codes "\" ")) printer.new) }
 {
-    printer.add(&[Work::Text("extern \""), Work::Text(abi), Work::Text("\" ")])
+    printer.add(&[
+        Token::Text("extern \""),
+        Token::Text(abi),
+        Token::Text("\" "),
+    ])
 }
 
 /// Adds the calling convention, unless it is that of Rust.
@@ -30,7 +34,7 @@ fn add_abi<'a, W: PieceWriter>(
     printer: &mut Printer<'a, W>,
     abi: &'a ExternAbi,
 ) -> Result<(), AllocError>
-    ensures { OnOk result (Adds W.step printer.old (λ s. abi_items abi.now) printer.new) }
+    ensures { OnOk result (Adds W.step printer.old (λ s. abi_docs abi.now) printer.new) }
 {
     match abi {
         ExternAbi::Rust => Ok(()),
@@ -66,12 +70,12 @@ fn add_marked<W: PieceWriter>(
 ) -> Result<(), AllocError>
     requires { length marks.now ≡ length params.now }
     ensures { OnOk result (Adds W.step printer.old
-        (λ s. comma_joined (map (marked_items marks.now) (enumerate_from 0 params.now))) printer.new) }
+        (λ s. comma_joined (map (marked_docs marks.now) (enumerate_from 0 params.now))) printer.new) }
 {
     for (at, param) in params.iter().enumerate() {
         printer.add_if(at > 0, ", ")?;
         printer.add_if(marks[at], "const: ")?;
-        printer.add(&[Work::Type(*param)])?;
+        printer.add(&[Token::Type(*param)])?;
     }
     Ok(())
 }
@@ -108,15 +112,15 @@ fn add_flags<W: PieceWriter>(
 }
 
 /// Adds all up to the list of arguments.
-fn add_front<'a, W: PieceWriter>(
+fn add_head<'a, W: PieceWriter>(
     printer: &mut Printer<'a, W>,
     signature: &'a FunctionSignature,
 ) -> Result<(), AllocError>
-    ensures { OnOk result (Adds W.step printer.old (λ s. function_front s signature.now) printer.new) }
+    ensures { OnOk result (Adds W.step printer.old (λ s. function_head s signature.now) printer.new) }
 {
     add_flags(printer, signature)?;
     add_abi(printer, signature.abi())?;
-    printer.add(&[Work::Text("fn "), Work::Name(signature.name().as_str())])?;
+    printer.add(&[Token::Text("fn "), Token::Name(signature.name().as_str())])?;
     add_generics(printer, signature.generic_params())
 }
 
@@ -128,17 +132,17 @@ fn add_types<'a, W: PieceWriter>(
 ) -> Result<(), AllocError>
     ensures { OnOk result (Adds W.step printer.old (λ s. function_types signature.now) printer.new) }
 {
-    printer.add(&[Work::Text("(")])?;
+    printer.add(&[Token::Text("(")])?;
     add_arguments(
         printer,
         alloc,
         signature.legacy_const_indices(),
         signature.params(),
     )?;
-    printer.add(&[Work::Text(")")])?;
+    printer.add(&[Token::Text(")")])?;
     match signature.ret_type() {
         None => Ok(()),
-        Some(ret) => printer.add(&[Work::Text(" -> "), Work::Type(ret)]),
+        Some(ret) => printer.add(&[Token::Text(" -> "), Token::Type(ret)]),
     }
 }
 
@@ -147,12 +151,12 @@ fn add_function<'a, W: PieceWriter>(
     alloc: Global,
     signature: &'a FunctionSignature,
 ) -> Result<(), AllocError>
-    ensures { OnOk result (Adds W.step printer.old (λ s. function_items s signature.now) printer.new) }
+    ensures { OnOk result (Adds W.step printer.old (λ s. function_docs s signature.now) printer.new) }
 {
-    add_front(printer, signature)?;
+    add_head(printer, signature)?;
     add_types(printer, alloc, signature)?;
     add_where(printer, signature.generic_params().where_predicates())?;
-    printer.add(&[Work::Text(" {...}"), Work::Break])
+    printer.add(&[Token::Text(" {...}"), Token::Break])
 }
 
 /// The text of a function's signature, in lines. Which function has it makes no difference to the text. Other definitions that it names,
@@ -167,9 +171,9 @@ pub fn print_function(
     signature: &FunctionSignature,
     edition: Edition,
 ) -> Result<String, PrintFault>
-    ensures { let s = setting signature.now.store (answers tables.now)
+    ensures { let s = print_env signature.now.store (lookups_of tables.now)
         (words_of tables.now.words edition) false in
-        PrintsPieces s (item_list_pieces s (function_items s signature.now)) result }
+        PrintsPieces s (doc_list_pieces s (function_docs s signature.now)) result }
 {
     let mut printer = Printer::new(alloc, signature.store(), tables, edition, false);
     add_function(&mut printer, alloc, signature)?;

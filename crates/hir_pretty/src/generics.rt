@@ -4,7 +4,7 @@
 ghost use Rattle.std.specs.Prelude.{◌++◌, OnOk, codes, false};
 ghost use Rattle.std.specs.List.{enumerate_from};
 ghost use Rattle.hir_printer.specs.Prelude.{text, e, opt, comma_joined, Adds, following};
-ghost use Rattle.hir_pretty.specs.Signatures.{generic_param_items, each_lifetime, each_type_or_const, each_param, generics_items, predicate_items, where_items};
+ghost use Rattle.hir_pretty.specs.Signatures.{generic_param_docs, each_lifetime, each_type_or_const, each_param, generics_docs, predicate_docs, where_docs};
 
 use hir_base::Name;
 use hir_defs::{
@@ -13,7 +13,7 @@ use hir_defs::{
 };
 use hir_node::ConstRef;
 use hir_page::PieceWriter;
-use hir_printer::{Part, Printer, Work};
+use hir_printer::{Part, Printer, Token};
 use std::alloc::AllocError;
 
 /// Adds a type: its name or its place, and its default.
@@ -23,7 +23,7 @@ fn add_type<'a, W: PieceWriter>(
     param: &'a TypeParamData,
 ) -> Result<(), AllocError>
     ensures { OnOk result (Adds W.step printer.old
-        (λ s. generic_param_items s at (TypeOrConstParamData.TypeParamData param.now)) printer.new) }
+        (λ s. generic_param_docs s at (TypeOrConstParamData.TypeParamData param.now)) printer.new) }
 {
     printer.add_param_name(at, param.name.as_ref())?;
     printer.add_after(" = ", &param.default)
@@ -38,7 +38,7 @@ fn add_default<W: PieceWriter>(
 {
     match default {
         None => Ok(()),
-        Some(default) => printer.add(&[Work::Text(" = "), Work::Whole(default.expr)]),
+        Some(default) => printer.add(&[Token::Text(" = "), Token::Expr(default.expr)]),
     }
 }
 
@@ -49,13 +49,13 @@ fn add_const<'a, W: PieceWriter>(
     param: &'a ConstParamData,
 ) -> Result<(), AllocError>
     ensures { OnOk result (Adds W.step printer.old
-        (λ s. generic_param_items s at (TypeOrConstParamData.ConstParamData param.now)) printer.new) }
+        (λ s. generic_param_docs s at (TypeOrConstParamData.ConstParamData param.now)) printer.new) }
 {
     printer.add(&[
-        Work::Text("const "),
-        Work::Name(param.name.as_str()),
-        Work::Text(": "),
-        Work::Type(param.ty),
+        Token::Text("const "),
+        Token::Name(param.name.as_str()),
+        Token::Text(": "),
+        Token::Type(param.ty),
     ])?;
     add_default(printer, param.default)
 }
@@ -65,7 +65,7 @@ fn add_type_or_const<'a, W: PieceWriter>(
     at: u32,
     param: &'a TypeOrConstParamData,
 ) -> Result<(), AllocError>
-    ensures { OnOk result (Adds W.step printer.old (λ s. generic_param_items s at param.now) printer.new) }
+    ensures { OnOk result (Adds W.step printer.old (λ s. generic_param_docs s at param.now) printer.new) }
 {
     match param {
         TypeOrConstParamData::TypeParamData(param) => add_type(printer, at, param),
@@ -84,7 +84,7 @@ fn add_lifetimes<'a, W: PieceWriter>(
     let mut after = false;
     for (_, lifetime) in params.iter_lt() {
         printer.add_if(after, ", ")?;
-        printer.add(&[Work::Name(lifetime.name.as_str())])?;
+        printer.add(&[Token::Name(lifetime.name.as_str())])?;
         after = true;
     }
     Ok(())
@@ -117,10 +117,10 @@ fn add_in_angles<'a, W: PieceWriter>(
     ensures { OnOk result (Adds W.step printer.old
         (λ s. text (codes "<") ++ comma_joined (each_param s params.now) ++ text (codes ">")) printer.new) }
 {
-    printer.add(&[Work::Text("<")])?;
+    printer.add(&[Token::Text("<")])?;
     add_lifetimes(printer, params)?;
     add_types_and_consts(printer, params, params.len_lifetimes() > 0)?;
-    printer.add(&[Work::Text(">")])
+    printer.add(&[Token::Text(">")])
 }
 
 /// Adds all parameters in `<` and `>`, where there are any.
@@ -128,7 +128,7 @@ pub(crate) fn add_generics<'a, W: PieceWriter>(
     printer: &mut Printer<'a, W>,
     params: &'a GenericParams,
 ) -> Result<(), AllocError>
-    ensures { OnOk result (Adds W.step printer.old (λ s. generics_items s params.now) printer.new) }
+    ensures { OnOk result (Adds W.step printer.old (λ s. generics_docs s params.now) printer.new) }
 {
     if params.is_empty() {
         return Ok(());
@@ -141,7 +141,7 @@ fn add_predicate<'a, W: PieceWriter>(
     printer: &mut Printer<'a, W>,
     predicate: &'a WherePredicate,
 ) -> Result<(), AllocError>
-    ensures { OnOk result (Adds W.step printer.old (λ s. predicate_items s predicate.now) printer.new) }
+    ensures { OnOk result (Adds W.step printer.old (λ s. predicate_docs s predicate.now) printer.new) }
 {
     match predicate {
         WherePredicate::TypeBound {
@@ -150,12 +150,12 @@ fn add_predicate<'a, W: PieceWriter>(
             bound,
         } => {
             printer.add_binder(lifetimes)?;
-            printer.add(&[Work::Type(*target), Work::Text(": ")])?;
+            printer.add(&[Token::Type(*target), Token::Text(": ")])?;
             bound.add_to(printer)
         }
         WherePredicate::Lifetime { target, bound } => {
             target.add_to(printer)?;
-            printer.add(&[Work::Text(": ")])?;
+            printer.add(&[Token::Text(": ")])?;
             bound.add_to(printer)
         }
     }
@@ -166,17 +166,17 @@ pub(crate) fn add_where<'a, W: PieceWriter>(
     printer: &mut Printer<'a, W>,
     predicates: &'a [WherePredicate],
 ) -> Result<(), AllocError>
-    ensures { OnOk result (Adds W.step printer.old (λ s. where_items s predicates.now) printer.new) }
+    ensures { OnOk result (Adds W.step printer.old (λ s. where_docs s predicates.now) printer.new) }
 {
     if predicates.is_empty() {
         return Ok(());
     }
-    printer.add(&[Work::Text("\nwhere\n"), Work::Indent])?;
+    printer.add(&[Token::Text("\nwhere\n"), Token::Indent])?;
     let mut after = false;
     for predicate in predicates {
         printer.add_if(after, ",\n")?;
         add_predicate(printer, predicate)?;
         after = true;
     }
-    printer.add(&[Work::Outdent, Work::Break])
+    printer.add(&[Token::Outdent, Token::Break])
 }

@@ -2,16 +2,17 @@
 #![tactic(auto)]
 
 mod bodies;
+mod body_heads;
+mod fields;
 mod functions;
 mod generics;
-mod heads;
 mod nodes;
 mod pretty_body;
 mod signatures;
 mod structs;
-mod variants;
 
 pub use bodies::print_body_hir;
+pub use fields::print_variant_body_hir;
 pub use functions::print_function;
 pub use hir_page::LineFormat;
 pub use hir_printer::PrintFault;
@@ -19,4 +20,3 @@ pub use nodes::{print_expr_hir, print_pat_hir, print_path};
 pub use pretty_body::PrettyBody;
 pub use signatures::print_signature;
 pub use structs::print_struct;
-pub use variants::print_variant_body_hir;

@@ -1,7 +1,7 @@
 //! Expressions, patterns and paths of a store as text.
 
 ghost use Rattle.std.specs.Prelude.{◌<◌, false, IsTrue, length};
-ghost use Rattle.hir_printer.specs.Prelude.{words_of, setting, pieces, path_pieces, PrintsPieces, answers};
+ghost use Rattle.hir_printer.specs.Prelude.{words_of, print_env, pieces, path_pieces, PrintsPieces, lookups_of};
 ghost use Rattle.hir_node.specs.declared.node_id.NodeId.TheVariants as node;
 ghost use Rattle.hir_faults.specs.Fits.{path_fits};
 
@@ -9,7 +9,7 @@ use hir_base::{Edition, ExpressionStoreOwnerId};
 use hir_defs::Tables;
 use hir_expr_store::ExpressionStore;
 use hir_node::{ExprId, PatId, Path};
-use hir_printer::{PrintFault, Printer, Work};
+use hir_printer::{PrintFault, Printer, Token};
 use std::alloc::Global;
 
 /// The text of an expression of the store, in lines. The expression has to be there: `has_expr` tests it. What owns the store makes no
@@ -26,11 +26,11 @@ pub fn print_expr_hir(
     edition: Edition,
 ) -> Result<String, PrintFault>
     requires { expr < length store.now.nodes.exprs }
-    ensures { let s = setting store.now (answers tables.now) (words_of tables.now.words edition) false in
+    ensures { let s = print_env store.now (lookups_of tables.now) (words_of tables.now.words edition) false in
         PrintsPieces s (pieces s (node.Expr expr)) result }
 {
     let mut printer = Printer::new(alloc, store, tables, edition, false);
-    printer.add(&[Work::Whole(expr)])?;
+    printer.add(&[Token::Expr(expr)])?;
     printer.print()
 }
 
@@ -49,11 +49,12 @@ pub fn print_pat_hir(
     edition: Edition,
 ) -> Result<String, PrintFault>
     requires { pat < length store.now.nodes.pats }
-    ensures { let s = setting store.now (answers tables.now) (words_of tables.now.words edition) oneline in
+    ensures { let s = print_env store.now (lookups_of tables.now)
+        (words_of tables.now.words edition) oneline in
         PrintsPieces s (pieces s (node.Pat pat)) result }
 {
     let mut printer = Printer::new(alloc, store, tables, edition, oneline);
-    printer.add(&[Work::Pattern(pat)])?;
+    printer.add(&[Token::Pattern(pat)])?;
     printer.print()
 }
 
@@ -69,7 +70,7 @@ pub fn print_path(
     edition: Edition,
 ) -> Result<String, PrintFault>
     requires { IsTrue (path_fits store.now.nodes path.now) }
-    ensures { let s = setting store.now (answers tables.now) (words_of tables.now.words edition) false in
+    ensures { let s = print_env store.now (lookups_of tables.now) (words_of tables.now.words edition) false in
         PrintsPieces s (path_pieces s path.now) result }
 {
     let mut printer = Printer::new(alloc, store, tables, edition, false);

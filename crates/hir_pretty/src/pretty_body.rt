@@ -1,10 +1,10 @@
 //! Methods of a body that print it.
 
 ghost use Rattle.std.specs.Prelude.{◌<◌, false, length};
-ghost use Rattle.hir_printer.specs.Prelude.{words_of, setting, pieces, item_list_pieces, answers, PrintsPieces};
+ghost use Rattle.hir_printer.specs.Prelude.{words_of, print_env, pieces, doc_list_pieces, lookups_of, PrintsPieces};
 ghost use Rattle.hir_node.specs.declared.node_id.NodeId.TheVariants as node;
 ghost use Rattle.hir_items.specs.Bodies.{BodyContents};
-ghost use Rattle.hir_pretty.specs.Bodies.{body_items};
+ghost use Rattle.hir_pretty.specs.Bodies.{body_docs};
 ghost use Rattle.hir_pretty.specs.FoundParts.{parents};
 
 use crate::bodies::print_body_hir;
@@ -29,8 +29,8 @@ pub trait PrettyBody {
         edition: Edition,
     ) -> Result<String, PrintFault>
         ensures { let b = contents self.now in
-            let s = setting b.store (answers tables.now) (words_of tables.now.words edition) false in
-            PrintsPieces s (item_list_pieces s (body_items s (parents tables.now) owner b)) result };
+            let s = print_env b.store (lookups_of tables.now) (words_of tables.now.words edition) false in
+            PrintsPieces s (doc_list_pieces s (body_docs s (parents tables.now) owner b)) result };
 
     /// The text of an expression of the body, as `print_expr_hir` gives it. The expression has to be there: `has_expr` of the store
     /// tests it.
@@ -43,7 +43,7 @@ pub trait PrettyBody {
         edition: Edition,
     ) -> Result<String, PrintFault>
         requires { expr < length (contents self.now).store.nodes.exprs }
-        ensures { let s = setting (contents self.now).store (answers tables.now)
+        ensures { let s = print_env (contents self.now).store (lookups_of tables.now)
             (words_of tables.now.words edition) false in
             PrintsPieces s (pieces s (node.Expr expr)) result };
 
@@ -58,7 +58,7 @@ pub trait PrettyBody {
         edition: Edition,
     ) -> Result<String, PrintFault>
         requires { pat < length (contents self.now).store.nodes.pats }
-        ensures { let s = setting (contents self.now).store (answers tables.now)
+        ensures { let s = print_env (contents self.now).store (lookups_of tables.now)
             (words_of tables.now.words edition) oneline in
             PrintsPieces s (pieces s (node.Pat pat)) result };
 }

@@ -5,7 +5,7 @@ ghost use Rattle.std.specs.Prelude.{OnOk};
 ghost use Rattle.hir_printer.specs.Prelude.{words_of, Adds};
 ghost use Rattle.hir_pretty.specs.FoundParts.{function_found, struct_found};
 ghost use Rattle.hir_pretty.specs.Owners.{PrintsFunction, PrintsStruct, PrintsOther, PrintsAdt, PrintsSignature};
-ghost use Rattle.hir_pretty.specs.Signatures.{unimplemented_items};
+ghost use Rattle.hir_pretty.specs.Signatures.{unimplemented_docs};
 
 use crate::functions::print_function;
 use crate::structs::print_struct;
@@ -13,7 +13,7 @@ use hir_base::{AdtId, Edition, FunctionId, GenericDefId, StructId};
 use hir_defs::Tables;
 use hir_expr_store::ExpressionStore;
 use hir_page::PieceWriter;
-use hir_printer::{PrintFault, Printer, Work};
+use hir_printer::{PrintFault, Printer, Token};
 use std::alloc::{AllocError, Global};
 
 /// Adds that the signature of a definition of this kind isn't printed.
@@ -22,9 +22,9 @@ fn add_other<'a, W: PieceWriter>(
     kind: &'a str,
     id: u32,
 ) -> Result<(), AllocError>
-    ensures { OnOk result (Adds W.step printer.old (λ s. unimplemented_items kind.now id) printer.new) }
+    ensures { OnOk result (Adds W.step printer.old (λ s. unimplemented_docs kind.now id) printer.new) }
 {
-    printer.add(&[Work::Text("unimplemented ")])?;
+    printer.add(&[Token::Text("unimplemented ")])?;
     printer.add_numbered(kind, id)
 }
 

@@ -3,14 +3,14 @@
 
 ghost use Rattle.std.specs.Prelude.{◌++◌, ◌∷◌, [], OnOk, codes, Some, false, decimal};
 ghost use Rattle.std.specs.FinMap as map;
-ghost use Rattle.hir_printer.specs.Prelude.{words_of, setting, text, br, opt, when, answers, PrintsPieces, item_list_pieces, Adds};
-ghost use Rattle.hir_pretty.specs.Signatures.{repr_items, shape_begin, shape_end, struct_front, struct_items};
+ghost use Rattle.hir_printer.specs.Prelude.{words_of, print_env, text, br, opt, when, lookups_of, PrintsPieces, doc_list_pieces, Adds};
+ghost use Rattle.hir_pretty.specs.Signatures.{repr_docs, shape_begin, shape_end, struct_head, struct_docs};
 
 use crate::generics::{add_generics, add_where};
 use hir_base::{Edition, StructId};
 use hir_defs::{FieldsShape, Repr, StructSignature, Tables};
 use hir_page::PieceWriter;
-use hir_printer::{PrintFault, Printer, Work};
+use hir_printer::{PrintFault, Printer, Token};
 use std::alloc::{AllocError, Global};
 
 fn add_attribute_if<W: PieceWriter>(
@@ -21,7 +21,7 @@ fn add_attribute_if<W: PieceWriter>(
     ensures { OnOk result (Adds W.step printer.old (λ s. when holds (text attribute.now ++ br)) printer.new) }
 {
     if holds {
-        return printer.add(&[Work::Text(attribute), Work::Break]);
+        return printer.add(&[Token::Text(attribute), Token::Break]);
     }
     Ok(())
 }
@@ -38,16 +38,16 @@ fn add_bytes<W: PieceWriter>(
     match bytes {
         None => Ok(()),
         Some(bytes) => printer.add(&[
-            Work::Text(before),
-            Work::Number(bytes),
-            Work::Text("))]"),
-            Work::Break,
+            Token::Text(before),
+            Token::Number(bytes),
+            Token::Text("))]"),
+            Token::Break,
         ]),
     }
 }
 
 fn add_repr<W: PieceWriter>(printer: &mut Printer<'_, W>, repr: Repr) -> Result<(), AllocError>
-    ensures { OnOk result (Adds W.step printer.old (λ s. repr_items (Some repr)) printer.new) }
+    ensures { OnOk result (Adds W.step printer.old (λ s. repr_docs (Some repr)) printer.new) }
 {
     add_attribute_if(printer, repr.c, "#[repr(C)]")?;
     add_bytes(printer, "#[repr(align(", repr.align)?;
@@ -58,7 +58,7 @@ fn add_repr_opt<W: PieceWriter>(
     printer: &mut Printer<'_, W>,
     repr: Option<Repr>,
 ) -> Result<(), AllocError>
-    ensures { OnOk result (Adds W.step printer.old (λ s. repr_items repr) printer.new) }
+    ensures { OnOk result (Adds W.step printer.old (λ s. repr_docs repr) printer.new) }
 {
     match repr {
         None => Ok(()),
@@ -73,8 +73,8 @@ fn add_begin<W: PieceWriter>(
     ensures { OnOk result (Adds W.step printer.old (λ s. shape_begin shape) printer.new) }
 {
     match shape {
-        FieldsShape::Record => printer.add(&[Work::Text(" {...}"), Work::Break]),
-        FieldsShape::Tuple => printer.add(&[Work::Text("(...)"), Work::Break]),
+        FieldsShape::Record => printer.add(&[Token::Text(" {...}"), Token::Break]),
+        FieldsShape::Tuple => printer.add(&[Token::Text("(...)"), Token::Break]),
         FieldsShape::Unit => Ok(()),
     }
 }
@@ -86,22 +86,25 @@ fn add_end<W: PieceWriter>(
     ensures { OnOk result (Adds W.step printer.old (λ s. shape_end shape) printer.new) }
 {
     match shape {
-        FieldsShape::Record => printer.add(&[Work::Break]),
-        FieldsShape::Tuple | FieldsShape::Unit => printer.add(&[Work::Text(";"), Work::Break]),
+        FieldsShape::Record => printer.add(&[Token::Break]),
+        FieldsShape::Tuple | FieldsShape::Unit => printer.add(&[Token::Text(";"), Token::Break]),
     }
 }
 
 /// Adds the attributes, the name and the parameters.
-fn add_front<'a, W: PieceWriter>(
+fn add_head<'a, W: PieceWriter>(
     printer: &mut Printer<'a, W>,
     repr: Option<Repr>,
     signature: &'a StructSignature,
 ) -> Result<(), AllocError>
-    ensures { OnOk result (Adds W.step printer.old (λ s. struct_front s repr signature.now) printer.new) }
+    ensures { OnOk result (Adds W.step printer.old (λ s. struct_head s repr signature.now) printer.new) }
 {
     add_repr_opt(printer, repr)?;
     add_attribute_if(printer, signature.is_fundamental(), "#[fundamental]")?;
-    printer.add(&[Work::Text("struct "), Work::Name(signature.name().as_str())])?;
+    printer.add(&[
+        Token::Text("struct "),
+        Token::Name(signature.name().as_str()),
+    ])?;
     add_generics(printer, signature.generic_params())
 }
 
@@ -110,9 +113,9 @@ fn add_struct<'a, W: PieceWriter>(
     repr: Option<Repr>,
     signature: &'a StructSignature,
 ) -> Result<(), AllocError>
-    ensures { OnOk result (Adds W.step printer.old (λ s. struct_items s repr signature.now) printer.new) }
+    ensures { OnOk result (Adds W.step printer.old (λ s. struct_docs s repr signature.now) printer.new) }
 {
-    add_front(printer, repr, signature)?;
+    add_head(printer, repr, signature)?;
     add_begin(printer, signature.shape())?;
     add_where(printer, signature.generic_params().where_predicates())?;
     add_end(printer, signature.shape())
@@ -130,9 +133,9 @@ pub fn print_struct(
     signature: &StructSignature,
     edition: Edition,
 ) -> Result<String, PrintFault>
-    ensures { let s = setting signature.now.store (answers tables.now)
+    ensures { let s = print_env signature.now.store (lookups_of tables.now)
         (words_of tables.now.words edition) false in
-        PrintsPieces s (item_list_pieces s (struct_items s
+        PrintsPieces s (doc_list_pieces s (struct_docs s
         (map.get tables.now.reprs (id ∷ [])) signature.now)) result }
 {
     let mut printer = Printer::new(alloc, signature.store(), tables, edition, false);

@@ -1,10 +1,10 @@
 -- Names by their parts.
 use Rattle.std.proofs.Common.{◌≡◌, ◌≢◌, ℕ, Bool, true, false, List, [], ◌∷◌, ◌++◌, map, codes, refl, sym, ap, ap₂, ◌∙◌, append-nil, ◌==◌, ◌&&◌, if◌then◌else◌, nat_eq, flat_map}
-use Rattle.hir_page.specs.Pieces.{Piece, Text}
+use Rattle.hir_page.specs.Layouts.{Layout, Text}
 use Rattle.hir_page.specs.Steps.{steps}
 use Rattle.std.specs.Cmp.Lexicographic.{bytes_decides}
 use Rattle.std.proofs.lemmas.Bool.Decides.{Decides-eqb}
-use Rattle.hir_printer.specs.Prelude.{is_word, raw_parts, name_parts, behind, printed_name, same_text}
+use Rattle.hir_printer.specs.Prelude.{is_word, raw_parts, name_parts, first_if, printed_name, same_text}
 
 -- 1. Parts
 
@@ -33,15 +33,15 @@ plain_word words name e = ap (λ b. if b then codes "r#" ∷ name ∷ [] else na
 -- 2. Parts as they were found
 
 -- what is written of them, one text after another
-pub parts_written : {W : Type 0} (step : Piece → W → W) (q r : Bool) (name : List ℕ) (value : W)
-    → step (Text name) (steps step (map Text (behind r (codes "r#") [])) (steps step (map Text (behind q (codes "'") [])) value)) ≡ steps step (map Text (behind q (codes "'") (behind r (codes "r#") (name ∷ [])))) value
+pub parts_written : {W : Type 0} (step : Layout → W → W) (q r : Bool) (name : List ℕ) (value : W)
+    → step (Text name) (steps step (map Text (first_if r (codes "r#") [])) (steps step (map Text (first_if q (codes "'") [])) value)) ≡ steps step (map Text (first_if q (codes "'") (first_if r (codes "r#") (name ∷ [])))) value
 parts_written step true true name value = refl
 parts_written step true false name value = refl
 parts_written step false true name value = refl
 parts_written step false false name value = refl
 
 -- as one text
-pub parts_text : (q r : Bool) (name : List ℕ) → flat_map (λ part. part) (behind q (codes "'") (behind r (codes "r#") (name ∷ []))) ≡ (if q then codes "'" else []) ++ ((if r then codes "r#" else []) ++ name)
+pub parts_text : (q r : Bool) (name : List ℕ) → flat_map (λ part. part) (first_if q (codes "'") (first_if r (codes "r#") (name ∷ []))) ≡ (if q then codes "'" else []) ++ ((if r then codes "r#" else []) ++ name)
 parts_text true true name = ap (λ rest. codes "'" ++ (codes "r#" ++ rest)) (append-nil name)
 parts_text true false name = ap (λ rest. codes "'" ++ rest) (append-nil name)
 parts_text false true name = ap (λ rest. codes "r#" ++ rest) (append-nil name)
@@ -64,7 +64,7 @@ not_same text first rest h = other (same_text text (first ++ rest)) (λ e. h res
 
 -- 3. A text beside what is printed of a name
 
-module _ (words : List (List ℕ)) (name : List ℕ) (q r : Bool) (rest : List ℕ) (e : behind q (codes "'") (behind r (codes "r#") (rest ∷ [])) ≡ name_parts words name) where
+module _ (words : List (List ℕ)) (name : List ℕ) (q r : Bool) (rest : List ℕ) (e : first_if q (codes "'") (first_if r (codes "r#") (rest ∷ [])) ≡ name_parts words name) where
   printed_as : printed_name words name ≡ (if q then codes "'" else []) ++ ((if r then codes "r#" else []) ++ rest)
   printed_as = ap (λ (ts : List (List ℕ)). flat_map (λ part. part) ts) (sym e) ∙ parts_text q r rest
 

@@ -4,41 +4,41 @@ use Rattle.std.proofs.lemmas.List.Concat.{flat_map-append}
 use Rattle.hir_node.specs.declared.literal.Literal.{Literal}
 use Rattle.hir_node.specs.declared.literal.Literal.TheVariants as literal
 use Rattle.hir_node.specs.declared.node_id.NodeId.TheVariants as node
-use Rattle.hir_printer.specs.Prelude.{Missing, Setting, Item, Put, Lacks, Whole, Under, Pattern, TypeItem, text, name_parts, name_items, literal_items, put_pieces, NodePiece, Layout, Absent, items_of, item_pieces, pieces, item_list_pieces, with_parentheses, first_missing, layout, ItemsFall, enclose, printing, Leads}
-use Rattle.hir_page.specs.Pieces.{Piece, Text}
+use Rattle.hir_printer.specs.Prelude.{Missing, PrintEnv, Doc, Put, MissingDoc, ExprDoc, ExprIn, Pattern, TypeDoc, text, name_parts, name_docs, literal_docs, put_pieces, DocPiece, Present, Absent, docs_of, doc_pieces, pieces, doc_list_pieces, with_parentheses, first_missing, layout, DocsDecrease, enclose, printing, PrintsAlike}
+use Rattle.hir_page.specs.Layouts.{Layout, Text}
 use Rattle.hir_page.specs.Steps.{steps}
 use Rattle.hir_page.specs.Literals.{string_literal, char_literal, bytes_literal, c_string_literal}
 use Rattle.hir_printer.proofs.StepLemmas.{pieces_at}
 
 -- 1. Items and pieces
 
-pub printed-append : (s : Setting) (xs ys : List Item) → item_list_pieces s (xs ++ ys) ≡ item_list_pieces s xs ++ item_list_pieces s ys
-printed-append s xs ys = flat_map-append (item_pieces s (pieces s)) xs ys
+pub printed-append : (s : PrintEnv) (xs ys : List Doc) → doc_list_pieces s (xs ++ ys) ≡ doc_list_pieces s xs ++ doc_list_pieces s ys
+printed-append s xs ys = flat_map-append (doc_pieces s (pieces s)) xs ys
 
 -- items that are pieces
-abbrev AllPut : List Item → Type 0
+abbrev AllPut : List Doc → Type 0
 AllPut [] = Unit {0}
 AllPut (Put piece ∷ is) = AllPut is
-AllPut (Lacks missing ∷ is) = ⊥
-AllPut (Whole id ∷ is) = ⊥
-AllPut (Under id parent ∷ is) = ⊥
+AllPut (MissingDoc missing ∷ is) = ⊥
+AllPut (ExprDoc id ∷ is) = ⊥
+AllPut (ExprIn id parent ∷ is) = ⊥
 AllPut (Pattern id ∷ is) = ⊥
-AllPut (TypeItem id ∷ is) = ⊥
+AllPut (TypeDoc id ∷ is) = ⊥
 
-put_printed : (s : Setting) (is : List Item) → AllPut is → item_list_pieces s is ≡ map Layout (put_pieces is)
+put_printed : (s : PrintEnv) (is : List Doc) → AllPut is → doc_list_pieces s is ≡ map Present (put_pieces is)
 put_printed s [] a = refl
-put_printed s (Put piece ∷ is) a = ap (λ ps. Layout piece ∷ ps) (put_printed s is a)
-put_printed s (Lacks missing ∷ is) a = absurd a
-put_printed s (Whole id ∷ is) a = absurd a
-put_printed s (Under id parent ∷ is) a = absurd a
+put_printed s (Put piece ∷ is) a = ap (λ ps. Present piece ∷ ps) (put_printed s is a)
+put_printed s (MissingDoc missing ∷ is) a = absurd a
+put_printed s (ExprDoc id ∷ is) a = absurd a
+put_printed s (ExprIn id parent ∷ is) a = absurd a
 put_printed s (Pattern id ∷ is) a = absurd a
-put_printed s (TypeItem id ∷ is) a = absurd a
+put_printed s (TypeDoc id ∷ is) a = absurd a
 
-all_put : (ps : List Piece) → AllPut (map Put ps)
+all_put : (ps : List Layout) → AllPut (map Put ps)
 all_put [] = tt
 all_put (piece ∷ ps) = all_put ps
 
-literal_put : (x : Literal) → AllPut (literal_items x)
+literal_put : (x : Literal) → AllPut (literal_docs x)
 literal_put (literal.String text) = all_put (string_literal text)
 literal_put (literal.ByteString bytes) = all_put (bytes_literal bytes)
 literal_put (literal.CString bytes) = all_put (c_string_literal bytes)
@@ -51,60 +51,60 @@ literal_put (literal.Uint n (Some suffix)) = tt
 literal_put (literal.Float n None) = tt
 literal_put (literal.Float n (Some suffix)) = tt
 
-pub pieces_put : (ps : List Piece) → put_pieces (map Put ps) ≡ ps
+pub pieces_put : (ps : List Layout) → put_pieces (map Put ps) ≡ ps
 pieces_put [] = refl
 pieces_put (piece ∷ ps) = ap (λ qs. piece ∷ qs) (pieces_put ps)
 
 -- texts
-printed_texts : (s : Setting) (ts : List (List ℕ)) → item_list_pieces s (flat_map text ts) ≡ map Layout (map Text ts)
+printed_texts : (s : PrintEnv) (ts : List (List ℕ)) → doc_list_pieces s (flat_map text ts) ≡ map Present (map Text ts)
 printed_texts s [] = refl
-printed_texts s (t ∷ ts) = ap (λ ps. Layout (Text t) ∷ ps) (printed_texts s ts)
+printed_texts s (t ∷ ts) = ap (λ ps. Present (Text t) ∷ ps) (printed_texts s ts)
 
-pub name_printed : (s : Setting) (name : List ℕ) → item_list_pieces s (name_items s name) ≡ map Layout (map Text (name_parts s.words name))
+pub name_printed : (s : PrintEnv) (name : List ℕ) → doc_list_pieces s (name_docs s name) ≡ map Present (map Text (name_parts s.words name))
 name_printed s name = printed_texts s (name_parts s.words name)
 
-pub literal_pieces : (s : Setting) (x : Literal) → item_list_pieces s (literal_items x) ≡ map Layout (put_pieces (literal_items x))
-literal_pieces s x = put_printed s (literal_items x) (literal_put x)
+pub literal_pieces : (s : PrintEnv) (x : Literal) → doc_list_pieces s (literal_docs x) ≡ map Present (put_pieces (literal_docs x))
+literal_pieces s x = put_printed s (literal_docs x) (literal_put x)
 
 -- an expression in parentheses, or without
-pub enclosed_printed : (s : Setting) → ItemsFall s → (b : Bool) (id : ℕ) → item_list_pieces s (enclose b (items_of s (node.Expr id))) ≡ with_parentheses b (pieces s (node.Expr id)) ++ []
-enclosed_printed s fall false id = ap (item_list_pieces s) (append-nil (items_of s (node.Expr id))) ∙ sym (append-nil (pieces s (node.Expr id)) ∙ pieces_at s fall (node.Expr id))
+pub enclosed_printed : (s : PrintEnv) → DocsDecrease s → (b : Bool) (id : ℕ) → doc_list_pieces s (enclose b (docs_of s (node.Expr id))) ≡ with_parentheses b (pieces s (node.Expr id)) ++ []
+enclosed_printed s fall false id = ap (doc_list_pieces s) (append-nil (docs_of s (node.Expr id))) ∙ sym (append-nil (pieces s (node.Expr id)) ∙ pieces_at s fall (node.Expr id))
 enclosed_printed s fall true id =
-    let close = Layout (Text (codes ")")) ∷ [] in
-    ap (λ ps. Layout (Text (codes "(")) ∷ ps) (printed-append s (items_of s (node.Expr id)) (text (codes ")")) ∙ ap (λ ps. ps ++ close) (sym (pieces_at s fall (node.Expr id))))
-    ∙ sym (append-nil (Layout (Text (codes "(")) ∷ (pieces s (node.Expr id) ++ close)))
+    let close = Present (Text (codes ")")) ∷ [] in
+    ap (λ ps. Present (Text (codes "(")) ∷ ps) (printed-append s (docs_of s (node.Expr id)) (text (codes ")")) ∙ ap (λ ps. ps ++ close) (sym (pieces_at s fall (node.Expr id))))
+    ∙ sym (append-nil (Present (Text (codes "(")) ∷ (pieces s (node.Expr id) ++ close)))
 
 -- 2. A value
 
-module _ {W : Type 0} (step : Piece → W → W) where
-  pub printing_pieces : (value : W) (ps : List Piece) (rest : List NodePiece) → printing step value (map Layout ps ++ rest) ≡ printing step (steps step ps value) rest
+module _ {W : Type 0} (step : Layout → W → W) where
+  pub printing_pieces : (value : W) (ps : List Layout) (rest : List DocPiece) → printing step value (map Present ps ++ rest) ≡ printing step (steps step ps value) rest
   unfolding printing
   printing_pieces value [] rest = refl
   printing_pieces value (p ∷ ps) rest = printing_pieces (step p value) ps rest
 
   -- the first that is missing is told
-  pub missing_is : (value : W) (ps : List NodePiece) → (printing step value ps).1 ≡ first_missing ps
+  pub missing_is : (value : W) (ps : List DocPiece) → (printing step value ps).1 ≡ first_missing ps
   unfolding printing
   missing_is value [] = refl
-  missing_is value (Layout piece ∷ ps) = missing_is (step piece value) ps
+  missing_is value (Present piece ∷ ps) = missing_is (step piece value) ps
   missing_is value (Absent missing ∷ ps) = refl
 
-  pub value_of_pieces : (value : W) (ps : List NodePiece) → first_missing ps ≡ None → (printing step value ps).0 ≡ steps step (layout ps) value
+  pub value_of_pieces : (value : W) (ps : List DocPiece) → first_missing ps ≡ None → (printing step value ps).0 ≡ steps step (layout ps) value
   unfolding printing
   value_of_pieces value [] e = refl
-  value_of_pieces value (Layout piece ∷ ps) e = value_of_pieces (step piece value) ps e
+  value_of_pieces value (Present piece ∷ ps) e = value_of_pieces (step piece value) ps e
   value_of_pieces value (Absent missing ∷ ps) e = absurd (cc)
 
   pub nothing_left : (value : W) → printing step value [] ≡ (value, None)
   unfolding printing
   nothing_left value = refl
 
-  pub is_missing : (value : W) (missing : Missing) (ps : List NodePiece) → (printing step value (Absent missing ∷ ps)).1 ≡ Some missing
+  pub is_missing : (value : W) (missing : Missing) (ps : List DocPiece) → (printing step value (Absent missing ∷ ps)).1 ≡ Some missing
   unfolding printing
   is_missing value missing ps = refl
 
-pub pieces_lead : {W : Type 0} {step : Piece → W → W} {s : Setting} {value new : W} {is : List Item} (ps : List Piece) → item_list_pieces s is ≡ map Layout ps → new ≡ steps step ps value
-    → Leads step s value is new []
-pieces_lead {step = step} {s} {value} {new} {is} ps e f = record {
-  leads = λ more. ap (printing step value) (printed-append s is more ∙ ap (λ qs. qs ++ item_list_pieces s more) e) ∙ printing_pieces step value ps (item_list_pieces s more) ∙ ap (λ v. printing step v (item_list_pieces s more)) (sym f);
+pub pieces_alike : {W : Type 0} {step : Layout → W → W} {s : PrintEnv} {value new : W} {is : List Doc} (ps : List Layout) → doc_list_pieces s is ≡ map Present ps → new ≡ steps step ps value
+    → PrintsAlike step s value is new []
+pieces_alike {step = step} {s} {value} {new} {is} ps e f = record {
+  alike = λ more. ap (printing step value) (printed-append s is more ∙ ap (λ qs. qs ++ doc_list_pieces s more) e) ∙ printing_pieces step value ps (doc_list_pieces s more) ∙ ap (λ v. printing step v (doc_list_pieces s more)) (sym f);
 }

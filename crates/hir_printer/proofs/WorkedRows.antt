@@ -29,10 +29,10 @@ use Rattle.hir_node.specs.declared.pat.Pat.TheVariants as pat
 use Rattle.hir_node.specs.declared.type_ref.TypeRef.TheVariants as type
 use Rattle.hir_expr_store.specs.declared.missing.Missing.TheVariants as missing
 use Rattle.hir_faults.specs.Recursion.{fold_down, rank}
-use Rattle.hir_printer.specs.Prelude.{Questions, Setting, pieces, path_pieces, first_missing, text_of}
+use Rattle.hir_printer.specs.Prelude.{NameLookups, PrintEnv, pieces, path_pieces, first_missing, text_of}
 
 -- tables that hold nothing
-abbrev no_tables : Questions
+abbrev no_tables : NameLookups
 no_tables = record {
   name = λ def. Err (missing.Name def);
   crate_name = λ id. Err (missing.Crate id);
@@ -40,8 +40,8 @@ no_tables = record {
   lifetime_param = λ id. Err (missing.LifetimeParam id);
 }
 
-abbrev setting : List Expr → List Pat → List TypeRef → List Binding → Bool → Setting
-setting exprs pats types bindings one_line = record {
+abbrev print_env : List Expr → List Pat → List TypeRef → List Binding → Bool → PrintEnv
+print_env exprs pats types bindings one_line = record {
   nodes = record { exprs = exprs; pats = pats; types = types; bindings = bindings; labels = []; lifetimes = [] };
   tables = no_tables;
   words = codes "match" ∷ [];
@@ -65,17 +65,17 @@ bind id = pat.Bind id None
 
 -- the text of the last expression of a list, over these patterns, types and bindings
 abbrev expr_text : List Expr → List Pat → List TypeRef → List Binding → ℕ → List ℕ
-expr_text exprs pats types bindings id = let s = setting exprs pats types bindings false in text_of s (pieces s (node.Expr id))
+expr_text exprs pats types bindings id = let s = print_env exprs pats types bindings false in text_of s (pieces s (node.Expr id))
 
 abbrev exprs_text : List Expr → ℕ → List ℕ
 exprs_text exprs id = expr_text exprs [] [] [] id
 
 -- the text of a pattern in one line, over bindings `a`, `b` and `match`
 abbrev pat_text : List Pat → ℕ → List ℕ
-pat_text pats id = let s = setting [] pats [] (binding (codes "a") ∷ binding (codes "b") ∷ binding (codes "match") ∷ []) true in text_of s (pieces s (node.Pat id))
+pat_text pats id = let s = print_env [] pats [] (binding (codes "a") ∷ binding (codes "b") ∷ binding (codes "match") ∷ []) true in text_of s (pieces s (node.Pat id))
 
 abbrev path_text : List Expr → List TypeRef → Path → List ℕ
-path_text exprs types p = let s = setting exprs [] types [] false in text_of s (path_pieces s p)
+path_text exprs types p = let s = print_env exprs [] types [] false in text_of s (path_pieces s p)
 
 -- names, literals, constants and operators
 literals_and_operators :
@@ -122,8 +122,8 @@ patterns = (refl, refl, refl, refl, refl, refl, refl)
 
 -- the first definition that is missing, in printing order, and a lang item by the name that the tables have
 definitions :
-    ((let s = setting (expr.Path (path.LangItem (target.StructId 1) None) ∷ expr.Path (path.LangItem (target.FunctionId 0) None) ∷ expr.Tuple (0 ∷ 1 ∷ []) ∷ []) [] [] [] false in first_missing (pieces s (node.Expr 2))) ≡ Some (missing.Name (named.StructId 1)))
-    × ((let s = setting [] [] [] [] false in first_missing (path_pieces s (path.BarePath (record { kind = kind.DollarCrate 0; segments = codes "a" ∷ [] })))) ≡ Some (missing.Crate 0))
-    × (text_of (record (setting [] [] [] [] false) { tables = record no_tables { name = λ def. Ok (Some (codes "f")) } }) (path_pieces (record (setting [] [] [] [] false) { tables = record no_tables { name = λ def. Ok (Some (codes "f")) } }) (path.LangItem (target.FunctionId 0) (Some (codes "new")))) ≡ codes "builtin#lang(f::new)")
+    ((let s = print_env (expr.Path (path.LangItem (target.StructId 1) None) ∷ expr.Path (path.LangItem (target.FunctionId 0) None) ∷ expr.Tuple (0 ∷ 1 ∷ []) ∷ []) [] [] [] false in first_missing (pieces s (node.Expr 2))) ≡ Some (missing.Name (named.StructId 1)))
+    × ((let s = print_env [] [] [] [] false in first_missing (path_pieces s (path.BarePath (record { kind = kind.DollarCrate 0; segments = codes "a" ∷ [] })))) ≡ Some (missing.Crate 0))
+    × (text_of (record (print_env [] [] [] [] false) { tables = record no_tables { name = λ def. Ok (Some (codes "f")) } }) (path_pieces (record (print_env [] [] [] [] false) { tables = record no_tables { name = λ def. Ok (Some (codes "f")) } }) (path.LangItem (target.FunctionId 0) (Some (codes "new")))) ≡ codes "builtin#lang(f::new)")
 unfolding pieces fold_down rank height
 definitions = (refl, refl, refl)

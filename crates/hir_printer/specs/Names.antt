@@ -6,8 +6,8 @@ use Rattle.hir_node.specs.declared.type_ref.LifetimeRef.TheVariants as lifetime
 use Rattle.hir_node.specs.declared.binding.BindingAnnotation.TheVariants.{Unannotated, Mutable, Ref, RefMut}
 use Rattle.hir_expr_store.specs.declared.missing.Missing.{Missing}
 use Rattle.hir_printer.specs.declared.names.NameParts.{NameParts}
-use Rattle.hir_printer.specs.Questions.{Setting}
-use Rattle.hir_printer.specs.Items.{Item, Lacks, text, opt}
+use Rattle.hir_printer.specs.NameLookups.{PrintEnv}
+use Rattle.hir_printer.specs.Docs.{Doc, MissingDoc, text, opt}
 
 abbrev pub same_text : List ℕ → List ℕ → Bool
 same_text = pointwise nat_eq
@@ -28,46 +28,47 @@ name_parts words (c ∷ cs) = if c == 39 then (if same_text cs (codes "static") 
     else (c ∷ []) ∷ raw_parts words cs) else raw_parts words (c ∷ cs)
 
 -- texts, the first of which is there where the condition holds
-abbrev pub behind : Bool → List ℕ → List (List ℕ) → List (List ℕ)
-behind holds first texts = if holds then first ∷ texts else texts
+abbrev pub first_if : Bool → List ℕ → List (List ℕ) → List (List ℕ)
+first_if holds first texts = if holds then first ∷ texts else texts
 
 -- the parts as they were found
 abbrev pub texts_of : NameParts → List (List ℕ)
-texts_of parts = behind parts.is_quoted (codes "'") (behind parts.is_raw (codes "r#") (parts.text.now ∷ []))
+texts_of parts = first_if parts.is_quoted (codes "'")
+    (first_if parts.is_raw (codes "r#") (parts.text.now ∷ []))
 
 -- the text of a printed name
 abbrev pub printed_name : List (List ℕ) → List ℕ → List ℕ
 printed_name words name = flat_map (λ part. part) (name_parts words name)
 
-abbrev pub name_items : Setting → List ℕ → List Item
-name_items s name = flat_map text (name_parts s.words name)
+abbrev pub name_docs : PrintEnv → List ℕ → List Doc
+name_docs s name = flat_map text (name_parts s.words name)
 
 -- a lifetime parameter by its name
-abbrev pub param_items : Setting → Result (List ℕ) Missing → List Item
-param_items s (Ok name) = name_items s name
-param_items s (Err missing) = Lacks missing ∷ []
+abbrev pub param_docs : PrintEnv → Result (List ℕ) Missing → List Doc
+param_docs s (Ok name) = name_docs s name
+param_docs s (Err missing) = MissingDoc missing ∷ []
 
-abbrev pub lifetime_items : Setting → LifetimeRef → List Item
-lifetime_items s (lifetime.Named name) = name_items s name
-lifetime_items s lifetime.Static = text (codes "'static")
-lifetime_items s lifetime.Placeholder = text (codes "'_")
-lifetime_items s (lifetime.Param id) = param_items s (s.tables.lifetime_param id)
-lifetime_items s lifetime.Error = text (codes "'{error}")
+abbrev pub lifetime_docs : PrintEnv → LifetimeRef → List Doc
+lifetime_docs s (lifetime.Named name) = name_docs s name
+lifetime_docs s lifetime.Static = text (codes "'static")
+lifetime_docs s lifetime.Placeholder = text (codes "'_")
+lifetime_docs s (lifetime.Param id) = param_docs s (s.tables.lifetime_param id)
+lifetime_docs s lifetime.Error = text (codes "'{error}")
 
-abbrev pub l : Setting → ℕ → List Item
-l s id = opt (lifetime_items s) (slice_get s.nodes.lifetimes id)
+abbrev pub l : PrintEnv → ℕ → List Doc
+l s id = opt (lifetime_docs s) (slice_get s.nodes.lifetimes id)
 
-abbrev pub label_items : Setting → ℕ → List Item
-label_items s id = opt (λ (label : Label). name_items s label.name) (slice_get s.nodes.labels id)
+abbrev pub label_docs : PrintEnv → ℕ → List Doc
+label_docs s id = opt (λ (label : Label). name_docs s label.name) (slice_get s.nodes.labels id)
 
-abbrev pub annotation_items : BindingAnnotation → List Item
-annotation_items Unannotated = []
-annotation_items Mutable = text (codes "mut ")
-annotation_items Ref = text (codes "ref ")
-annotation_items RefMut = text (codes "ref mut ")
+abbrev pub annotation_docs : BindingAnnotation → List Doc
+annotation_docs Unannotated = []
+annotation_docs Mutable = text (codes "mut ")
+annotation_docs Ref = text (codes "ref ")
+annotation_docs RefMut = text (codes "ref mut ")
 
-abbrev pub of_binding : Setting → Binding → List Item
-of_binding s b = annotation_items b.mode ++ name_items s b.name
+abbrev pub of_binding : PrintEnv → Binding → List Doc
+of_binding s b = annotation_docs b.mode ++ name_docs s b.name
 
-abbrev pub binding_items : Setting → ℕ → List Item
-binding_items s id = opt (of_binding s) (slice_get s.nodes.bindings id)
+abbrev pub binding_docs : PrintEnv → ℕ → List Doc
+binding_docs s id = opt (of_binding s) (slice_get s.nodes.bindings id)

@@ -2,22 +2,22 @@
 pub use Rattle.hir_base.specs.RawWords.{words_of}
 pub use Rattle.hir_expr_store.specs.declared.missing.Missing.{Missing}
 pub use Rattle.hir_node.specs.declared.node_id.NodeId.{NodeId}
-pub use Rattle.hir_printer.specs.Questions.{Questions, Setting}
-pub use Rattle.hir_printer.specs.Items.{Item, Put, Lacks, Whole, Under, Pattern, TypeItem, text, sp, br, into, out, e, under, p, t, opt, when, join, comma_joined, with_number}
-pub use Rattle.hir_printer.specs.Names.{same_text, is_word, raw_parts, name_parts, behind, texts_of, printed_name, name_items, param_items, lifetime_items, l, label_items, annotation_items, of_binding, binding_items}
-pub use Rattle.hir_printer.specs.Paths.{for_names, modifier_items, use_items, bound_items, bounds_items, bounds_after, arg_items, each_arg, turbofish, type_after, binding_layer, args_layer, args_items, assoc_items, found_name, target_items, supers, kind_items, colons_first, segments_from, start_items, path_items}
-pub use Rattle.hir_printer.specs.Types.{type_param_items, extern_items, varargs_items, front, last, signature_items, fn_items, type_items}
-pub use Rattle.hir_printer.specs.Literals.{bool_text, literal_items, put_pieces}
-pub use Rattle.hir_printer.specs.Exprs.{label_before, to_label, operand, each_line, in_lines, arguments, arm_items, field_items, spread_items, raw_keyword, operator_items, array_items, statement_items, unsafe_items, inside_block, coroutine_keyword, movability_keyword, closure_head, capture_keyword, params, header, of_coroutine, coroutine_body, printed_body, expr_items}
-pub use Rattle.hir_printer.specs.Pats.{with_rest, in_parentheses, has_printed_name, is_short, field_pattern, after_last, field_patterns, pat_items}
-pub use Rattle.hir_printer.specs.Pieces.{NodePiece, Layout, Absent, items_of, is_chain, stands_in_parentheses, precedence_found, with_parentheses, item_pieces, pieces_step, item_list_pieces, path_pieces, first_missing, layout, format_of, text_of}
-unfoldable pub use Rattle.hir_printer.specs.Pieces.{pieces}
-pub use Rattle.hir_printer.specs.Falls.{AllNodes, ItemsFall}
-pub use Rattle.hir_printer.specs.Settings.{setting}
-pub use Rattle.hir_printer.specs.PrintAnswers.{PrintsPieces, WritesPieces}
-pub use Rattle.hir_printer.specs.Weights.{total, item_weight, weight_step, heft}
-unfoldable pub use Rattle.hir_printer.specs.Weights.{weight}
+pub use Rattle.hir_printer.specs.NameLookups.{NameLookups, PrintEnv}
+pub use Rattle.hir_printer.specs.Docs.{Doc, Put, MissingDoc, ExprDoc, ExprIn, Pattern, TypeDoc, text, sp, br, into, out, e, under, p, t, opt, when, join, comma_joined, with_number}
+pub use Rattle.hir_printer.specs.Names.{same_text, is_word, raw_parts, name_parts, first_if, texts_of, printed_name, name_docs, param_docs, lifetime_docs, l, label_docs, annotation_docs, of_binding, binding_docs}
+pub use Rattle.hir_printer.specs.Paths.{for_names, modifier_docs, use_docs, bound_docs, bounds_docs, bounds_after, arg_docs, each_arg, turbofish, type_after, binding_layer, args_layer, args_docs, assoc_docs, found_name, target_docs, supers, kind_docs, colons_first, segments_from, start_docs, path_docs}
+pub use Rattle.hir_printer.specs.Types.{type_param_docs, extern_docs, varargs_docs, all_but_last, last, signature_docs, fn_docs, type_docs}
+pub use Rattle.hir_printer.specs.Literals.{bool_text, literal_docs, put_pieces}
+pub use Rattle.hir_printer.specs.Exprs.{label_before, to_label, operand, each_line, in_lines, arguments, arm_docs, field_docs, spread_docs, raw_keyword, operator_docs, array_docs, statement_docs, unsafe_docs, inside_block, coroutine_keyword, movability_keyword, closure_head, capture_keyword, params, header, of_coroutine, coroutine_body, printed_body, expr_docs}
+pub use Rattle.hir_printer.specs.Pats.{with_rest, in_parentheses, has_printed_name, is_short, field_pattern, after_last, field_patterns, pat_docs}
+pub use Rattle.hir_printer.specs.DocPieces.{DocPiece, Present, Absent, docs_of, is_chain, stands_in_parentheses, precedence_found, with_parentheses, doc_pieces, pieces_step, doc_list_pieces, path_pieces, first_missing, layout, format_of, text_of}
+unfoldable pub use Rattle.hir_printer.specs.DocPieces.{pieces}
+pub use Rattle.hir_printer.specs.DocNodes.{AllNodes, DocsDecrease}
+pub use Rattle.hir_printer.specs.PrintEnvs.{print_env}
+pub use Rattle.hir_printer.specs.PrintResults.{PrintsPieces, WritesPieces}
+pub use Rattle.hir_printer.specs.Sizes.{total, doc_size, node_size_step, size}
+unfoldable pub use Rattle.hir_printer.specs.Sizes.{node_size}
 pub use Rattle.hir_printer.specs.Printing.{Printing, printing_of, begun, on_page}
-pub use Rattle.hir_printer.specs.Printers.{ending_items, exprs_items, stands_for, is_node, items_of_works, stood_after, items_one_by_one, following, enclose, Wrote, Adds, AddsWorks, GaveWay, Turns, AddsItems, AddsList, GaveWayTo, Leads, TurnedBy, WroteWork}
+pub use Rattle.hir_printer.specs.Printers.{ending_docs, exprs_docs, stands_for, is_node, docs_of_tokens, stood_after, docs_one_by_one, following, enclose, Wrote, Adds, AddsTokens, Expands, PrintsToken, AddsDocs, AddsList, ExpandsTo, PrintsAlike, PrintedToken, WroteToken}
 unfoldable pub use Rattle.hir_printer.specs.Printers.{printing}
-pub use Rattle.hir_printer.specs.Answers.{found_or, answers}
+pub use Rattle.hir_printer.specs.TableLookups.{found_or, lookups_of}

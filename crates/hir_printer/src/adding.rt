@@ -1,12 +1,12 @@
 //! What is added to a printer: it is written at once, or kept.
 
 ghost use Rattle.std.specs.Prelude.{◌≡◌, ◌≤◌, length, ◌∷◌, [], ◌++◌, false, IfSome, None, OnOk};
-ghost use Rattle.hir_printer.specs.Prelude.{words_of, text, when, with_number, setting, answers, format_of, begun, on_page, printing_of, is_node, Adds, AddsWorks, Wrote, stands_for};
+ghost use Rattle.hir_printer.specs.Prelude.{words_of, text, when, with_number, print_env, lookups_of, format_of, begun, on_page, printing_of, is_node, Adds, AddsTokens, Wrote, stands_for};
 ghost use Rattle.hir_page.specs.Page.{render};
 
 use crate::literals::write_literal;
 use crate::names::write_name;
-use crate::{Printer, Work};
+use crate::{Printer, Token};
 use hir_base::{Edition, Text};
 use hir_defs::Tables;
 use hir_expr_store::ExpressionStore;
@@ -49,7 +49,7 @@ impl<'a> Printer<'a, PageBuffer> {
         one_line: bool,
     ) -> Printer<'a, PageBuffer>
         ensures { printing_of render result ≡ on_page
-            (setting store.now (answers tables.now) (words_of tables.now.words edition) one_line) }
+            (print_env store.now (lookups_of tables.now) (words_of tables.now.words edition) one_line) }
     {
         let page = PageBuffer::new(alloc, line_format(one_line));
         Printer::over(alloc, page, store, tables, edition, one_line)
@@ -68,7 +68,7 @@ impl<'a, W: PieceWriter> Printer<'a, W> {
         one_line: bool,
     ) -> Printer<'a, W>
         ensures { printing_of W.step result ≡ begun
-            (setting store.now (answers tables.now) (words_of tables.now.words edition) one_line) writer }
+            (print_env store.now (lookups_of tables.now) (words_of tables.now.words edition) one_line) writer }
     {
         Printer {
             store,
@@ -76,67 +76,67 @@ impl<'a, W: PieceWriter> Printer<'a, W> {
             words: tables.raw_words(edition),
             one_line,
             writer,
-            works: Vec::new(alloc),
+            tokens: Vec::new(alloc),
             waiting: 0,
         }
     }
 
     /// Writes a work that is text or layout.
-    pub(crate) fn write_work(&mut self, work: &Work<'a>) -> Result<(), AllocError>
-        requires { is_node work.now ≡ false }
-        ensures { OnOk result (Wrote W.step work.now self.old self.new) }
+    pub(crate) fn write_token(&mut self, token: &Token<'a>) -> Result<(), AllocError>
+        requires { is_node token.now ≡ false }
+        ensures { OnOk result (Wrote W.step token.now self.old self.new) }
     {
-        match work {
-            Work::Text(text) => self.writer.text(*text),
-            Work::Space => self.writer.soft_space(),
-            Work::Break => self.writer.line_break(),
-            Work::Indent => self.writer.indent(),
-            Work::Outdent => self.writer.outdent(),
-            Work::Number(number) => write_number(&mut self.writer, *number),
-            Work::Literal(literal) => write_literal(&mut self.writer, *literal),
-            Work::Name(name) => write_name(&mut self.writer, self.words, *name),
+        match token {
+            Token::Text(text) => self.writer.text(*text),
+            Token::Space => self.writer.soft_space(),
+            Token::Break => self.writer.line_break(),
+            Token::Indent => self.writer.indent(),
+            Token::Outdent => self.writer.outdent(),
+            Token::Number(number) => write_number(&mut self.writer, *number),
+            Token::Literal(literal) => write_literal(&mut self.writer, *literal),
+            Token::Name(name) => write_name(&mut self.writer, self.words, *name),
             _ => unreachable!(),
         }
     }
 
     /// Keeps a work behind those that were kept in this turn.
-    fn keep(&mut self, work: &Work<'a>) -> Result<(), AllocError>
+    fn keep(&mut self, token: &Token<'a>) -> Result<(), AllocError>
         ensures { OnOk result (printing_of W.step self.new
-            ≡ record (printing_of W.step self.old) { kept = (printing_of W.step self.old).kept ++ (work.now ∷ []) }) }
+            ≡ record (printing_of W.step self.old) { kept = (printing_of W.step self.old).kept ++ (token.now ∷ []) }) }
     {
-        push_copy(&mut self.works, work)
+        push_copy(&mut self.tokens, token)
     }
 
     /// Adds a work: text and layout are written at once where nothing was kept in this turn, all else is kept.
     // Inlined, as `add` is: what becomes of a work that is known when this is compiled is known then too, and a list of such works takes no
     // memory. That takes six hundredths of the instructions of a run that prints away, and five of one with all questions.
     #[inline(always)]
-    fn add_work(&mut self, work: &Work<'a>) -> Result<(), AllocError>
-        ensures { OnOk result (Adds W.step self.old (λ s. stands_for s work.now) self.new) }
+    fn add_token(&mut self, token: &Token<'a>) -> Result<(), AllocError>
+        ensures { OnOk result (Adds W.step self.old (λ s. stands_for s token.now) self.new) }
     {
-        if self.works.len() > self.waiting || work.is_node() {
-            return self.keep(work);
+        if self.tokens.len() > self.waiting || token.is_node() {
+            return self.keep(token);
         }
         // a copy is handed out, and not the work: so a list of works that is known when this is compiled needs no memory
-        let work = copy_of(work);
-        self.write_work(&work)
+        let token = copy_of(token);
+        self.write_token(&token)
     }
 
     /// Makes room for so many works.
-    pub(crate) fn reserve(&mut self, works: usize) -> Result<(), AllocError>
+    pub(crate) fn reserve(&mut self, tokens: usize) -> Result<(), AllocError>
         ensures { OnOk result (printing_of W.step self.new ≡ printing_of W.step self.old) }
     {
-        self.works.reserve(works)?;
+        self.tokens.reserve(tokens)?;
         Ok(())
     }
 
     /// Adds works.
     #[inline(always)]
-    pub fn add(&mut self, works: &[Work<'a>]) -> Result<(), AllocError>
-        ensures { OnOk result (AddsWorks W.step self.old works.now self.new) }
+    pub fn add(&mut self, tokens: &[Token<'a>]) -> Result<(), AllocError>
+        ensures { OnOk result (AddsTokens W.step self.old tokens.now self.new) }
     {
-        for work in works {
-            self.add_work(work)?;
+        for token in tokens {
+            self.add_token(token)?;
         }
         Ok(())
     }
@@ -146,7 +146,7 @@ impl<'a, W: PieceWriter> Printer<'a, W> {
         ensures { OnOk result (Adds W.step self.old (λ s. when holds (text shown.now)) self.new) }
     {
         if holds {
-            return self.add(&[Work::Text(shown)]);
+            return self.add(&[Token::Text(shown)]);
         }
         Ok(())
     }
@@ -157,35 +157,35 @@ impl<'a, W: PieceWriter> Printer<'a, W> {
         ensures { OnOk result (Adds W.step self.old (λ s. with_number kind.now number) self.new) }
     {
         self.add(&[
-            Work::Text(kind),
-            Work::Text("("),
-            Work::Number(u64::from(number)),
-            Work::Text(")"),
+            Token::Text(kind),
+            Token::Text("("),
+            Token::Number(u64::from(number)),
+            Token::Text(")"),
         ])
     }
 
     /// Lets what was kept in this turn wait, before all that waits.
-    pub(crate) fn end_turn(&mut self)
+    pub(crate) fn queue_kept(&mut self)
         ensures { let old = printing_of W.step self.old in
             printing_of W.step self.new ≡ record old { kept = []; waiting = old.kept ++ old.waiting } }
     {
-        self.works[self.waiting..].reverse();
-        self.waiting = self.works.len();
+        self.tokens[self.waiting..].reverse();
+        self.waiting = self.tokens.len();
     }
 
     /// Begins a turn: the next that waits, where something does.
-    pub(crate) fn begin_turn(&mut self) -> Option<Work<'a>>
+    pub(crate) fn next_token(&mut self) -> Option<Token<'a>>
         requires { (printing_of W.step self.old).kept ≡ [] }
-        ensures next { IfSome result (λ work. ((printing_of W.step self.old).waiting
-            ≡ work ∷ (printing_of W.step self.new).waiting)
+        ensures next { IfSome result (λ token. ((printing_of W.step self.old).waiting
+            ≡ token ∷ (printing_of W.step self.new).waiting)
             × (printing_of W.step self.new ≡ record (printing_of W.step self.old)
             { waiting = (printing_of W.step self.new).waiting })) }
         ensures over { result ≡ None → ((printing_of W.step self.old).waiting ≡ [])
             × (self.new.writer ≡ self.old.writer) }
     {
-        let work = self.works.pop();
-        self.waiting = self.works.len();
-        work
+        let token = self.tokens.pop();
+        self.waiting = self.tokens.len();
+        token
     }
 
     /// What was written to.
@@ -198,7 +198,7 @@ impl<'a, W: PieceWriter> Printer<'a, W> {
             words: _,
             one_line: _,
             writer,
-            works: _,
+            tokens: _,
             waiting: _,
         } = self;
         writer

@@ -2,50 +2,50 @@
 #![tactic(auto, using(crate::proofs::AddLemmas::adding))]
 
 ghost use Rattle.std.specs.Prelude.{◌++◌, OnOk, codes};
-ghost use Rattle.hir_printer.specs.Prelude.{text, arm_items, field_items, statement_items, inside_block, Adds};
+ghost use Rattle.hir_printer.specs.Prelude.{text, arm_docs, field_docs, statement_docs, inside_block, Adds};
 
-use crate::{Part, Printer, Work};
+use crate::{Part, Printer, Token};
 use hir_node::{ExprId, MatchArm, RecordLitField, Statement};
 use hir_page::PieceWriter;
 use std::alloc::AllocError;
 
 impl Part for MatchArm {
-    ghost items = { λ s arm. arm_items arm };
+    ghost docs = { λ s arm. arm_docs arm };
 
     fn add_to<'a, W: PieceWriter>(
         &'a self,
         printer: &mut Printer<'a, W>,
     ) -> Result<(), AllocError> {
-        printer.add(&[Work::Pattern(self.pat)])?;
+        printer.add(&[Token::Pattern(self.pat)])?;
         printer.add_after(" if ", &self.guard)?;
         printer.add(&[
-            Work::Text(" => "),
-            Work::Whole(self.expr),
-            Work::Text(","),
-            Work::Break,
+            Token::Text(" => "),
+            Token::Expr(self.expr),
+            Token::Text(","),
+            Token::Break,
         ])
     }
 }
 
 impl Part for RecordLitField {
-    ghost items = { field_items };
+    ghost docs = { field_docs };
 
     fn add_to<'a, W: PieceWriter>(
         &'a self,
         printer: &mut Printer<'a, W>,
     ) -> Result<(), AllocError> {
         printer.add(&[
-            Work::Name(self.name.as_str()),
-            Work::Text(": "),
-            Work::Whole(self.expr),
-            Work::Text(","),
-            Work::Break,
+            Token::Name(self.name.as_str()),
+            Token::Text(": "),
+            Token::Expr(self.expr),
+            Token::Text(","),
+            Token::Break,
         ])
     }
 }
 
 impl Part for Statement {
-    ghost items = { λ s statement. statement_items statement };
+    ghost docs = { λ s statement. statement_docs statement };
 
     fn add_to<'a, W: PieceWriter>(
         &'a self,
@@ -58,16 +58,16 @@ impl Part for Statement {
                 initializer,
                 else_branch,
             } => {
-                printer.add(&[Work::Text("let "), Work::Pattern(*pat)])?;
+                printer.add(&[Token::Text("let "), Token::Pattern(*pat)])?;
                 printer.add_after(": ", type_ref)?;
                 printer.add_after(" = ", initializer)?;
                 printer.add_after(" else ", else_branch)?;
-                printer.add(&[Work::Text(";"), Work::Break])
+                printer.add(&[Token::Text(";"), Token::Break])
             }
             Statement::Expr { expr, has_semi } => {
-                printer.add(&[Work::Whole(*expr)])?;
+                printer.add(&[Token::Expr(*expr)])?;
                 printer.add_if(*has_semi, ";")?;
-                printer.add(&[Work::Break])
+                printer.add(&[Token::Break])
             }
             Statement::Item(_) => Ok(()),
         }
@@ -86,17 +86,17 @@ impl<'a, W: PieceWriter> Printer<'a, W> {
     {
         let is_bare = statements.is_empty() & tail.is_none();
         if is_bare {
-            return self.add(&[Work::Text("{"), Work::Text("}")]);
+            return self.add(&[Token::Text("{"), Token::Text("}")]);
         }
-        self.add(&[Work::Text("{"), Work::Indent])?;
+        self.add(&[Token::Text("{"), Token::Indent])?;
         self.add_each(statements, &[])?;
         match tail {
-            None => self.add(&[Work::Break, Work::Outdent, Work::Text("}")]),
+            None => self.add(&[Token::Break, Token::Outdent, Token::Text("}")]),
             Some(tail) => self.add(&[
-                Work::Whole(tail),
-                Work::Break,
-                Work::Outdent,
-                Work::Text("}"),
+                Token::Expr(tail),
+                Token::Break,
+                Token::Outdent,
+                Token::Text("}"),
             ]),
         }
     }

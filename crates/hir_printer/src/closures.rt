@@ -4,9 +4,9 @@
 ghost use Rattle.std.specs.Prelude.{◌≡◌, OnOk, Some};
 ghost use Rattle.hir_node.specs.declared.expr.Expr.TheVariants as of_expr;
 ghost use Rattle.hir_node.specs.declared.expr_types.ClosureKind.TheVariants as kinds;
-ghost use Rattle.hir_printer.specs.Prelude.{comma_joined, coroutine_keyword, movability_keyword, closure_head, capture_keyword, coroutine_body, printed_body, params, header, expr_items, Adds};
+ghost use Rattle.hir_printer.specs.Prelude.{comma_joined, coroutine_keyword, movability_keyword, closure_head, capture_keyword, coroutine_body, printed_body, params, header, expr_docs, Adds};
 
-use crate::{Printer, Work};
+use crate::{Printer, Token};
 use hir_expr_store::ExpressionStore;
 use hir_node::{CaptureBy, ClosureKind, CoroutineKind, Expr, ExprId, Movability, PatId, TypeRefId};
 use hir_page::PieceWriter;
@@ -93,7 +93,8 @@ impl<'a, W: PieceWriter> Printer<'a, W> {
         args: &'a [PatId],
         types: &'a [Option<TypeRefId>],
     ) -> Result<(), AllocError>
-        ensures { OnOk result (Adds W.step self.old (λ s. comma_joined (params args.now types.now)) self.new) }
+        ensures { OnOk result (Adds W.step self.old
+            (λ s. comma_joined (params args.now types.now)) self.new) }
     {
         let mut types = types;
         let mut after = false;
@@ -102,7 +103,7 @@ impl<'a, W: PieceWriter> Printer<'a, W> {
                 return Ok(());
             };
             self.add_if(after, ", ")?;
-            self.add(&[Work::Pattern(*arg)])?;
+            self.add(&[Token::Pattern(*arg)])?;
             self.add_after(": ", type_ref)?;
             types = others;
             after = true;
@@ -119,11 +120,11 @@ impl<'a, W: PieceWriter> Printer<'a, W> {
         ensures { OnOk result (Adds W.step self.old
             (λ s. header kinds.Closure (params args.now types.now) ret.now) self.new) }
     {
-        self.add(&[Work::Text("|")])?;
+        self.add(&[Token::Text("|")])?;
         self.add_params(args, types)?;
-        self.add(&[Work::Text("|")])?;
+        self.add(&[Token::Text("|")])?;
         self.add_after(" -> ", ret)?;
-        self.add(&[Work::Space])
+        self.add(&[Token::Space])
     }
 
     /// Adds the parameters and the type of the result, which a coroutine doesn't have.
@@ -155,14 +156,14 @@ impl<'a, W: PieceWriter> Printer<'a, W> {
         kind: ClosureKind,
         capture: CaptureBy,
     ) -> Result<(), AllocError>
-        ensures { OnOk result (Adds W.step self.old (λ s. expr_items s
+        ensures { OnOk result (Adds W.step self.old (λ s. expr_docs s
             (of_expr.Closure args.now arg_types.now ret_type.now body kind capture)) self.new) }
     {
         self.add(&[
-            Work::Text(closure_head(kind)),
-            Work::Text(capture_keyword(capture)),
+            Token::Text(closure_head(kind)),
+            Token::Text(capture_keyword(capture)),
         ])?;
         self.add_header(kind, args, arg_types, ret_type)?;
-        self.add(&[Work::Whole(printed_body(self.store, kind, body))])
+        self.add(&[Token::Expr(printed_body(self.store, kind, body))])
     }
 }

@@ -1,11 +1,11 @@
 //! Laws that a reader relies on. Each is a function with no body to run: its contract is the law.
 ghost use Rattle.std.specs.Prelude.{◌≡◌, None};
-ghost use Rattle.hir_printer.specs.Prelude.{NodeId, Setting, pieces, pieces_step, ItemsFall};
+ghost use Rattle.hir_printer.specs.Prelude.{NodeId, PrintEnv, pieces, pieces_step, DocsDecrease};
 ghost use Rattle.hir_expr_store.specs.Contents.{Contents, contents_fault};
 
 /// The pieces of a node of an accepted store are those of its items.
 pub fn pieces_are_their_step()
-    ensures { (c : Contents) → contents_fault c None → (s : Setting) → s.nodes ≡ c.nodes → (n : NodeId)
+    ensures { (c : Contents) → contents_fault c None → (s : PrintEnv) → s.nodes ≡ c.nodes → (n : NodeId)
         → pieces s n ≡ pieces_step s (pieces s) n }
 {
     hir_expr_store::laws::rank_decreases();
@@ -13,8 +13,8 @@ pub fn pieces_are_their_step()
 }
 
 /// What is printed inside a node of an accepted store is lower than the node.
-pub fn items_fall()
-    ensures { (c : Contents) → contents_fault c None → (s : Setting) → s.nodes ≡ c.nodes → ItemsFall s }
+pub fn docs_decrease()
+    ensures { (c : Contents) → contents_fault c None → (s : PrintEnv) → s.nodes ≡ c.nodes → DocsDecrease s }
 {
     hir_expr_store::laws::rank_decreases();
     hir_expr_store::laws::parents_are_in_range();

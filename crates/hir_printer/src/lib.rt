@@ -15,11 +15,11 @@ mod paths;
 mod pats;
 mod print;
 mod printer;
+mod token;
 mod types;
-mod work;
 
 pub use fault::PrintFault;
 pub use part::Part;
 pub use paths::colons_first;
 pub use printer::Printer;
-pub use work::{Ending, Work};
+pub use token::{Ending, Token};

@@ -2,8 +2,8 @@
 
 ghost use Rattle.std.specs.Prelude.{◌≡◌, ◌∷◌, [], OnOk};
 ghost use Rattle.hir_page.specs.Steps.{steps};
-ghost use Rattle.hir_page.specs.Pieces as piece;
-ghost use Rattle.hir_printer.specs.Prelude.{literal_items, put_pieces};
+ghost use Rattle.hir_page.specs.Layouts as piece;
+ghost use Rattle.hir_printer.specs.Prelude.{literal_docs, put_pieces};
 
 use hir_node::Literal;
 use hir_page::{
@@ -18,7 +18,7 @@ pub(crate) fn write_literal<W: PieceWriter>(
     writer: &mut W,
     literal: &Literal,
 ) -> Result<(), AllocError>
-    ensures { OnOk result (writer.new ≡ steps W.step (put_pieces (literal_items literal.now)) writer.old) }
+    ensures { OnOk result (writer.new ≡ steps W.step (put_pieces (literal_docs literal.now)) writer.old) }
 {
     match literal {
         Literal::String(text) => write_string_literal(writer, text.as_str()),

@@ -2,8 +2,8 @@
 
 ghost use Rattle.std.specs.Prelude.{◌≡◌, ◌≢◌, ◌∷◌, ◌++◌, [], if◌then◌else◌, List, ℕ, MatchOption, OnOk, map};
 ghost use Rattle.hir_page.specs.Steps.{steps};
-ghost use Rattle.hir_page.specs.Pieces as piece;
-ghost use Rattle.hir_printer.specs.Prelude.{behind, is_word, name_parts, texts_of, printed_name, same_text};
+ghost use Rattle.hir_page.specs.Layouts as piece;
+ghost use Rattle.hir_printer.specs.Prelude.{first_if, is_word, name_parts, texts_of, printed_name, same_text};
 
 use hir_base::Text;
 use hir_page::PieceWriter;
@@ -62,7 +62,8 @@ fn name_parts<'n>(words: &[Text], name: &'n str) -> NameParts<'n>
 }
 
 fn write_if<W: PieceWriter>(writer: &mut W, holds: bool, shown: &str) -> Result<(), AllocError>
-    ensures { OnOk result (writer.new ≡ steps W.step (map piece.Text (behind holds shown.now [])) writer.old) }
+    ensures { OnOk result (writer.new ≡ steps W.step
+        (map piece.Text (first_if holds shown.now [])) writer.old) }
 {
     if holds {
         return writer.text(shown);

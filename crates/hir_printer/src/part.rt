@@ -2,9 +2,9 @@
 #![tactic(auto, using(crate::proofs::AddLemmas::adding))]
 
 ghost use Rattle.std.specs.Prelude.{◌++◌, List, OnOk, map, flat_map};
-ghost use Rattle.hir_printer.specs.Prelude.{Setting, Item, text, opt, p, e, t, join, name_items, Adds, following, stood_after};
+ghost use Rattle.hir_printer.specs.Prelude.{PrintEnv, Doc, text, opt, p, e, t, join, name_docs, Adds, following, stood_after};
 
-use crate::{Printer, Work};
+use crate::{Printer, Token};
 use hir_base::Name;
 use hir_node::{ExprId, PatId, TypeRefId};
 use hir_page::PieceWriter;
@@ -13,54 +13,54 @@ use std::alloc::AllocError;
 /// A part of a node.
 pub trait Part {
     // what it is printed as
-    ghost items: { Setting → Self → List Item };
+    ghost docs: { PrintEnv → Self → List Doc };
 
     /// Adds what the part is printed as.
     fn add_to<'a, W: PieceWriter>(&'a self, printer: &mut Printer<'a, W>) -> Result<(), AllocError>
-        ensures { OnOk result (Adds W.step printer.old (λ s. items s self.now) printer.new) };
+        ensures { OnOk result (Adds W.step printer.old (λ s. docs s self.now) printer.new) };
 }
 
 impl Part for ExprId {
-    ghost items = { λ s id. e id };
+    ghost docs = { λ s id. e id };
 
     fn add_to<'a, W: PieceWriter>(
         &'a self,
         printer: &mut Printer<'a, W>,
     ) -> Result<(), AllocError> {
-        printer.add(&[Work::Whole(*self)])
+        printer.add(&[Token::Expr(*self)])
     }
 }
 
 impl Part for PatId {
-    ghost items = { λ s id. p id };
+    ghost docs = { λ s id. p id };
 
     fn add_to<'a, W: PieceWriter>(
         &'a self,
         printer: &mut Printer<'a, W>,
     ) -> Result<(), AllocError> {
-        printer.add(&[Work::Pattern(*self)])
+        printer.add(&[Token::Pattern(*self)])
     }
 }
 
 impl Part for TypeRefId {
-    ghost items = { λ s id. t id };
+    ghost docs = { λ s id. t id };
 
     fn add_to<'a, W: PieceWriter>(
         &'a self,
         printer: &mut Printer<'a, W>,
     ) -> Result<(), AllocError> {
-        printer.add(&[Work::Type(*self)])
+        printer.add(&[Token::Type(*self)])
     }
 }
 
 impl Part for Name {
-    ghost items = { name_items };
+    ghost docs = { name_docs };
 
     fn add_to<'a, W: PieceWriter>(
         &'a self,
         printer: &mut Printer<'a, W>,
     ) -> Result<(), AllocError> {
-        printer.add(&[Work::Name(self.as_str())])
+        printer.add(&[Token::Name(self.as_str())])
     }
 }
 
@@ -73,7 +73,7 @@ impl<'a, W: PieceWriter> Printer<'a, W> {
         members: &'a [T],
     ) -> Result<(), AllocError>
         ensures { OnOk result (Adds W.step self.old
-            (λ s. following (text between.now) after (map (T.items s) members.now)) self.new) }
+            (λ s. following (text between.now) after (map (T.docs s) members.now)) self.new) }
     {
         self.reserve(members.len())?;
         let mut after = after;
@@ -92,7 +92,7 @@ impl<'a, W: PieceWriter> Printer<'a, W> {
         members: &'a [T],
     ) -> Result<(), AllocError>
         ensures { OnOk result (Adds W.step self.old
-            (λ s. join (text between.now) (map (T.items s) members.now)) self.new) }
+            (λ s. join (text between.now) (map (T.docs s) members.now)) self.new) }
     {
         self.add_list(false, between, members)
     }
@@ -101,15 +101,15 @@ impl<'a, W: PieceWriter> Printer<'a, W> {
     pub fn add_each<T: Part>(
         &mut self,
         members: &'a [T],
-        behind: &[Work<'a>],
+        trailer: &[Token<'a>],
     ) -> Result<(), AllocError>
         ensures { OnOk result (Adds W.step self.old
-            (λ s. flat_map (λ x. stood_after s (T.items s x) behind.now) members.now) self.new) }
+            (λ s. flat_map (λ x. stood_after s (T.docs s x) trailer.now) members.now) self.new) }
     {
         self.reserve(members.len())?;
         for member in members {
             member.add_to(self)?;
-            self.add(behind)?;
+            self.add(trailer)?;
         }
         Ok(())
     }
@@ -121,12 +121,12 @@ impl<'a, W: PieceWriter> Printer<'a, W> {
         part: &'a Option<T>,
     ) -> Result<(), AllocError>
         ensures { OnOk result (Adds W.step self.old
-            (λ s. opt (λ x. text before.now ++ T.items s x) part.now) self.new) }
+            (λ s. opt (λ x. text before.now ++ T.docs s x) part.now) self.new) }
     {
         match part {
             None => Ok(()),
             Some(part) => {
-                self.add(&[Work::Text(before)])?;
+                self.add(&[Token::Text(before)])?;
                 part.add_to(self)
             }
         }
@@ -136,16 +136,16 @@ impl<'a, W: PieceWriter> Printer<'a, W> {
     pub(crate) fn add_before<T: Part>(
         &mut self,
         part: &'a Option<T>,
-        behind: &'a str,
+        trailer: &'a str,
     ) -> Result<(), AllocError>
         ensures { OnOk result (Adds W.step self.old
-            (λ s. opt (λ x. T.items s x ++ text behind.now) part.now) self.new) }
+            (λ s. opt (λ x. T.docs s x ++ text trailer.now) part.now) self.new) }
     {
         match part {
             None => Ok(()),
             Some(part) => {
                 part.add_to(self)?;
-                self.add(&[Work::Text(behind)])
+                self.add(&[Token::Text(trailer)])
             }
         }
     }

@@ -3,9 +3,9 @@
 
 ghost use Rattle.std.specs.Prelude.{◌≡◌, OnOk};
 ghost use Rattle.hir_path.specs.declared.path.Path.TheVariants as of_path;
-ghost use Rattle.hir_printer.specs.Prelude.{opt, bounds_after, arg_items, args_items, assoc_items, turbofish, path_items, kind_items, supers, target_items, start_items, segments_from, colons_first, Adds};
+ghost use Rattle.hir_printer.specs.Prelude.{opt, bounds_after, arg_docs, args_docs, assoc_docs, turbofish, path_docs, kind_docs, supers, target_docs, start_docs, segments_from, colons_first, Adds};
 
-use crate::{Part, Printer, Work};
+use crate::{Part, Printer, Token};
 use hir_base::{ExprPrecedence, LangItemTarget, Name, NamedDef, PathKind};
 use hir_node::{
     AssociatedTypeBinding, Boxed, GenericArg, GenericArgs, NormalPath, Path, TypeBound, TypeRefId,
@@ -24,16 +24,16 @@ pub fn colons_first(kind: PathKind) -> bool
 }
 
 impl Part for GenericArg {
-    ghost items = { arg_items };
+    ghost docs = { arg_docs };
 
     fn add_to<'a, W: PieceWriter>(
         &'a self,
         printer: &mut Printer<'a, W>,
     ) -> Result<(), AllocError> {
         match self {
-            GenericArg::Ty(id) => printer.add(&[Work::Type(*id)]),
+            GenericArg::Ty(id) => printer.add(&[Token::Type(*id)]),
             GenericArg::Lifetime(id) => id.add_to(printer),
-            GenericArg::Const(constant) => printer.add(&[Work::Under(
+            GenericArg::Const(constant) => printer.add(&[Token::ExprIn(
                 constant.expr,
                 ExprPrecedence::Unambiguous,
             )]),
@@ -42,13 +42,13 @@ impl Part for GenericArg {
 }
 
 impl Part for AssociatedTypeBinding {
-    ghost items = { assoc_items };
+    ghost docs = { assoc_docs };
 
     fn add_to<'a, W: PieceWriter>(
         &'a self,
         printer: &mut Printer<'a, W>,
     ) -> Result<(), AllocError> {
-        printer.add(&[Work::Name(self.name.as_str())])?;
+        printer.add(&[Token::Name(self.name.as_str())])?;
         printer.add_turbofish(&self.args)?;
         printer.add_bounds_after(self.bounds.as_slice())?;
         printer.add_after(" = ", &self.type_ref)
@@ -61,24 +61,24 @@ impl<'a, W: PieceWriter> Printer<'a, W> {
         ensures { OnOk result (Adds W.step self.old (λ s. supers times) self.new) }
     {
         if times == 0 {
-            return self.add(&[Work::Text("self")]);
+            return self.add(&[Token::Text("self")]);
         }
         let mut left = times;
         while left > 1 {
-            self.add(&[Work::Text("super::")])?;
+            self.add(&[Token::Text("super::")])?;
             left -= 1;
         }
-        self.add(&[Work::Text("super")])
+        self.add(&[Token::Text("super")])
     }
 
     /// Adds what a path begins with.
     fn add_kind(&mut self, kind: PathKind) -> Result<(), AllocError>
-        ensures { OnOk result (Adds W.step self.old (λ s. kind_items s kind) self.new) }
+        ensures { OnOk result (Adds W.step self.old (λ s. kind_docs s kind) self.new) }
     {
         match kind {
             PathKind::Plain | PathKind::Abs => Ok(()),
             PathKind::Super(times) => self.add_supers(times),
-            PathKind::Crate => self.add(&[Work::Text("crate")]),
+            PathKind::Crate => self.add(&[Token::Text("crate")]),
             PathKind::DollarCrate(id) => self.add_crate_name(id),
         }
     }
@@ -90,13 +90,14 @@ impl<'a, W: PieceWriter> Printer<'a, W> {
         names: &'a [Name],
         lists: &'a [Option<GenericArgs>],
     ) -> Result<(), AllocError>
-        ensures { OnOk result (Adds W.step self.old (λ s. segments_from s after names.now lists.now) self.new) }
+        ensures { OnOk result (Adds W.step self.old
+            (λ s. segments_from s after names.now lists.now) self.new) }
     {
         let mut after = after;
         let mut lists = lists;
         for name in names {
             self.add_if(after, "::")?;
-            self.add(&[Work::Name(name.as_str())])?;
+            self.add(&[Token::Name(name.as_str())])?;
             after = true;
             let [args, others @ ..] = lists else {
                 continue;
@@ -109,16 +110,16 @@ impl<'a, W: PieceWriter> Printer<'a, W> {
 
     /// Adds the type that a path begins at, or else its kind.
     fn add_start(&mut self, anchor: Option<TypeRefId>, kind: PathKind) -> Result<(), AllocError>
-        ensures { OnOk result (Adds W.step self.old (λ s. start_items s anchor kind) self.new) }
+        ensures { OnOk result (Adds W.step self.old (λ s. start_docs s anchor kind) self.new) }
     {
         match anchor {
             None => self.add_kind(kind),
-            Some(anchor) => self.add(&[Work::Text("<"), Work::Type(anchor), Work::Text(">::")]),
+            Some(anchor) => self.add(&[Token::Text("<"), Token::Type(anchor), Token::Text(">::")]),
         }
     }
 
     fn add_normal_path(&mut self, path: &'a NormalPath) -> Result<(), AllocError>
-        ensures { OnOk result (Adds W.step self.old (λ s. path_items s (of_path.Normal path.now)) self.new) }
+        ensures { OnOk result (Adds W.step self.old (λ s. path_docs s (of_path.Normal path.now)) self.new) }
     {
         self.add_start(path.type_anchor, path.mod_path.kind())?;
         self.add_segments(
@@ -130,7 +131,7 @@ impl<'a, W: PieceWriter> Printer<'a, W> {
 
     /// Adds the name of an item of the language, or the number of one that has no name.
     fn add_target(&mut self, target: LangItemTarget) -> Result<(), AllocError>
-        ensures { OnOk result (Adds W.step self.old (λ s. target_items s target) self.new) }
+        ensures { OnOk result (Adds W.step self.old (λ s. target_docs s target) self.new) }
     {
         match target {
             LangItemTarget::ImplId(id) => self.add_numbered("ImplId", id.into_raw()),
@@ -152,24 +153,24 @@ impl<'a, W: PieceWriter> Printer<'a, W> {
         target: LangItemTarget,
         name: &'a Option<Boxed<Name>>,
     ) -> Result<(), AllocError>
-        ensures { OnOk result (Adds W.step self.old (λ s. path_items s (of_path.LangItem target name.now))
+        ensures { OnOk result (Adds W.step self.old (λ s. path_docs s (of_path.LangItem target name.now))
             self.new) }
     {
-        self.add(&[Work::Text("builtin#lang(")])?;
+        self.add(&[Token::Text("builtin#lang(")])?;
         self.add_target(target)?;
         match name {
-            None => self.add(&[Work::Text(")")]),
+            None => self.add(&[Token::Text(")")]),
             Some(name) => self.add(&[
-                Work::Text("::"),
-                Work::Name(name.get().as_str()),
-                Work::Text(")"),
+                Token::Text("::"),
+                Token::Name(name.get().as_str()),
+                Token::Text(")"),
             ]),
         }
     }
 
     /// Adds what a path is printed as.
     pub fn add_path(&mut self, path: &'a Path) -> Result<(), AllocError>
-        ensures { OnOk result (Adds W.step self.old (λ s. path_items s path.now) self.new) }
+        ensures { OnOk result (Adds W.step self.old (λ s. path_docs s path.now) self.new) }
     {
         match path {
             Path::BarePath(path) => {
@@ -183,17 +184,18 @@ impl<'a, W: PieceWriter> Printer<'a, W> {
 
     /// Adds arguments in `::<` and `>`, where there are any.
     fn add_turbofish(&mut self, args: &'a Option<GenericArgs>) -> Result<(), AllocError>
-        ensures { OnOk result (Adds W.step self.old (λ s. opt (λ a. turbofish (args_items s a)) args.now) self.new) }
+        ensures { OnOk result (Adds W.step self.old
+            (λ s. opt (λ a. turbofish (args_docs s a)) args.now) self.new) }
     {
         match args {
             None => Ok(()),
-            Some(args) => self.add(&[Work::Args(args)]),
+            Some(args) => self.add(&[Token::GenericArgs(args)]),
         }
     }
 
     /// Adds the arguments and the bindings of a list.
     pub(crate) fn add_args(&mut self, args: &'a GenericArgs) -> Result<(), AllocError>
-        ensures { OnOk result (Adds W.step self.old (λ s. args_items s args.now) self.new) }
+        ensures { OnOk result (Adds W.step self.old (λ s. args_docs s args.now) self.new) }
     {
         let has_args = !args.args.is_empty();
         self.add_if(has_args & args.has_self_type, "Self=")?;

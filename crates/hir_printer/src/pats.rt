@@ -4,10 +4,10 @@
 ghost use Rattle.std.specs.Prelude.{◌≡◌, OnOk, map, slice_get, Some};
 ghost use Rattle.hir_node.specs.declared.pat.Pat.TheVariants as of_pat;
 ghost use Rattle.hir_base.specs.declared.prec.ExprPrecedence.TheVariants.{Shift};
-ghost use Rattle.hir_printer.specs.Prelude.{Setting, p, opt, under, comma_joined, annotation_items, binding_items, with_rest, in_parentheses, has_printed_name, is_short, field_pattern, after_last, field_patterns, pat_items, printing_of, Adds};
+ghost use Rattle.hir_printer.specs.Prelude.{PrintEnv, p, opt, under, comma_joined, annotation_docs, binding_docs, with_rest, in_parentheses, has_printed_name, is_short, field_pattern, after_last, field_patterns, pat_docs, printing_of, Adds};
 
 use crate::names::is_printed;
-use crate::{Printer, Work};
+use crate::{Printer, Token};
 use hir_base::{ExprPrecedence, Text};
 use hir_expr_store::ExpressionStore;
 use hir_node::{Binding, BindingAnnotation, BindingId, ExprId, Pat, PatId, Path, RecordFieldPat};
@@ -16,7 +16,7 @@ use std::alloc::AllocError;
 
 /// Whether the text of a binding is this name as it is printed.
 fn has_printed_name(words: &[Text], name: &str, binding: &Binding) -> bool
-    ensures { (s : Setting) → s.words ≡ words.now → result ≡ has_printed_name s name.now (Some binding.now) }
+    ensures { (s : PrintEnv) → s.words ≡ words.now → result ≡ has_printed_name s name.now (Some binding.now) }
 {
     match binding.mode {
         BindingAnnotation::Unannotated => is_printed(words, name, binding.name.as_str()),
@@ -26,25 +26,25 @@ fn has_printed_name(words: &[Text], name: &str, binding: &Binding) -> bool
 
 impl<'a, W: PieceWriter> Printer<'a, W> {
     fn add_annotation(&mut self, mode: BindingAnnotation) -> Result<(), AllocError>
-        ensures { OnOk result (Adds W.step self.old (λ s. annotation_items mode) self.new) }
+        ensures { OnOk result (Adds W.step self.old (λ s. annotation_docs mode) self.new) }
     {
         match mode {
             BindingAnnotation::Unannotated => Ok(()),
-            BindingAnnotation::Mutable => self.add(&[Work::Text("mut ")]),
-            BindingAnnotation::Ref => self.add(&[Work::Text("ref ")]),
-            BindingAnnotation::RefMut => self.add(&[Work::Text("ref mut ")]),
+            BindingAnnotation::Mutable => self.add(&[Token::Text("mut ")]),
+            BindingAnnotation::Ref => self.add(&[Token::Text("ref ")]),
+            BindingAnnotation::RefMut => self.add(&[Token::Text("ref mut ")]),
         }
     }
 
     /// Adds a binding.
     pub fn add_binding(&mut self, id: BindingId) -> Result<(), AllocError>
-        ensures { OnOk result (Adds W.step self.old (λ s. binding_items s id) self.new) }
+        ensures { OnOk result (Adds W.step self.old (λ s. binding_docs s id) self.new) }
     {
         let store = self.store;
         if store.has_binding(id) {
             let binding = &store[id];
             self.add_annotation(binding.mode)?;
-            return self.add(&[Work::Name(binding.name.as_str())]);
+            return self.add(&[Token::Name(binding.name.as_str())]);
         }
         Ok(())
     }
@@ -72,11 +72,11 @@ impl<'a, W: PieceWriter> Printer<'a, W> {
     fn add_field_pat(&mut self, field: &'a RecordFieldPat) -> Result<(), AllocError>
         ensures { OnOk result (Adds W.step self.old (λ s. field_pattern s field.now) self.new) }
     {
-        self.add(&[Work::Name(field.name.as_str())])?;
+        self.add(&[Token::Name(field.name.as_str())])?;
         if self.is_short(field) {
             return Ok(());
         }
-        self.add(&[Work::Text(": "), Work::Pattern(field.pat)])
+        self.add(&[Token::Text(": "), Token::Pattern(field.pat)])
     }
 
     /// Adds what stands behind a field: where nothing follows in one line, a space.
@@ -84,9 +84,9 @@ impl<'a, W: PieceWriter> Printer<'a, W> {
         ensures { OnOk result (Adds W.step self.old (λ s. after_last s has_more) self.new) }
     {
         if !has_more && self.one_line {
-            return self.add(&[Work::Text(" ")]);
+            return self.add(&[Token::Text(" ")]);
         }
-        self.add(&[Work::Text(","), Work::Break])
+        self.add(&[Token::Text(","), Token::Break])
     }
 
     /// Adds the fields of a record, which a rest may follow.
@@ -108,44 +108,45 @@ impl<'a, W: PieceWriter> Printer<'a, W> {
         fields: &'a [RecordFieldPat],
         rest: bool,
     ) -> Result<(), AllocError>
-        ensures { OnOk result (Adds W.step self.old (λ s. pat_items s (of_pat.Record rest path.now fields.now))
+        ensures { OnOk result (Adds W.step self.old (λ s. pat_docs s (of_pat.Record rest path.now fields.now))
             self.new) }
     {
         self.add_path(path)?;
-        self.add(&[Work::Text(" {"), Work::Indent])?;
+        self.add(&[Token::Text(" {"), Token::Indent])?;
         self.add_field_pats(fields, rest)?;
         if rest {
             return self.add(&[
-                Work::Text(".."),
-                Work::Break,
-                Work::Outdent,
-                Work::Text("}"),
+                Token::Text(".."),
+                Token::Break,
+                Token::Outdent,
+                Token::Text("}"),
             ]);
         }
-        self.add(&[Work::Outdent, Work::Text("}")])
+        self.add(&[Token::Outdent, Token::Text("}")])
     }
 
     /// Adds patterns, with `..` before the one in this place, or behind all.
     fn add_with_rest(&mut self, pats: &'a [PatId], rest: Option<u32>) -> Result<(), AllocError>
-        ensures { OnOk result (Adds W.step self.old (λ s. comma_joined (with_rest rest (map p pats.now))) self.new) }
+        ensures { OnOk result (Adds W.step self.old
+            (λ s. comma_joined (with_rest rest (map p pats.now))) self.new) }
     {
         let Some(at) = rest else {
             return self.add_joined(", ", pats);
         };
         let left = pats.len().saturating_sub(at as usize);
-        let (before, behind) = pats.split_at(pats.len() - left);
+        let (before, trailer) = pats.split_at(pats.len() - left);
         self.add_joined(", ", before)?;
         self.add_if(!before.is_empty(), ", ")?;
-        self.add(&[Work::Text("..")])?;
-        self.add_list(true, ", ", behind)
+        self.add(&[Token::Text("..")])?;
+        self.add_list(true, ", ", trailer)
     }
 
     fn add_in_parentheses(&mut self, pats: &'a [PatId], rest: Option<u32>) -> Result<(), AllocError>
         ensures { OnOk result (Adds W.step self.old (λ s. in_parentheses rest pats.now) self.new) }
     {
-        self.add(&[Work::Text("(")])?;
+        self.add(&[Token::Text("(")])?;
         self.add_with_rest(pats, rest)?;
-        self.add(&[Work::Text(")")])
+        self.add(&[Token::Text(")")])
     }
 
     fn add_slice(
@@ -154,14 +155,15 @@ impl<'a, W: PieceWriter> Printer<'a, W> {
         slice: &'a Option<PatId>,
         suffix: &'a [PatId],
     ) -> Result<(), AllocError>
-        ensures { OnOk result (Adds W.step self.old (λ s. pat_items s (of_pat.Slice prefix.now slice.now suffix.now))
+        ensures { OnOk result (Adds W.step self.old
+            (λ s. pat_docs s (of_pat.Slice prefix.now slice.now suffix.now))
             self.new) }
     {
-        self.add(&[Work::Text("[")])?;
-        self.add_each(prefix, &[Work::Text(", ")])?;
+        self.add(&[Token::Text("[")])?;
+        self.add_each(prefix, &[Token::Text(", ")])?;
         self.add_before(slice, ", ")?;
-        self.add_each(suffix, &[Work::Text(", ")])?;
-        self.add(&[Work::Text("]")])
+        self.add_each(suffix, &[Token::Text(", ")])?;
+        self.add(&[Token::Text("]")])
     }
 
     /// Adds an expression in a pattern, where there is one.
@@ -170,24 +172,24 @@ impl<'a, W: PieceWriter> Printer<'a, W> {
     {
         match expr {
             None => Ok(()),
-            Some(expr) => self.add(&[Work::Under(expr, ExprPrecedence::Shift)]),
+            Some(expr) => self.add(&[Token::ExprIn(expr, ExprPrecedence::Shift)]),
         }
     }
 
     /// Adds what a pattern is printed as.
     pub(crate) fn add_pat(&mut self, pat: &'a Pat) -> Result<(), AllocError>
-        ensures { OnOk result (Adds W.step self.old (λ s. pat_items s pat.now) self.new) }
+        ensures { OnOk result (Adds W.step self.old (λ s. pat_docs s pat.now) self.new) }
     {
         match pat {
-            Pat::Missing => self.add(&[Work::Text("\u{fffd}")]),
-            Pat::Rest => self.add(&[Work::Text("..")]),
-            Pat::Wild => self.add(&[Work::Text("_")]),
-            Pat::NotNull => self.add(&[Work::Text("!null")]),
+            Pat::Missing => self.add(&[Token::Text("\u{fffd}")]),
+            Pat::Rest => self.add(&[Token::Text("..")]),
+            Pat::Wild => self.add(&[Token::Text("_")]),
+            Pat::NotNull => self.add(&[Token::Text("!null")]),
             Pat::Tuple { args, ellipsis } => self.add_in_parentheses(args.as_slice(), *ellipsis),
             Pat::Or(args) => {
-                self.add(&[Work::Text("(")])?;
+                self.add(&[Token::Text("(")])?;
                 self.add_joined(" | ", args.as_slice())?;
-                self.add(&[Work::Text(")")])
+                self.add(&[Token::Text(")")])
             }
             Pat::Record {
                 path,
@@ -200,7 +202,7 @@ impl<'a, W: PieceWriter> Printer<'a, W> {
                 range_type,
             } => {
                 self.add_in_pat(*start)?;
-                self.add(&[Work::Text(range_type.as_str())])?;
+                self.add(&[Token::Text(range_type.as_str())])?;
                 self.add_in_pat(*end)
             }
             Pat::Slice {
@@ -216,7 +218,7 @@ impl<'a, W: PieceWriter> Printer<'a, W> {
                 match subpat {
                     None => Ok(()),
                     Some(subpat) => {
-                        self.add(&[Work::Space, Work::Text("@ "), Work::Pattern(*subpat)])
+                        self.add(&[Token::Space, Token::Text("@ "), Token::Pattern(*subpat)])
                     }
                 }
             }
@@ -229,15 +231,15 @@ impl<'a, W: PieceWriter> Printer<'a, W> {
                 self.add_in_parentheses(args.as_slice(), *ellipsis)
             }
             Pat::Ref { pat, mutability } => self.add(&[
-                Work::Text("&"),
-                Work::Text(mutability.as_keyword_for_ref()),
-                Work::Pattern(*pat),
+                Token::Text("&"),
+                Token::Text(mutability.as_keyword_for_ref()),
+                Token::Pattern(*pat),
             ]),
-            Pat::Box { inner } => self.add(&[Work::Text("box "), Work::Pattern(*inner)]),
+            Pat::Box { inner } => self.add(&[Token::Text("box "), Token::Pattern(*inner)]),
             Pat::Deref { inner } => self.add(&[
-                Work::Text("deref!("),
-                Work::Pattern(*inner),
-                Work::Text(")"),
+                Token::Text("deref!("),
+                Token::Pattern(*inner),
+                Token::Text(")"),
             ]),
         }
     }

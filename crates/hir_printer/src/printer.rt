@@ -1,7 +1,7 @@
 //! The printer: what it prints from, what it writes to, and what still waits.
 ghost use Rattle.std.specs.Prelude.{◌≤◌, length};
 
-use crate::work::Work;
+use crate::token::Token;
 use hir_base::Text;
 use hir_defs::Tables;
 use hir_expr_store::ExpressionStore;
@@ -19,7 +19,7 @@ pub struct Printer<'a, W> {
     pub(crate) one_line: bool,
     pub(crate) writer: W,
     // those that wait, the next last, and behind them those that were kept in this turn, the first first
-    pub(crate) works: Vec<Work<'a>>,
+    pub(crate) tokens: Vec<Token<'a>>,
     pub(crate) waiting: usize,
-    ghost within: { waiting ≤ length works.items },
+    ghost within: { waiting ≤ length tokens.items },
 }

@@ -1,1 +1,1 @@
-pub mod Rare
+pub mod LazyBox

@@ -4,10 +4,10 @@ use Rattle.std.specs.List.{list_all}
 use Rattle.std.proofs.lemmas.List.Folds.{list_all-append}
 use Rattle.hir_io.specs.declared.next.LineFault.{LineFault}
 use Rattle.hir_io.specs.declared.next.LineFault.TheVariants as line
-use Rattle.hir_io.specs.Ends.{IsWrittenUpTo}
+use Rattle.hir_io.specs.Effects.{IsWrittenUpTo}
 use Rattle.hir_io.specs.LineState.{LineState}
-use Rattle.hir_io.specs.Reads.{Reads, ReadsFront}
-use Rattle.hir_io.proofs.ReadLemmas.{Reads-none, Reads-more, ReadsFront-now, ReadsUntilFailure-now}
+use Rattle.hir_io.specs.Reads.{ReadsLines, ReadsPrefix}
+use Rattle.hir_io.proofs.ReadLemmas.{ReadsLines-none, ReadsLines-more, ReadsPrefix-now, ReadsUntilFailure-now}
 use Rattle.hir_lines.specs.Line.{Line, Ask, line_of, may_ask, asks}
 use Rattle.hir_lines.specs.declared.question.Question.{Question}
 use Rattle.hir_run.specs.declared.fault.RunFault.{RunFault}
@@ -15,12 +15,12 @@ use Rattle.hir_run.specs.declared.fault.RunFault.TheVariants.{BadLine, Refused, 
 use Rattle.hir_run.specs.Faults.{fault_of_line}
 use Rattle.hir_run.specs.Output.{Output, Wrote}
 use Rattle.hir_run.specs.Outcomes.{is_input_failed, is_output_failed}
-use Rattle.hir_run.specs.Places.{Place, TakesNext, unread}
+use Rattle.hir_run.specs.RunStates.{RunState, TakesNext, unread}
 use Rattle.hir_run.specs.Program.{IsLineAnswer, AreAnswers}
 use Rattle.hir_run.specs.Stages.{IsAsked, TakesLine, AsksLine, section_from, HaveAnswers, Answered, AsksUpTo, Asks}
-use Rattle.hir_run.proofs.Refusals.{behind_line, behind_none, some_text}
+use Rattle.hir_run.proofs.Refusals.{after_line, after_none, some_text}
 use Rattle.hir_run.proofs.Scripts.{says-push}
-use Rattle.hir_run.proofs.WritingLemmas.{Wrote-then, WroteFront-then, all_written, cut, rest_waits}
+use Rattle.hir_run.proofs.WritingLemmas.{Wrote-then, WrotePrefix-then, all_written, cut, rest_waits}
 
 -- a line that isn't read as a question ends no end of the run
 pub asked_marks_none : (X : Type 0) (lines : LineState) (fault : RunFault) → IsAsked lines (Err fault) → (is_input_failed {X = X} (Err fault) ≡ false) × (is_output_failed {X = X} (Err fault) ≡ false)
@@ -32,10 +32,10 @@ asked_marks_none X lines (Refused fault) a = absurd a
 asked_marks_none X lines (BodyRefused fault) a = absurd a
 
 -- so far these lines were read, and the section that begins with the first question was answered
-abbrev pub SoFar : (Question → Bool) → (Question → List ℕ → Type 0) → Question → Place → Place → Type 0
+abbrev pub SoFar : (Question → Bool) → (Question → List ℕ → Type 0) → Question → RunState → RunState → Type 0
 SoFar may Is first start now =
     (texts : List (List ℕ)) × Answered may Is (section_from first texts) start.output now.output
-    × Reads (unread start) texts (unread now) now.lines.at_end × (now.lines.count ≡ start.lines.count + length texts)
+    × ReadsLines (unread start) texts (unread now) now.lines.at_end × (now.lines.count ≡ start.lines.count + length texts)
 
 -- the end isn't met now, so it wasn't before
 unmet_then : (was now : Bool) → (was ≡ true → now ≡ true) → now ≡ false → was ≡ false
@@ -74,7 +74,7 @@ module _ (may : Question → Bool) (Is : Question → List ℕ → Type 0) where
   asked_fails lines now (Refused fault) a = absurd a
   asked_fails lines now (BodyRefused fault) a = absurd a
 
-  module _ (first : Question) (start : Place) where
+  module _ (first : Question) (start : RunState) where
     -- the first question was answered
     pub first_answered : (new : Output) (left : Option Question) → is_some left ≡ false → TakesLine may Is (Ask first) start.output new left → Answered may Is (section_from first []) start.output new
     first_answered new None none (may_be, text, is, written) = (text, have_first first text may_be is, written)
@@ -89,52 +89,52 @@ module _ (may : Question → Bool) (Is : Question → List ℕ → Type 0) where
     pub first_fails : (number : ℕ) (new : Output) (fault : RunFault) → AsksLine may Is (Ask first) number start.output new (Err fault) → Asks may Is start (record start { output = new }) first (Err fault)
     first_fails number new (BadLine told) a = absurd (cc a.0)
     first_fails number new OutputFailed (may_be, text, is, written) =
-        ([], text, have_first first text may_be is, ReadsFront-now (unread start) (unread start) [] start.lines.at_end (Reads-none (unread start) start.lines.at_end), written)
+        ([], text, have_first first text may_be is, ReadsPrefix-now (unread start) (unread start) [] start.lines.at_end (ReadsLines-none (unread start) start.lines.at_end), written)
     first_fails number new OutOfMemory (question, is, same) = inr (ap (λ (o : Output). record start { output = o }) same)
     first_fails number new InputFailed a = absurd a
     first_fails number new (Refused fault) a = absurd a
     first_fails number new (BodyRefused fault) a = absurd a
 
     -- so far the lines were answered
-    module _ (p : Place) (all : SoFar may Is first start p) (stays : start.lines.at_end ≡ true → p.lines.at_end ≡ true) where
+    module _ (p : RunState) (all : SoFar may Is first start p) (stays : start.lines.at_end ≡ true → p.lines.at_end ≡ true) where
       abbrev texts : List (List ℕ)
       texts = all.0
 
       abbrev so_far : Answered may Is (section_from first texts) start.output p.output
       so_far = all.1
 
-      read : Reads (unread start) texts (unread p) p.lines.at_end
+      read : ReadsLines (unread start) texts (unread p) p.lines.at_end
       read = all.2
 
       count : p.lines.count ≡ start.lines.count + length texts
       count = all.3
 
       -- some of what waited was written before a read
-      pub answered_kept : (q : Place) → IsWrittenUpTo p.output.contents q.output.contents p.output.waiting q.output.waiting → Answered may Is (section_from first texts) start.output q.output
+      pub answered_kept : (q : RunState) → IsWrittenUpTo p.output.contents q.output.contents p.output.waiting q.output.waiting → Answered may Is (section_from first texts) start.output q.output
       answered_kept q w = (so_far.0, so_far.1, rest_waits start.output p.output q.output so_far.0 so_far.2 w)
 
       -- no line could be had
-      pub fails_to_read : (q : Place) (fault : LineFault) → TakesNext p q (Err fault) → Asks may Is start q first (Err (fault_of_line fault))
+      pub fails_to_read : (q : RunState) (fault : LineFault) → TakesNext p q (Err fault) → Asks may Is start q first (Err (fault_of_line fault))
       fails_to_read q line.OutOfMemory t =
           let counted : q.lines.count ≡ p.lines.count + 0 = t.count in
-          inl (texts, answered_kept q (all_written p.output q.output t.writes.0 t.writes.1), behind_none (λ text. asks (line_of text) ≡ true) start.lines.count (unread start) texts q.lines.line q.lines.count t.takes.1 (ReadsFront-now (unread start) (unread p) texts p.lines.at_end read) (omega (arith, count, counted)))
+          inl (texts, answered_kept q (all_written p.output q.output t.writes.0 t.writes.1), after_none (λ text. asks (line_of text) ≡ true) start.lines.count (unread start) texts q.lines.line q.lines.count t.takes.1 (ReadsPrefix-now (unread start) (unread p) texts p.lines.at_end read) (omega (arith, count, counted)))
       fails_to_read q line.InputFailed t =
           (texts, answered_kept q (all_written p.output q.output t.writes.0 t.writes.1), unmet_then start.lines.at_end p.lines.at_end stays t.takes.1, ReadsUntilFailure-now (unread start) (unread p) q.remaining texts q.lines.pending p.lines.at_end read t.takes.1 t.takes.0)
       fails_to_read q line.OutputFailed t =
-          (texts, so_far.0, so_far.1, ReadsFront-now (unread start) (unread p) texts p.lines.at_end read, cut start.output p.output q.output so_far.0 so_far.2 t.writes.0 t.writes.1)
+          (texts, so_far.0, so_far.1, ReadsPrefix-now (unread start) (unread p) texts p.lines.at_end read, cut start.output p.output q.output so_far.0 so_far.2 t.writes.0 t.writes.1)
 
       -- a line was taken
-      module _ (q : Place) (t : TakesNext p q (Ok true)) where
-        pub read_on : Reads (unread start) (texts ++ q.lines.line ∷ []) (unread q) q.lines.at_end
-        read_on = Reads-more (unread start) (unread p) (unread q) texts q.lines.line p.lines.at_end q.lines.at_end read t.takes t.stays_ended
+      module _ (q : RunState) (t : TakesNext p q (Ok true)) where
+        pub read_on : ReadsLines (unread start) (texts ++ q.lines.line ∷ []) (unread q) q.lines.at_end
+        read_on = ReadsLines-more (unread start) (unread p) (unread q) texts q.lines.line p.lines.at_end q.lines.at_end read t.takes t.stays_ended
 
         pub counted_on : q.lines.count ≡ start.lines.count + length texts + 1
         counted_on =
             let counted : q.lines.count ≡ p.lines.count + 1 = t.count in
             omega (arith, count, counted)
 
-        front_on : ReadsFront (unread start) (texts ++ q.lines.line ∷ [])
-        front_on = ReadsFront-now (unread start) (unread q) (texts ++ q.lines.line ∷ []) q.lines.at_end read_on
+        prefix_on : ReadsPrefix (unread start) (texts ++ q.lines.line ∷ [])
+        prefix_on = ReadsPrefix-now (unread start) (unread q) (texts ++ q.lines.line ∷ []) q.lines.at_end read_on
 
         before : Wrote start.output q.output so_far.0
         before = rest_waits start.output p.output q.output so_far.0 so_far.2 t.writes
@@ -156,16 +156,16 @@ module _ (may : Question → Bool) (Is : Question → List ℕ → Type 0) where
 
         -- it wasn't answered
         pub line_fails : (new : Output) (fault : RunFault) → AsksLine may Is (line_of q.lines.line) q.lines.count q.output new (Err fault) → Asks may Is start (record q { output = new }) first (Err fault)
-        line_fails new (BadLine told) (bad, is, same) = (texts, q.lines.line, untouched new same, bad, front_on, is ∙ counted_on)
+        line_fails new (BadLine told) (bad, is, same) = (texts, q.lines.line, untouched new same, bad, prefix_on, is ∙ counted_on)
         line_fails new OutputFailed (may_be, answer, is, written) = (
           texts ++ q.lines.line ∷ [],
           so_far.0 ++ answer,
           have_more first texts q.lines.line so_far.0 answer so_far.1 may_be is,
-          front_on,
-          WroteFront-then start.output q.output new so_far.0 answer before written,
+          prefix_on,
+          WrotePrefix-then start.output q.output new so_far.0 answer before written,
         )
         line_fails new OutOfMemory (question, says, same) =
-            inl (texts, untouched new same, behind_line (λ text. asks (line_of text) ≡ true) start.lines.count (unread start) texts q.lines.line q.lines.count (some_text q.lines.line (Ask question) says (λ e. cc)) front_on counted_on (ap asks says))
+            inl (texts, untouched new same, after_line (λ text. asks (line_of text) ≡ true) start.lines.count (unread start) texts q.lines.line q.lines.count (some_text q.lines.line (Ask question) says (λ e. cc)) prefix_on counted_on (ap asks says))
         line_fails new InputFailed a = absurd a
         line_fails new (Refused fault) a = absurd a
         line_fails new (BodyRefused fault) a = absurd a

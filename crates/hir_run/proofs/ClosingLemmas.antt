@@ -2,12 +2,12 @@
 use Rattle.std.proofs.Common.{◌≡◌, ℕ, Bool, true, false, List, [], ◌++◌, Option, None, Some, Ok, Err, inl, inr, refl, sym, ap, ◌∙◌, subst, append_assoc, ◌||◌}
 use Rattle.std.specs.Io.KnownBytes.{Appends}
 use Rattle.std.proofs.Math.Bool.{or-false}
-use Rattle.hir_io.specs.Ends.{GrowsByFront}
+use Rattle.hir_io.specs.Effects.{AppendsPrefix}
 use Rattle.hir_io.specs.declared.next.LineFault.{LineFault}
 use Rattle.hir_io.specs.declared.next.LineFault.TheVariants as line
 use Rattle.hir_io.specs.NextLine.{NextWrites}
 use Rattle.hir_io.specs.Text.{lines, IsCutShort}
-use Rattle.hir_io.proofs.EndLemmas.{Appends-twice, GrowsByFront-after}
+use Rattle.hir_io.proofs.EndLemmas.{Appends-twice, AppendsPrefix-after}
 use Rattle.hir_io.proofs.TextLemmas.{lines-ended}
 use Rattle.hir_lines.specs.declared.question.Question.{Question}
 use Rattle.hir_items.specs.Bodies.{BodyContents}
@@ -15,9 +15,9 @@ use Rattle.hir_run.specs.declared.fault.RunFault.{RunFault}
 use Rattle.hir_run.specs.declared.fault.RunFault.TheVariants.{BadLine, Refused, BodyRefused, InputFailed, OutputFailed, OutOfMemory}
 use Rattle.hir_run.specs.Faults.{fault_of_line}
 use Rattle.hir_run.specs.Outcomes.{is_input_failed, is_output_failed}
-use Rattle.hir_run.specs.Output.{Output, Wrote, WroteFront}
+use Rattle.hir_run.specs.Output.{Output, Wrote, WrotePrefix}
 use Rattle.hir_run.specs.Parts.{Parts}
-use Rattle.hir_run.specs.Places.{Place}
+use Rattle.hir_run.specs.RunStates.{RunState}
 use Rattle.hir_run.specs.Program.{Outcome}
 use Rattle.hir_run.specs.Run.{EndsWith, RunsTo}
 use Rattle.hir_run.specs.Stages.{Builds, IsBodyOf, Accepts, RunsUpTo, Closes}
@@ -28,25 +28,25 @@ then_all_waiting start p new text none w a =
     subst (λ (x : List ℕ). Appends start.contents new (x ++ text)) none (subst (λ (x : List ℕ). Appends start.contents new x) (sym w.1) (Appends-twice start.contents p.contents new w.0 p.waiting w.2 a))
 
 -- a write of what waited failed
-then_some_waiting : (start p : Output) (new : Option (List ℕ)) (text : List ℕ) → start.waiting ≡ [] → Wrote start p text → GrowsByFront p.contents new p.waiting → GrowsByFront start.contents new text
+then_some_waiting : (start p : Output) (new : Option (List ℕ)) (text : List ℕ) → start.waiting ≡ [] → Wrote start p text → AppendsPrefix p.contents new p.waiting → AppendsPrefix start.contents new text
 then_some_waiting start p new text none w g =
-    subst (λ (x : List ℕ). GrowsByFront start.contents new (x ++ text)) none (subst (λ (x : List ℕ). GrowsByFront start.contents new x) (sym w.1) (GrowsByFront-after start.contents p.contents new w.0 p.waiting w.2 g))
+    subst (λ (x : List ℕ). AppendsPrefix start.contents new (x ++ text)) none (subst (λ (x : List ℕ). AppendsPrefix start.contents new x) (sym w.1) (AppendsPrefix-after start.contents p.contents new w.0 p.waiting w.2 g))
 
 -- a front of the text, where nothing waited
-front : (start p : Output) (text : List ℕ) → start.waiting ≡ [] → WroteFront start p text → GrowsByFront start.contents p.contents text
-front start p text none g = subst (λ (x : List ℕ). GrowsByFront start.contents p.contents (x ++ text)) none g.0
+prefix : (start p : Output) (text : List ℕ) → start.waiting ≡ [] → WrotePrefix start p text → AppendsPrefix start.contents p.contents text
+prefix start p text none g = subst (λ (x : List ℕ). AppendsPrefix start.contents p.contents (x ++ text)) none g.0
 
 -- all lines of an input that was cut short
 first_lines : (input : List ℕ) (texts : List (List ℕ)) (begun unread : List ℕ) → IsCutShort input texts begun unread → lines input ≡ texts ++ lines (begun ++ unread)
 first_lines input texts begun unread short =
     ap lines (short.whole ∙ append_assoc _ begun unread) ∙ lines-ended texts (begun ++ unread) short.each
 
-module _ (input : List ℕ) (start : Output) (p : Place) (new : Option (List ℕ)) (fresh : start.waiting ≡ []) where
+module _ (input : List ℕ) (start : Output) (p : RunState) (new : Option (List ℕ)) (fresh : start.waiting ≡ []) where
   abbrev Before : Outcome → Type 0
-  Before outcome = EndsWith input (Wrote start p.output) (WroteFront start p.output) p.remaining p.lines outcome
+  Before outcome = EndsWith input (Wrote start p.output) (WrotePrefix start p.output) p.remaining p.lines outcome
 
   abbrev After : Outcome → Type 0
-  After outcome = EndsWith input (Appends start.contents new) (GrowsByFront start.contents new) p.remaining p.lines outcome
+  After outcome = EndsWith input (Appends start.contents new) (AppendsPrefix start.contents new) p.remaining p.lines outcome
 
   closes_well : (outcome : Outcome) → Before outcome → Appends p.output.contents new p.output.waiting → (p.output.waiting ≡ [] → new ≡ p.output.contents) → After outcome
   closes_well (Ok done) (text, means, w) a idle = (text, means, then_all_waiting start p.output new text fresh w a)
@@ -56,11 +56,11 @@ module _ (input : List ℕ) (start : Output) (p : Place) (new : Option (List ℕ
   closes_well (Err InputFailed) (texts, begun, unread, short, left, text, has, w) a idle =
       (texts, begun, unread, short, left, text, has, then_all_waiting start p.output new text fresh w a)
   closes_well (Err OutputFailed) (text, of, (grows, none)) a idle =
-      (text, of, subst (λ (v : Option (List ℕ)). GrowsByFront start.contents v text) (sym (idle none)) (front start p.output text fresh (grows, none)))
+      (text, of, subst (λ (v : Option (List ℕ)). AppendsPrefix start.contents v text) (sym (idle none)) (prefix start p.output text fresh (grows, none)))
   closes_well (Err OutOfMemory) (texts, more, every, at, text, has, w) a idle =
       (texts, more, every, at, text, has, then_all_waiting start p.output new text fresh w a)
 
-  closes_ill : (outcome : Outcome) → Before outcome → GrowsByFront p.output.contents new p.output.waiting → (p.output.waiting ≡ [] → ⊥) → After (Err OutputFailed)
+  closes_ill : (outcome : Outcome) → Before outcome → AppendsPrefix p.output.contents new p.output.waiting → (p.output.waiting ≡ [] → ⊥) → After (Err OutputFailed)
   closes_ill (Ok done) (text, means, w) g some = (text, inr (Ok done, means), then_some_waiting start p.output new text fresh w g)
   closes_ill (Err (BadLine n)) (text, means, w) g some = (text, inr (_, means), then_some_waiting start p.output new text fresh w g)
   closes_ill (Err (Refused fault)) (text, means, w) g some = (text, inr (_, means), then_some_waiting start p.output new text fresh w g)
@@ -71,7 +71,7 @@ module _ (input : List ℕ) (start : Output) (p : Place) (new : Option (List ℕ
   closes_ill (Err OutOfMemory) (texts, more, every, at, text, has, w) g some =
       (text, inl (texts, more, every, has), then_some_waiting start p.output new text fresh w g)
 
-pub closes : (known : Option (List ℕ)) (start : Output) (p : Place) (new : Option (List ℕ)) (outcome result : Outcome) → start.waiting ≡ [] → RunsUpTo known start p outcome → Closes p.output.contents new p.output.waiting outcome result → RunsTo known start.contents p.remaining new p.lines result
+pub closes : (known : Option (List ℕ)) (start : Output) (p : RunState) (new : Option (List ℕ)) (outcome result : Outcome) → start.waiting ≡ [] → RunsUpTo known start p outcome → Closes p.output.contents new p.output.waiting outcome result → RunsTo known start.contents p.remaining new p.lines result
 closes None start p new outcome result fresh r c = tt
 closes (Some input) start p new outcome result fresh r (inl (same, a, idle)) = rw same (closes_well input start p new fresh outcome r a idle)
 closes (Some input) start p new outcome result fresh r (inr (same, g, some)) = rw same (closes_ill input start p new fresh outcome r g some)
@@ -86,7 +86,7 @@ reads_as X Y OutputFailed = refl
 reads_as X Y OutOfMemory = refl
 
 -- the lines that make are read, and nothing is written
-pub build_writes_none : (X : Type 0) (known : Option (List ℕ)) (now : Place) (parts : Parts) (e : RunFault) → Builds known now parts (Err e) → is_output_failed {X = X} (Err e) ≡ false
+pub build_writes_none : (X : Type 0) (known : Option (List ℕ)) (now : RunState) (parts : Parts) (e : RunFault) → Builds known now parts (Err e) → is_output_failed {X = X} (Err e) ≡ false
 build_writes_none X known now parts (BadLine n) b = refl
 build_writes_none X known now parts InputFailed b = refl
 build_writes_none X known now parts OutOfMemory b = refl

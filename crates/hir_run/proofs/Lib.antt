@@ -4,7 +4,7 @@ mod OfLinesLemmas
 mod OutsideLemmas
 mod PrintingLemmas
 pub mod BuildingLemmas
-pub mod CourseLemmas
+pub mod TraceLemmas
 pub mod QuestionLemmas
 pub mod Refusals
 pub mod SectionLemmas

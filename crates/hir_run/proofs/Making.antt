@@ -7,9 +7,9 @@ use Rattle.hir_lines.specs.Line.{Line, Blank, Make, Ask, Bad, makes, asks, line_
 use Rattle.hir_lines.specs.Makers.{Maker}
 use Rattle.hir_run.specs.Parts.{Parts, no_parts, with_line}
 use Rattle.hir_io.specs.LineState.{LineState}
-use Rattle.hir_run.specs.Program.{maker_of, built_by, script, line_behind}
+use Rattle.hir_run.specs.Program.{maker_of, built_by, script, line_after}
 use Rattle.hir_run.specs.Stages.{AllMake, Makes, MakesOrLeaves}
-use Rattle.hir_run.proofs.Scripts.{Tells, script-push, behind_is, behind_make, tells_blank, tells_more}
+use Rattle.hir_run.proofs.Scripts.{Tells, script-push, suffix_is, after_make, tells_blank, tells_more}
 
 pub Makes-none : Makes [] no_parts
 unfolding built_by
@@ -30,24 +30,24 @@ built_by-push ls line = ap (fold with_line no_parts) (filter_map-append maker_of
     one (Ask question) = refl
     one Bad = refl
 
-makes-push : (texts : List (List ℕ)) (text : List ℕ) (line : Line) → line_behind texts text ≡ line → AllMake texts → makes line ≡ true → AllMake (texts ++ text ∷ [])
+makes-push : (texts : List (List ℕ)) (text : List ℕ) (line : Line) → line_after texts text ≡ line → AllMake texts → makes line ≡ true → AllMake (texts ++ text ∷ [])
 makes-push texts text line e all m =
-    rw (script-push texts text, list_all-append makes (script texts) (line_behind texts text ∷ []), all, e, m) refl
+    rw (script-push texts text, list_all-append makes (script texts) (line_after texts text ∷ []), all, e, m) refl
 
-pub Makes-blank : (texts : List (List ℕ)) (text : List ℕ) (built : Parts) → Makes texts built → line_behind texts text ≡ Blank → Makes (texts ++ text ∷ []) built
+pub Makes-blank : (texts : List (List ℕ)) (text : List ℕ) (built : Parts) → Makes texts built → line_after texts text ≡ Blank → Makes (texts ++ text ∷ []) built
 unfolding with_option
 Makes-blank texts text built m e =
-    (makes-push texts text Blank e m.0 refl, m.1 ∙ sym (ap built_by (script-push texts text) ∙ built_by-push (script texts) (line_behind texts text) ∙ ap (λ line. with_option (built_by (script texts)) (maker_of line)) e))
+    (makes-push texts text Blank e m.0 refl, m.1 ∙ sym (ap built_by (script-push texts text) ∙ built_by-push (script texts) (line_after texts text) ∙ ap (λ line. with_option (built_by (script texts)) (maker_of line)) e))
 
-pub Makes-more : (texts : List (List ℕ)) (text : List ℕ) (old new : Parts) (maker : Maker) → Makes texts old → line_behind texts text ≡ Make maker → new ≡ with_line old maker → Makes (texts ++ text ∷ []) new
+pub Makes-more : (texts : List (List ℕ)) (text : List ℕ) (old new : Parts) (maker : Maker) → Makes texts old → line_after texts text ≡ Make maker → new ≡ with_line old maker → Makes (texts ++ text ∷ []) new
 unfolding with_option
 Makes-more texts text old new maker m e made =
-    (makes-push texts text (Make maker) e m.0 refl, made ∙ ap (λ b. with_line b maker) m.1 ∙ sym (ap built_by (script-push texts text) ∙ built_by-push (script texts) (line_behind texts text) ∙ ap (λ line. with_option (built_by (script texts)) (maker_of line)) e))
+    (makes-push texts text (Make maker) e m.0 refl, made ∙ ap (λ b. with_line b maker) m.1 ∙ sym (ap built_by (script-push texts text) ∙ built_by-push (script texts) (line_after texts text) ∙ ap (λ line. with_option (built_by (script texts)) (maker_of line)) e))
 
 -- the line that was taken last makes what it says, or is empty
 pub makes_line : (lines : LineState) (old new : Parts) (texts : List (List ℕ)) →
     Makes texts old → Tells old texts → MakesOrLeaves (line_of lines.line) old new true → Makes (texts ++ lines.line ∷ []) new × Tells new (texts ++ lines.line ∷ [])
 makes_line lines old new texts m t (inl (blank, same)) =
-    rw same (Makes-blank texts lines.line old m (behind_is texts lines.line (ap asks blank) ∙ blank), tells_blank old texts lines.line blank t)
+    rw same (Makes-blank texts lines.line old m (suffix_is texts lines.line (ap asks blank) ∙ blank), tells_blank old texts lines.line blank t)
 makes_line lines old new texts m t (inr (maker, says, first, made)) =
-    (Makes-more texts lines.line old new maker m (behind_make old texts lines.line maker t says ∙ ap (λ b. if b then Bad else Make maker) first) made, rw made (tells_more old maker texts lines.line says t))
+    (Makes-more texts lines.line old new maker m (after_make old texts lines.line maker t says ∙ ap (λ b. if b then Bad else Make maker) first) made, rw made (tells_more old maker texts lines.line says t))

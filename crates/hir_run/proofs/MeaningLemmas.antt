@@ -17,11 +17,11 @@ use Rattle.hir_scope.specs.Frames.{Chain}
 use Rattle.hir_run.specs.declared.fault.RunFault.{RunFault}
 use Rattle.hir_run.specs.Parts.{Parts, body_parts}
 use Rattle.hir_run.specs.Answer.{IsChainOf, AreCapturesOf, IsBodyAnswer, IsStoreAnswer, IsAnswer, chain_answer, resolve_answer, captures_answer}
-use Rattle.hir_run.specs.Program.{Outcome, Course, writes, stops, unless_refused, fault_or, if_so, is_of_store, front, behind, IsLineAnswer, AreAnswers, section, on_body, behind_store, on_store, behind_making, accepts, first_parts, making, Runs, IsMeaning}
+use Rattle.hir_run.specs.Program.{Outcome, Trace, writes, stops, unless_refused, fault_or, if_so, is_of_store, prefix, suffix, IsLineAnswer, AreAnswers, section, on_body, after_store, on_store, after_making, accepts, first_parts, making, ScriptRuns, IsMeaning}
 
 -- a course writes one text and ends in one way
-abbrev pub One : Course → Type 0
-One course = (text more : List ℕ) (outcome other : Outcome) → course text outcome → course more other → (text ≡ more) × (outcome ≡ other)
+abbrev pub One : Trace → Type 0
+One trace = (text more : List ℕ) (outcome other : Outcome) → trace text outcome → trace more other → (text ≡ more) × (outcome ≡ other)
 
 writes_one : (bytes : List ℕ) (end : Outcome) → One (writes bytes end)
 writes_one bytes end text more outcome other m n = (m.0 ∙ sym n.0, m.1 ∙ sym n.1)
@@ -30,11 +30,11 @@ stops_one : (good : ℕ) (script : List Line) → One (stops good script)
 stops_one good [] = writes_one [] _
 stops_one good (bad ∷ rest) = writes_one [] _
 
-fault_or_one : {F : Type 0} (refusal : F → RunFault) (next : Course) (verdict : Option F → Type 0) → (verdict None → One next) → (fault : Option F) → verdict fault → One (fault_or refusal next fault)
+fault_or_one : {F : Type 0} (refusal : F → RunFault) (next : Trace) (verdict : Option F → Type 0) → (verdict None → One next) → (fault : Option F) → verdict fault → One (fault_or refusal next fault)
 fault_or_one refusal next verdict one None v = one v
 fault_or_one refusal next verdict one (Some fault) v = writes_one [] _
 
-unless_one : {F : Type 0} (verdict : Option F → Type 0) (refusal : F → RunFault) (next : Course) → ((f g : Option F) → verdict f → verdict g → f ≡ g) → (verdict None → One next) → One (unless_refused verdict refusal next)
+unless_one : {F : Type 0} (verdict : Option F → Type 0) (refusal : F → RunFault) (next : Trace) → ((f g : Option F) → verdict f → verdict g → f ≡ g) → (verdict None → One next) → One (unless_refused verdict refusal next)
 unless_one verdict refusal next one_fault one text more outcome other (f, v, m) (g, w, n) =
     fault_or_one refusal next verdict one f v text more outcome other m (rw (one_fault g f w v) at n)
 
@@ -49,10 +49,10 @@ answers_one Is one [] t u p q = p ∙ sym q
 answers_one Is one (line ∷ rest) t u (first, more, is, are, e) (first', more', is', are', e') =
     e ∙ ap (λ v. v ++ more) (line_answer_one Is one line first first' is is') ∙ ap (λ v. first' ++ v) (answers_one Is one rest more more' are are') ∙ sym e'
 
-section_one : (may : Question → Bool) (Is : Question → List ℕ → Type 0) (next : ℕ → List Line → Course) → ((question : Question) (t u : List ℕ) → Is question t → Is question u → t ≡ u) → ((good : ℕ) (script : List Line) → One (next good script)) → (good : ℕ) (script : List Line) → One (section may Is next good script)
+section_one : (may : Question → Bool) (Is : Question → List ℕ → Type 0) (next : ℕ → List Line → Trace) → ((question : Question) (t u : List ℕ) → Is question t → Is question u → t ≡ u) → ((good : ℕ) (script : List Line) → One (next good script)) → (good : ℕ) (script : List Line) → One (section may Is next good script)
 section_one may Is next one one_next good script text more outcome other (a, t, are, m, e) (b, u, are', n, e') =
-    let same = answers_one Is one (front (may_ask may) script) a b are are' in
-    let ends = one_next (good + length (front (may_ask may) script)) (behind (may_ask may) script) t u outcome other m n in
+    let same = answers_one Is one (prefix (may_ask may) script) a b are are' in
+    let ends = one_next (good + length (prefix (may_ask may) script)) (suffix (may_ask may) script) t u outcome other m n in
     (e ∙ ap (λ v. v ++ t) same ∙ ap (λ v. b ++ v) ends.0 ∙ sym e', ends.1)
 
 -- an expression has one chain
@@ -99,9 +99,9 @@ module _ (finish_one : (b : Building) (f g : Option FinishFault) → finish_faul
       unless_one (body_fault (body_parts parts)) _ _ (body_one (body_parts parts))
       (λ v. section_one any_question (IsAnswer parts.name (body_parts parts)) stops (answer_one parts.name (body_parts parts) (one_chain (body_parts parts) (sound_contents parts.built sound) v) (one_capture (body_parts parts) (sound_contents parts.built sound) v)) stops_one good script)
 
-  behind_store_one : (parts : Parts) → finish_fault parts.built None → (good : ℕ) (script : List Line) → One (behind_store parts good script)
-  behind_store_one parts sound good [] = stops_one good []
-  behind_store_one parts sound good (line ∷ rest) = by (asks line)
+  after_store_one : (parts : Parts) → finish_fault parts.built None → (good : ℕ) (script : List Line) → One (after_store parts good script)
+  after_store_one parts sound good [] = stops_one good []
+  after_store_one parts sound good (line ∷ rest) = by (asks line)
     where
       by : (b : Bool) → One (if_so b (on_body parts good (line ∷ rest)) (stops good (line ∷ rest)))
       by true = on_body_one parts sound good (line ∷ rest)
@@ -110,17 +110,17 @@ module _ (finish_one : (b : Building) (f g : Option FinishFault) → finish_faul
   on_store_one : (parts : Parts) (good : ℕ) (script : List Line) → One (on_store parts good script)
   on_store_one parts good script =
       unless_one (finish_fault parts.built) _ _ (finish_one parts.built)
-      (λ v. section_one is_of_store (IsStoreAnswer (contents_of parts.built)) (behind_store parts) (store_answer_one (contents_of parts.built)) (behind_store_one parts v) good script)
+      (λ v. section_one is_of_store (IsStoreAnswer (contents_of parts.built)) (after_store parts) (store_answer_one (contents_of parts.built)) (after_store_one parts v) good script)
 
-  behind_making_one : (idle : Course) → One idle → (parts : Parts) (good : ℕ) (script : List Line) → One (behind_making idle parts good script)
-  behind_making_one idle one parts good [] = one
-  behind_making_one idle one parts good (line ∷ rest) = by (asks line)
+  after_making_one : (idle : Trace) → One idle → (parts : Parts) (good : ℕ) (script : List Line) → One (after_making idle parts good script)
+  after_making_one idle one parts good [] = one
+  after_making_one idle one parts good (line ∷ rest) = by (asks line)
     where
       by : (b : Bool) → One (if_so b (on_store parts good (line ∷ rest)) (stops good (line ∷ rest)))
       by true = on_store_one parts good (line ∷ rest)
       by false = stops_one good (line ∷ rest)
 
   pub IsMeaning-one : (script : List Line) → One (IsMeaning script)
-  unfolding Runs
+  unfolding ScriptRuns
   IsMeaning-one script =
-      behind_making_one (accepts (first_parts script)) (unless_one (finish_fault (first_parts script).built) _ _ (finish_one (first_parts script).built) (λ v. writes_one _ _)) (first_parts script) (length (making script)) (behind _ script)
+      after_making_one (accepts (first_parts script)) (unless_one (finish_fault (first_parts script).built) _ _ (finish_one (first_parts script).built) (λ v. writes_one _ _)) (first_parts script) (length (making script)) (suffix _ script)

@@ -10,7 +10,7 @@ use Rattle.hir_lines.specs.Grammar as line
 use Rattle.hir_lines.specs.Tokens.{Token}
 use Rattle.hir_run.specs.Parts.{Parts, no_parts, with_line}
 use Rattle.hir_run.specs.OfLines.{IsExprOfLine, IsPatOfLine, IsTypeOfLine, AreOfLines}
-use Rattle.hir_run.specs.Places.{Place}
+use Rattle.hir_run.specs.RunStates.{RunState}
 use Rattle.hir_run.specs.Program.{maker_of, built_by, gives_self, gives_name, unless_second, once_each, says, script}
 use Rattle.hir_expr_store.specs.Contents.{Contents}
 use Rattle.hir_store.specs.Building.{Building}
@@ -81,7 +81,7 @@ module _ (said : (text : List ℕ) → IsLine (line_of text) text) where
   unfolding built_by
   made_of_lines texts = each_made texts false false no_parts (record { exprs = λ id x e. cc; pats = λ id x e. cc; types = λ id x e. cc })
 
-  pub built_of_lines : (known : Option (List ℕ)) (now : Place) (parts : Parts) (first : Option Question) → Builds known now parts (Ok first) → AreOfLines parts.built.nodes
+  pub built_of_lines : (known : Option (List ℕ)) (now : RunState) (parts : Parts) (first : Option Question) → Builds known now parts (Ok first) → AreOfLines parts.built.nodes
   built_of_lines known now parts None b = rw b.1.1 (made_of_lines b.0)
   built_of_lines known now parts (Some question) b = rw b.1.1 (made_of_lines b.0)
 

@@ -8,12 +8,12 @@ use Rattle.hir_expr_store.specs.declared.missing.Missing.{Missing}
 use Rattle.hir_items.specs.Bodies.{BodyContents}
 use Rattle.hir_printer.specs.declared.fault.PrintFault.{PrintFault}
 use Rattle.hir_printer.specs.declared.fault.PrintFault.TheVariants as fault
-use Rattle.hir_printer.specs.Answers.{answers}
-use Rattle.hir_printer.specs.Pieces.{first_missing, text_of}
-use Rattle.hir_printer.specs.PrintAnswers.{PrintsPieces}
-use Rattle.hir_printer.specs.Settings.{setting}
-use Rattle.hir_printer.specs.Pieces.{item_list_pieces}
-use Rattle.hir_pretty.specs.Bodies.{body_items}
+use Rattle.hir_printer.specs.TableLookups.{lookups_of}
+use Rattle.hir_printer.specs.DocPieces.{first_missing, text_of}
+use Rattle.hir_printer.specs.PrintResults.{PrintsPieces}
+use Rattle.hir_printer.specs.PrintEnvs.{print_env}
+use Rattle.hir_printer.specs.DocPieces.{doc_list_pieces}
+use Rattle.hir_pretty.specs.Bodies.{body_docs}
 use Rattle.hir_pretty.specs.FoundParts.{parents}
 use Rattle.hir_run.specs.OfLines.{AreOfLines}
 use Rattle.hir_run.specs.Printing.{tables_of, printed_from, body_pieces, body_text}
@@ -22,8 +22,8 @@ use Rattle.hir_run.proofs.OutsideLemmas.{nothing_missing}
 -- what printing the body of a function answers over some tables
 abbrev Printing : {Z : Type 0} → BodyContents → Tables → ℕ → Result (String Z) PrintFault → Type 0
 Printing b t id result =
-    PrintsPieces (setting b.store (answers t) (words_of t.words Edition2021) false)
-    (item_list_pieces (setting b.store (answers t) (words_of t.words Edition2021) false) (body_items (setting b.store (answers t) (words_of t.words Edition2021) false) (parents t) (body.FunctionId id) b)) result
+    PrintsPieces (print_env b.store (lookups_of t) (words_of t.words Edition2021) false)
+    (doc_list_pieces (print_env b.store (lookups_of t) (words_of t.words Edition2021) false) (body_docs (print_env b.store (lookups_of t) (words_of t.words Edition2021) false) (parents t) (body.FunctionId id) b)) result
 
 pub over_name : {Z : Type 0} (t : Tables) (name : Option (List ℕ)) (b : BodyContents) (id : ℕ) (result : Result (String Z) PrintFault) → t ≡ tables_of name → id ≡ 0
     → Printing b t id result → PrintsPieces (printed_from name b) (body_pieces name b) result

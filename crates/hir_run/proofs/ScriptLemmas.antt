@@ -12,8 +12,8 @@ use Rattle.hir_run.specs.declared.fault.RunFault.TheVariants.{OutOfMemory}
 use Rattle.hir_run.specs.Answer.{NamedBody, IsStoreAnswer, IsAnswerOf}
 use Rattle.hir_run.specs.Output.{Output, Wrote}
 use Rattle.hir_run.specs.Parts.{Parts, body_parts}
-use Rattle.hir_run.specs.Places.{Place}
-use Rattle.hir_run.specs.Program.{Outcome, is_of_store, section, stops, behind_store, on_body}
+use Rattle.hir_run.specs.RunStates.{RunState}
+use Rattle.hir_run.specs.Program.{Outcome, is_of_store, section, stops, after_store, on_body}
 use Rattle.hir_run.specs.Run.{RunsTo, no_lines}
 use Rattle.hir_run.specs.Stages.{Builds, Finishes, IsBodyOf, Accepts, Asks, AsksUpTo, RunsUpTo}
 use Rattle.hir_run.proofs.QuestionLemmas.{StandsAt}
@@ -31,7 +31,7 @@ runs_out_first None old remaining ls fresh = tt
 runs_out_first (Some input) old remaining ls fresh = rw fresh ([], lines input, refl, refl, [], answers-alone [] refl, nothing_appended old)
 
 -- where the lines that make ended, nothing was written
-module _ (start : Output) (p : Place) (parts : Parts) (still : p.output ≡ start) where
+module _ (start : Output) (p : RunState) (parts : Parts) (still : p.output ≡ start) where
   nothing : Wrote start p.output []
   nothing = subst (λ (o : Output). Wrote start o []) (sym still) (Wrote-none start)
 
@@ -47,30 +47,30 @@ module _ (start : Output) (p : Place) (parts : Parts) (still : p.output ≡ star
 
   module _ (store : Contents) (f : Finishes parts.built (Ok store)) where
     -- there is no question
-    pub script_accept : (known : Option (List ℕ)) (q : Place) (outcome : Outcome) → Builds known p parts (Ok None) → Accepts p.output q.output outcome → RunsUpTo known start q outcome
+    pub script_accept : (known : Option (List ℕ)) (q : RunState) (outcome : Outcome) → Builds known p parts (Ok None) → Accepts p.output q.output outcome → RunsUpTo known start q outcome
     script_accept None q outcome b a = tt
     script_accept (Some input) q outcome b a = accept_ends input start p parts nothing q outcome b f.1 a
 
     module _ (question : Question) where
-      asked_store : (input : List ℕ) → Builds (Some input) p parts (Ok (Some question)) → StandsAt input p question (section is_of_store (IsStoreAnswer store) (behind_store parts)) []
+      asked_store : (input : List ℕ) → Builds (Some input) p parts (Ok (Some question)) → StandsAt input p question (section is_of_store (IsStoreAnswer store) (after_store parts)) []
       asked_store input b = rw f.0 (at_store input p question parts f.1 (built_at input start p parts nothing question b))
 
       -- the questions on the store end early
-      pub script_store_ends : (known : Option (List ℕ)) (q : Place) (fault : RunFault) → Builds known p parts (Ok (Some question)) → Asks is_of_store (IsStoreAnswer store) p q question (Err fault) → RunsUpTo known start q (Err fault)
+      pub script_store_ends : (known : Option (List ℕ)) (q : RunState) (fault : RunFault) → Builds known p parts (Ok (Some question)) → Asks is_of_store (IsStoreAnswer store) p q question (Err fault) → RunsUpTo known start q (Err fault)
       script_store_ends None q fault b a = tt
       script_store_ends (Some input) q fault b a =
-          section_ends input p question is_of_store (IsStoreAnswer store) (behind_store parts) [] (asked_store input b) (store_end parts) (store_bad parts) start q nothing fault a
+          section_ends input p question is_of_store (IsStoreAnswer store) (after_store parts) [] (asked_store input b) (store_end parts) (store_bad parts) start q nothing fault a
 
       -- no question is on the body
-      pub script_store_done : (known : Option (List ℕ)) (q : Place) → Builds known p parts (Ok (Some question)) → AsksUpTo is_of_store (IsStoreAnswer store) p q question None → RunsUpTo known start q (Ok tt)
+      pub script_store_done : (known : Option (List ℕ)) (q : RunState) → Builds known p parts (Ok (Some question)) → AsksUpTo is_of_store (IsStoreAnswer store) p q question None → RunsUpTo known start q (Ok tt)
       script_store_done None q b a = tt
       script_store_done (Some input) q b a =
-          section_done input p question is_of_store (IsStoreAnswer store) (behind_store parts) [] (asked_store input b) (store_end parts) (store_bad parts) start q nothing a
+          section_done input p question is_of_store (IsStoreAnswer store) (after_store parts) [] (asked_store input b) (store_end parts) (store_bad parts) start q nothing a
 
-      module _ (q : Place) (left : Question) (a : AsksUpTo is_of_store (IsStoreAnswer store) p q question (Some left)) where
+      module _ (q : RunState) (left : Question) (a : AsksUpTo is_of_store (IsStoreAnswer store) p q question (Some left)) where
         left_store : (input : List ℕ) → Builds (Some input) p parts (Ok (Some question)) → (t : List ℕ) × StandsAt input q left (on_body parts) t × Wrote start q.output t
         left_store input b =
-            let stands = section_left input p question is_of_store (IsStoreAnswer store) (behind_store parts) [] (asked_store input b) (store_end parts) (store_bad parts) start q nothing left a in
+            let stands = section_left input p question is_of_store (IsStoreAnswer store) (after_store parts) [] (asked_store input b) (store_end parts) (store_bad parts) start q nothing left a in
             (stands.0, at_body input q left parts stands.0 stands.1, stands.2)
 
         -- the body is refused
@@ -90,14 +90,14 @@ module _ (start : Output) (p : Place) (parts : Parts) (still : p.output ≡ star
               rw (is, whole.0) (stands.0, in_body input q left parts stands.0 whole.1 stands.1, stands.2)
 
           -- the questions on the body end early
-          pub script_body_ends : (known : Option (List ℕ)) (r : Place) (fault : RunFault) → Builds known p parts (Ok (Some question)) → Asks any_question (IsAnswerOf named) q r left (Err fault) → RunsUpTo known start r (Err fault)
+          pub script_body_ends : (known : Option (List ℕ)) (r : RunState) (fault : RunFault) → Builds known p parts (Ok (Some question)) → Asks any_question (IsAnswerOf named) q r left (Err fault) → RunsUpTo known start r (Err fault)
           script_body_ends None r fault b d = tt
           script_body_ends (Some input) r fault b d =
               let stands = asked_body input b in
               section_ends input q left any_question (IsAnswerOf named) stops stands.0 stands.1 stops_end stops_bad start r stands.2 fault d
 
           -- all lines are answered
-          pub script_body_done : (known : Option (List ℕ)) (r : Place) → Builds known p parts (Ok (Some question)) → AsksUpTo any_question (IsAnswerOf named) q r left None → RunsUpTo known start r (Ok tt)
+          pub script_body_done : (known : Option (List ℕ)) (r : RunState) → Builds known p parts (Ok (Some question)) → AsksUpTo any_question (IsAnswerOf named) q r left None → RunsUpTo known start r (Ok tt)
           script_body_done None r b d = tt
           script_body_done (Some input) r b d =
               let stands = asked_body input b in

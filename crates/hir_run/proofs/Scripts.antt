@@ -11,7 +11,7 @@ use Rattle.hir_lines.specs.Makers.{Maker}
 use Rattle.hir_lines.specs.Makers as make
 use Rattle.hir_lines.specs.Taking.{is_second as is_second_of}
 use Rattle.hir_run.specs.Parts.{Parts, with_line, is_second}
-use Rattle.hir_run.specs.Program.{gives_self, gives_name, unless_second, once_each, says, script, line_behind}
+use Rattle.hir_run.specs.Program.{gives_self, gives_name, unless_second, once_each, says, script, line_after}
 
 -- a script in two parts
 once_each-append : (s n : Bool) (xs ys : List Line) → once_each s n (xs ++ ys) ≡ once_each s n xs ++ once_each (s || list_any gives_self xs) (n || list_any gives_name xs) ys
@@ -28,13 +28,13 @@ pub script-length : (texts : List (List ℕ)) → length (script texts) ≡ leng
 script-length texts = once_each-length false false (says texts) ∙ length-map texts line_of
 
 -- what stands behind some texts
-abbrev pub behind_texts : List (List ℕ) → List (List ℕ) → List Line
-behind_texts texts more = once_each (list_any gives_self (says texts)) (list_any gives_name (says texts)) (says more)
+abbrev pub lines_after : List (List ℕ) → List (List ℕ) → List Line
+lines_after texts more = once_each (list_any gives_self (says texts)) (list_any gives_name (says texts)) (says more)
 
-pub script-append : (texts more : List (List ℕ)) → script (texts ++ more) ≡ script texts ++ behind_texts texts more
+pub script-append : (texts more : List (List ℕ)) → script (texts ++ more) ≡ script texts ++ lines_after texts more
 script-append texts more = ap (once_each false false) (map-append line_of texts more) ∙ once_each-append false false (says texts) (says more)
 
-pub script-push : (texts : List (List ℕ)) (text : List ℕ) → script (texts ++ text ∷ []) ≡ script texts ++ line_behind texts text ∷ []
+pub script-push : (texts : List (List ℕ)) (text : List ℕ) → script (texts ++ text ∷ []) ≡ script texts ++ line_after texts text ∷ []
 script-push texts text = script-append texts (text ∷ [])
 
 pub says-push : (texts : List (List ℕ)) (text : List ℕ) → says (texts ++ text ∷ []) ≡ says texts ++ line_of text ∷ []
@@ -45,8 +45,8 @@ any-push p texts text =
     ap (list_any p) (map-append line_of texts (text ∷ [])) ∙ list_any-append p (says texts) (line_of text ∷ []) ∙ ap (λ b. list_any p (says texts) || b) (or-false (p (line_of text)))
 
 -- one text behind others, and then more
-pub behind-cons : (texts more : List (List ℕ)) (text : List ℕ) → behind_texts texts (text ∷ more) ≡ line_behind texts text ∷ behind_texts (texts ++ text ∷ []) more
-behind-cons texts more text = rw (any-push gives_self texts text, any-push gives_name texts text) refl
+pub suffix-cons : (texts more : List (List ℕ)) (text : List ℕ) → lines_after texts (text ∷ more) ≡ line_after texts text ∷ lines_after (texts ++ text ∷ []) more
+suffix-cons texts more text = rw (any-push gives_self texts text, any-push gives_name texts text) refl
 
 -- what asks is no second self parameter and no second name
 unless-asks : (s n : Bool) (line : Line) → asks line ≡ true → unless_second s n line ≡ line
@@ -55,24 +55,24 @@ unless-asks s n (Make maker) h = absurd (true≢false (sym h))
 unless-asks s n (Ask question) h = refl
 unless-asks s n Bad h = absurd (true≢false (sym h))
 
-pub behind_is : (texts : List (List ℕ)) (text : List ℕ) → asks (line_of text) ≡ true → line_behind texts text ≡ line_of text
-behind_is texts text h = unless-asks (list_any gives_self (says texts)) (list_any gives_name (says texts)) (line_of text) h
+pub suffix_is : (texts : List (List ℕ)) (text : List ℕ) → asks (line_of text) ≡ true → line_after texts text ≡ line_of text
+suffix_is texts text h = unless-asks (list_any gives_self (says texts)) (list_any gives_name (says texts)) (line_of text) h
 
-pub behind_question : (texts : List (List ℕ)) (text : List ℕ) (question : Question) → line_of text ≡ Ask question → line_behind texts text ≡ Ask question
-behind_question texts text question e = behind_is texts text (ap asks e) ∙ e
+pub after_question : (texts : List (List ℕ)) (text : List ℕ) (question : Question) → line_of text ≡ Ask question → line_after texts text ≡ Ask question
+after_question texts text question e = suffix_is texts text (ap asks e) ∙ e
 
 -- a bad line stays bad
-pub bad_is : (texts : List (List ℕ)) (text : List ℕ) → line_of text ≡ Bad → line_behind texts text ≡ Bad
+pub bad_is : (texts : List (List ℕ)) (text : List ℕ) → line_of text ≡ Bad → line_after texts text ≡ Bad
 bad_is texts text e = ap (unless_second (list_any gives_self (says texts)) (list_any gives_name (says texts))) e
 
 -- questions behind others stand as they are
-pub behind-asked : (texts questions more : List (List ℕ)) → list_all asks (says questions) ≡ true → behind_texts texts (questions ++ more) ≡ says questions ++ behind_texts (texts ++ questions) more
-behind-asked texts [] more h = rw (append-nil texts) refl
-behind-asked texts (text ∷ questions) more h =
-    behind-cons texts (questions ++ more) text
-    ∙ ap (λ l. l ∷ behind_texts (texts ++ text ∷ []) (questions ++ more)) (behind_is texts text (first_so _ _ h))
-    ∙ ap (λ rest. line_of text ∷ rest) (behind-asked (texts ++ text ∷ []) questions more (second_so _ _ h))
-    ∙ ap (λ front. line_of text ∷ (says questions ++ behind_texts front more)) (append_assoc texts (text ∷ []) questions)
+pub suffix-asked : (texts questions more : List (List ℕ)) → list_all asks (says questions) ≡ true → lines_after texts (questions ++ more) ≡ says questions ++ lines_after (texts ++ questions) more
+suffix-asked texts [] more h = rw (append-nil texts) refl
+suffix-asked texts (text ∷ questions) more h =
+    suffix-cons texts (questions ++ more) text
+    ∙ ap (λ l. l ∷ lines_after (texts ++ text ∷ []) (questions ++ more)) (suffix_is texts text (first_so _ _ h))
+    ∙ ap (λ rest. line_of text ∷ rest) (suffix-asked (texts ++ text ∷ []) questions more (second_so _ _ h))
+    ∙ ap (λ prefix. line_of text ∷ (says questions ++ lines_after prefix more)) (append_assoc texts (text ∷ []) questions)
 
 asks-second : (s n : Bool) (line : Line) → asks line ≡ false → asks (unless_second s n line) ≡ false
 asks-second s n Blank h = absurd (true≢false h)
@@ -85,8 +85,8 @@ asks-second s n (Make maker) h = either (is_second_of s n maker)
 asks-second s n Bad h = refl
 
 -- what is no question stays none
-pub behind-bad : (texts : List (List ℕ)) (text : List ℕ) → asks (line_of text) ≡ false → asks (line_behind texts text) ≡ false
-behind-bad texts text h = asks-second (list_any gives_self (says texts)) (list_any gives_name (says texts)) (line_of text) h
+pub suffix-bad : (texts : List (List ℕ)) (text : List ℕ) → asks (line_of text) ≡ false → asks (line_after texts text) ≡ false
+suffix-bad texts text h = asks-second (list_any gives_self (says texts)) (list_any gives_name (says texts)) (line_of text) h
 
 -- whether a self parameter and a name were given is told by what was made
 pub record Tells (parts : Parts) (texts : List (List ℕ)) : Type 0 where
@@ -94,8 +94,8 @@ pub record Tells (parts : Parts) (texts : List (List ℕ)) : Type 0 where
   pub name : is_some parts.name ≡ list_any gives_name (says texts)
 
 -- a line that makes something, behind others
-pub behind_make : (parts : Parts) (texts : List (List ℕ)) (text : List ℕ) (maker : Maker) → Tells parts texts → line_of text ≡ Make maker → line_behind texts text ≡ (if is_second parts maker then Bad else Make maker)
-behind_make parts texts text maker t e =
+pub after_make : (parts : Parts) (texts : List (List ℕ)) (text : List ℕ) (maker : Maker) → Tells parts texts → line_of text ≡ Make maker → line_after texts text ≡ (if is_second parts maker then Bad else Make maker)
+after_make parts texts text maker t e =
     ap (unless_second (list_any gives_self (says texts)) (list_any gives_name (says texts))) e
     ∙ ap (λ b. if is_second_of b (list_any gives_name (says texts)) maker then Bad else Make maker) (sym t.self_param)
     ∙ ap (λ b. if is_second_of (is_some parts.self_param) b maker then Bad else Make maker) (sym t.name)

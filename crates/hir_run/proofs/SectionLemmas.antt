@@ -3,26 +3,26 @@ use Rattle.std.proofs.Common.{◌≡◌, ◌+◌, ℕ, Bool, true, false, List, 
 use Rattle.std.specs.List.{list_all}
 use Rattle.std.proofs.lemmas.List.{length-map}
 use Rattle.hir_io.specs.Text.{lines}
-use Rattle.hir_io.proofs.ReadLemmas.{Reads-joined, ReadsAll-joined, ReadsFront-joined, ReadsUntilFailure-joined}
+use Rattle.hir_io.proofs.ReadLemmas.{ReadsLines-joined, ReadsAll-joined, ReadsPrefix-joined, ReadsUntilFailure-joined}
 use Rattle.hir_lines.specs.Line.{Line, Ask, line_of, asks, may_ask}
 use Rattle.hir_lines.specs.declared.question.Question.{Question}
 use Rattle.hir_run.specs.declared.fault.RunFault.{RunFault}
 use Rattle.hir_run.specs.declared.fault.RunFault.TheVariants.{BadLine, Refused, BodyRefused, InputFailed, OutputFailed, OutOfMemory}
-use Rattle.hir_run.specs.Output.{Output, Wrote, WroteFront}
-use Rattle.hir_run.specs.Places.{Place, unread}
-use Rattle.hir_run.specs.Program.{Outcome, Course, section, HasAnswers, says, script, script_of, line_behind}
-use Rattle.hir_run.specs.Run.{EndsWith, IsRefusedBehind}
-use Rattle.hir_run.specs.Stages.{section_from, HaveAnswers, Asks, AsksUpTo, RefusesAt}
-use Rattle.hir_run.proofs.Scripts.{behind_texts, behind-cons, behind-bad}
-use Rattle.hir_run.proofs.CourseLemmas.{BeginsOutside, no_line, outside, section_behind, all_asks, asks_not}
+use Rattle.hir_run.specs.Output.{Output, Wrote, WrotePrefix}
+use Rattle.hir_run.specs.RunStates.{RunState, unread}
+use Rattle.hir_run.specs.Program.{Outcome, Trace, section, HasAnswers, says, script, script_of, line_after}
+use Rattle.hir_run.specs.Run.{EndsWith, IsRefusedAfter}
+use Rattle.hir_run.specs.Stages.{section_from, HaveAnswers, Asks, AsksUpTo, OutOfMemoryAt}
+use Rattle.hir_run.proofs.Scripts.{lines_after, suffix-cons, suffix-bad}
+use Rattle.hir_run.proofs.TraceLemmas.{BeginsOutside, no_line, outside, section_after, all_asks, asks_not}
 use Rattle.hir_run.proofs.QuestionLemmas.{StandsAt, asked_script, refused_there}
-use Rattle.hir_run.proofs.Refusals.{refused_behind}
-use Rattle.hir_run.proofs.WritingLemmas.{Wrote-then, WroteFront-then}
+use Rattle.hir_run.proofs.Refusals.{refused_after}
+use Rattle.hir_run.proofs.WritingLemmas.{Wrote-then, WrotePrefix-then}
 
 group_again : (done texts : List (List ℕ)) (text : List ℕ) (more : List (List ℕ)) → (done ++ (texts ++ text ∷ [])) ++ more ≡ (done ++ texts) ++ (text ∷ more)
 group_again done texts text more = simp append_assoc
 
-module _ (input : List ℕ) (p : Place) (question : Question) (may : Question → Bool) (Is : Question → List ℕ → Type 0) (next : ℕ → List Line → Course) (text : List ℕ) (at : StandsAt input p question (section may Is next) text) where
+module _ (input : List ℕ) (p : RunState) (question : Question) (may : Question → Bool) (Is : Question → List ℕ → Type 0) (next : ℕ → List Line → Trace) (text : List ℕ) (at : StandsAt input p question (section may Is next) text) where
   -- the lines that were taken, up to these of the section
   abbrev taken : List (List ℕ) → List (List ℕ)
   taken texts = (at.texts ++ at.last ∷ []) ++ texts
@@ -36,68 +36,68 @@ module _ (input : List ℕ) (p : Place) (question : Question) (may : Question �
   good texts = omega (arith, at.count, length-map texts line_of)
 
   -- memory was refused at one of them, or behind them
-  refused_line : (texts : List (List ℕ)) (line : List ℕ) (count : ℕ) → RefusesAt (λ t. asks (line_of t) ≡ true) p.lines.count (unread p) texts line count →
-      (more : List (List ℕ)) × (lines input ≡ taken texts ++ more) × IsRefusedBehind (taken texts) more line count
-  refused_line texts [] count (front, counted) =
-      let joined = ReadsFront-joined (Some input) (unread p) (at.texts ++ at.last ∷ []) texts p.lines.at_end at.read front in
+  refused_line : (texts : List (List ℕ)) (line : List ℕ) (count : ℕ) → OutOfMemoryAt (λ t. asks (line_of t) ≡ true) p.lines.count (unread p) texts line count →
+      (more : List (List ℕ)) × (lines input ≡ taken texts ++ more) × IsRefusedAfter (taken texts) more line count
+  refused_line texts [] count (prefix, counted) =
+      let joined = ReadsPrefix-joined (Some input) (unread p) (at.texts ++ at.last ∷ []) texts p.lines.at_end at.read prefix in
       (joined.0, joined.1, omega (arith, counted, taken-length texts))
-  refused_line texts (b ∷ bs) count (front, counted, asked) =
-      let joined = ReadsFront-joined (Some input) (unread p) (at.texts ++ at.last ∷ []) (texts ++ (b ∷ bs) ∷ []) p.lines.at_end at.read front in
-      ((b ∷ bs) ∷ joined.0, joined.1 ∙ group_again (at.texts ++ at.last ∷ []) texts (b ∷ bs) joined.0, refused_behind (taken texts) joined.0 (b ∷ bs) count (λ e. cc) (omega (arith, counted, taken-length texts)) asked)
+  refused_line texts (b ∷ bs) count (prefix, counted, asked) =
+      let joined = ReadsPrefix-joined (Some input) (unread p) (at.texts ++ at.last ∷ []) (texts ++ (b ∷ bs) ∷ []) p.lines.at_end at.read prefix in
+      ((b ∷ bs) ∷ joined.0, joined.1 ∙ group_again (at.texts ++ at.last ∷ []) texts (b ∷ bs) joined.0, refused_after (taken texts) joined.0 (b ∷ bs) count (λ e. cc) (omega (arith, counted, taken-length texts)) asked)
 
   all_ask : (texts : List (List ℕ)) (answers : List ℕ) → HaveAnswers may Is (section_from question texts) answers → list_all asks (says texts) ≡ true
   all_ask texts answers have = all_asks may (section_from question texts) have.0
 
-  whole : (texts more : List (List ℕ)) (answers : List ℕ) → HaveAnswers may Is (section_from question texts) answers → script (taken texts ++ more) ≡ script at.texts ++ Ask question ∷ (says texts ++ behind_texts (taken texts) more)
+  whole : (texts more : List (List ℕ)) (answers : List ℕ) → HaveAnswers may Is (section_from question texts) answers → script (taken texts ++ more) ≡ script at.texts ++ Ask question ∷ (says texts ++ lines_after (taken texts) more)
   whole texts more answers have = asked_script at.texts texts more at.last question at.is (all_ask texts answers have)
 
   alone : (texts : List (List ℕ)) (answers : List ℕ) → HaveAnswers may Is (section_from question texts) answers → script (taken texts) ≡ script at.texts ++ Ask question ∷ (says texts ++ [])
   alone texts answers have = ap script (sym (append-nil (taken texts))) ∙ whole texts [] answers have
 
-  course : (texts : List (List ℕ)) (answers : List ℕ) → HaveAnswers may Is (section_from question texts) answers → (tail : List Line) (t : List ℕ) (outcome : Outcome) → BeginsOutside (may_ask may) tail → next (p.lines.count + length texts) tail t outcome → section may Is next (length at.texts) (Ask question ∷ (says texts ++ tail)) (answers ++ t) outcome
-  course texts answers have tail t outcome out c =
-      section_behind may Is next (length at.texts) (section_from question texts) tail answers t outcome have.0 have.1 out (rw (good texts) c)
+  trace : (texts : List (List ℕ)) (answers : List ℕ) → HaveAnswers may Is (section_from question texts) answers → (tail : List Line) (t : List ℕ) (outcome : Outcome) → BeginsOutside (may_ask may) tail → next (p.lines.count + length texts) tail t outcome → section may Is next (length at.texts) (Ask question ∷ (says texts ++ tail)) (answers ++ t) outcome
+  trace texts answers have tail t outcome out c =
+      section_after may Is next (length at.texts) (section_from question texts) tail answers t outcome have.0 have.1 out (rw (good texts) c)
 
   module _ (next_end : (n : ℕ) → next n [] [] (Ok tt)) (next_bad : (n : ℕ) (bad : Line) (more : List Line) → asks bad ≡ false → next n (bad ∷ more) [] (Err (BadLine (n + 1)))) where
     sound_so_far : (texts : List (List ℕ)) (answers : List ℕ) → HaveAnswers may Is (section_from question texts) answers → HasAnswers (script (taken texts)) (text ++ answers)
     sound_so_far texts answers have =
-        rw (alone texts answers have) (rw (append-nil answers) at (at.answers (says texts ++ []) (answers ++ []) (Ok tt) (course texts answers have [] [] (Ok tt) no_line (next_end _))))
+        rw (alone texts answers have) (rw (append-nil answers) at (at.answers (says texts ++ []) (answers ++ []) (Ok tt) (trace texts answers have [] [] (Ok tt) no_line (next_end _))))
 
-    module _ (start : Output) (q : Place) (w : Wrote start p.output text) where
+    module _ (start : Output) (q : RunState) (w : Wrote start p.output text) where
       wrote : (answers : List ℕ) → Wrote p.output q.output answers → Wrote start q.output (text ++ answers)
       wrote answers v = Wrote-then start p.output q.output text answers w v
 
       -- all lines were answered
-      pub section_done : AsksUpTo may Is p q question None → EndsWith input (Wrote start q.output) (WroteFront start q.output) q.remaining q.lines (Ok tt)
+      pub section_done : AsksUpTo may Is p q question None → EndsWith input (Wrote start q.output) (WrotePrefix start q.output) q.remaining q.lines (Ok tt)
       section_done (texts, (answers, have, written), all, counted) =
           let every : lines input ≡ taken texts = ReadsAll-joined (Some input) (unread p) (at.texts ++ at.last ∷ []) texts p.lines.at_end at.read all in
           let is : script_of input ≡ script at.texts ++ Ask question ∷ (says texts ++ []) = ap script every ∙ alone texts answers have in
-          let means = at.means (says texts ++ []) (answers ++ []) (Ok tt) (course texts answers have [] [] (Ok tt) no_line (next_end _)) in
+          let means = at.means (says texts ++ []) (answers ++ []) (Ok tt) (trace texts answers have [] [] (Ok tt) no_line (next_end _)) in
           (text ++ answers, rw is (rw (append-nil answers) at means), wrote answers written)
 
       -- it ends early
-      pub section_ends : (fault : RunFault) → Asks may Is p q question (Err fault) → EndsWith input (Wrote start q.output) (WroteFront start q.output) q.remaining q.lines (Err fault)
-      section_ends (BadLine n) (texts, line, (answers, have, written), bad, front, number) =
-          let joined = ReadsFront-joined (Some input) (unread p) (at.texts ++ at.last ∷ []) (texts ++ line ∷ []) p.lines.at_end at.read front in
-          let tail : List Line = line_behind (taken texts) line ∷ behind_texts (taken texts ++ line ∷ []) joined.0 in
-          let not_asked : asks (line_behind (taken texts) line) ≡ false = behind-bad (taken texts) line bad in
+      pub section_ends : (fault : RunFault) → Asks may Is p q question (Err fault) → EndsWith input (Wrote start q.output) (WrotePrefix start q.output) q.remaining q.lines (Err fault)
+      section_ends (BadLine n) (texts, line, (answers, have, written), bad, prefix, number) =
+          let joined = ReadsPrefix-joined (Some input) (unread p) (at.texts ++ at.last ∷ []) (texts ++ line ∷ []) p.lines.at_end at.read prefix in
+          let tail : List Line = line_after (taken texts) line ∷ lines_after (taken texts ++ line ∷ []) joined.0 in
+          let not_asked : asks (line_after (taken texts) line) ≡ false = suffix-bad (taken texts) line bad in
           let is : script_of input ≡ script at.texts ++ Ask question ∷ (says texts ++ tail) =
           ap script (joined.1 ∙ group_again (at.texts ++ at.last ∷ []) texts line joined.0) ∙ whole texts (line ∷ joined.0) answers have
-          ∙ ap (λ v. script at.texts ++ Ask question ∷ (says texts ++ v)) (behind-cons (taken texts) joined.0 line) in
-          let means = at.means (says texts ++ tail) (answers ++ []) (Err (BadLine (p.lines.count + length texts + 1))) (course texts answers have tail [] _ (outside (asks_not may _ not_asked)) (next_bad _ _ _ not_asked)) in
+          ∙ ap (λ v. script at.texts ++ Ask question ∷ (says texts ++ v)) (suffix-cons (taken texts) joined.0 line) in
+          let means = at.means (says texts ++ tail) (answers ++ []) (Err (BadLine (p.lines.count + length texts + 1))) (trace texts answers have tail [] _ (outside (asks_not may _ not_asked)) (next_bad _ _ _ not_asked)) in
           (text ++ answers, rw (is, number) (rw (append-nil answers) at means), wrote answers written)
       section_ends InputFailed (texts, (answers, have, written), unmet, until) =
           let joined = ReadsUntilFailure-joined (Some input) (unread p) q.remaining (at.texts ++ at.last ∷ []) texts q.lines.pending p.lines.at_end at.read unmet until in
           (taken texts, q.lines.pending, joined.0, joined.1, joined.2, text ++ answers, sound_so_far texts answers have, wrote answers written)
-      section_ends OutputFailed (texts, answers, have, front, written) =
-          let joined = ReadsFront-joined (Some input) (unread p) (at.texts ++ at.last ∷ []) texts p.lines.at_end at.read front in
-          (text ++ answers, inl (taken texts, joined.0, joined.1, sound_so_far texts answers have), WroteFront-then start p.output q.output text answers w written)
+      section_ends OutputFailed (texts, answers, have, prefix, written) =
+          let joined = ReadsPrefix-joined (Some input) (unread p) (at.texts ++ at.last ∷ []) texts p.lines.at_end at.read prefix in
+          (text ++ answers, inl (taken texts, joined.0, joined.1, sound_so_far texts answers have), WrotePrefix-then start p.output q.output text answers w written)
       section_ends OutOfMemory (inl (texts, (answers, have, written), refuses)) =
           let refused = refused_line texts q.lines.line q.lines.count refuses in
           (taken texts, refused.0, refused.1, refused.2, text ++ answers, sound_so_far texts answers have, wrote answers written)
       section_ends OutOfMemory (inr same) =
-          subst (λ (v : Place). EndsWith input (Wrote start v.output) (WroteFront start v.output) v.remaining v.lines (Err OutOfMemory)) (sym same)
-          (refused_there input p question (section may Is next) text at (Wrote start p.output) (WroteFront start p.output) p.remaining w)
+          subst (λ (v : RunState). EndsWith input (Wrote start v.output) (WrotePrefix start v.output) v.remaining v.lines (Err OutOfMemory)) (sym same)
+          (refused_there input p question (section may Is next) text at (Wrote start p.output) (WrotePrefix start p.output) p.remaining w)
       section_ends (Refused fault) a = absurd a
       section_ends (BodyRefused fault) a = absurd a
 
@@ -106,7 +106,7 @@ module _ (input : List ℕ) (p : Place) (question : Question) (may : Question �
       section_left left (refuses, inl (is, same)) =
           let handed : may question ≡ false = subst (λ (l : Question). may l ≡ false) is refuses in
           let goes : (more : List Line) (t : List ℕ) (outcome : Outcome) → next (length at.texts) (Ask question ∷ more) t outcome → section may Is next (length at.texts) (Ask question ∷ more) t outcome =
-          λ more t outcome c. section_behind may Is next (length at.texts) [] (Ask question ∷ more) [] t outcome refl refl (outside handed) (rw (add-zero (length at.texts)) c) in
+          λ more t outcome c. section_after may Is next (length at.texts) [] (Ask question ∷ more) [] t outcome refl refl (outside handed) (rw (add-zero (length at.texts)) c) in
           let stays : StandsAt input p question next text =
           record {
             texts = at.texts;
@@ -119,15 +119,15 @@ module _ (input : List ℕ) (p : Place) (question : Question) (may : Question �
             means = λ more t outcome c. at.means more t outcome (goes more t outcome c);
             answers = λ more t outcome c. at.answers more t outcome (goes more t outcome c);
           } in
-          (text, subst (λ (v : Place). StandsAt input v left next text) (sym same) (subst (λ (l : Question). StandsAt input p l next text) (sym is) stays), subst (λ (v : Place). Wrote start v.output text) (sym same) w)
+          (text, subst (λ (v : RunState). StandsAt input v left next text) (sym same) (subst (λ (l : Question). StandsAt input p l next text) (sym is) stays), subst (λ (v : RunState). Wrote start v.output text) (sym same) w)
       section_left left (refuses, inr (texts, line, (answers, have, written), here, is, read, stays, counted)) =
-          let joined = Reads-joined (Some input) (unread p) (unread q) (at.texts ++ at.last ∷ []) (texts ++ line ∷ []) p.lines.at_end q.lines.at_end at.read read stays in
+          let joined = ReadsLines-joined (Some input) (unread p) (unread q) (at.texts ++ at.last ∷ []) (texts ++ line ∷ []) p.lines.at_end q.lines.at_end at.read read stays in
           let grouped : (at.texts ++ at.last ∷ []) ++ (texts ++ line ∷ []) ≡ taken texts ++ line ∷ [] = sym (append_assoc (at.texts ++ at.last ∷ []) texts (line ∷ [])) in
           let before : (more : List Line) → script at.texts ++ Ask question ∷ (says texts ++ Ask left ∷ more) ≡ script (taken texts) ++ Ask left ∷ more =
           λ more. ap (λ v. script at.texts ++ Ask question ∷ v) (ap (λ v. v ++ Ask left ∷ more) (sym (append-nil (says texts))))
           ∙ sym (append_assoc (script at.texts) (Ask question ∷ (says texts ++ [])) (Ask left ∷ more)) ∙ ap (λ v. v ++ Ask left ∷ more) (sym (alone texts answers have)) in
           let goes : (more : List Line) (t : List ℕ) (outcome : Outcome) → next (length (taken texts)) (Ask left ∷ more) t outcome → section may Is next (length at.texts) (Ask question ∷ (says texts ++ Ask left ∷ more)) (answers ++ t) outcome =
-          λ more t outcome c. course texts answers have (Ask left ∷ more) t outcome (outside refuses) (rw (taken-length texts) at c) in (
+          λ more t outcome c. trace texts answers have (Ask left ∷ more) t outcome (outside refuses) (rw (taken-length texts) at c) in (
             text ++ answers,
             record {
               texts = taken texts;

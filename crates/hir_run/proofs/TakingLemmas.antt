@@ -6,11 +6,11 @@ use Rattle.hir_lines.specs.Makers as make
 use Rattle.hir_lines.specs.Taking.{with_line as with_text}
 use Rattle.hir_lines.specs.declared.question.Question.{Question}
 use Rattle.hir_run.specs.declared.body_builder.BodyBuilder as code
-use Rattle.hir_run.specs.Parts.{parts_of, with_line, with_maker, is_second}
+use Rattle.hir_run.specs.Parts.{builder_parts, with_line, with_maker, is_second}
 use Rattle.hir_run.specs.Stages.{MakesOrLeaves}
 
 -- the code has what the line makes
-made_with : (m : code.BodyBuilder) (maker : Maker) → parts_of (with_maker m maker) ≡ with_line (parts_of m) maker
+made_with : (m : code.BodyBuilder) (maker : Maker) → builder_parts (with_maker m maker) ≡ with_line (builder_parts m) maker
 made_with m (make.Binding binding) = refl
 made_with m (make.Pat pat) = refl
 made_with m (make.TypeRef type_ref) = refl
@@ -32,12 +32,12 @@ one_more old new maker false e = (refl, cc)
 
 -- a line that was taken is empty or makes something; another one is left
 pub made_or_left : (line : Line) (old new : code.BodyBuilder) (is_taken : Bool) → (is_taken ≡ true → with_line_of old line ≡ Some new) → (is_taken ≡ false → (new ≡ old) × (makes line ≡ false)) →
-    MakesOrLeaves line (parts_of old) (parts_of new) is_taken
-made_or_left line old new false here left = ((left refl).1, ap parts_of (left refl).0)
-made_or_left Blank old new true here left = let e = here refl in let same : new ≡ old = cc in inl (refl, ap parts_of same)
+    MakesOrLeaves line (builder_parts old) (builder_parts new) is_taken
+made_or_left line old new false here left = ((left refl).1, ap builder_parts (left refl).0)
+made_or_left Blank old new true here left = let e = here refl in let same : new ≡ old = cc in inl (refl, ap builder_parts same)
 made_or_left (Make maker) old new true here left =
-    let found = one_more old new maker (is_second (parts_of old) maker) (here refl) in
-    inr (maker, refl, found.0, ap parts_of found.1 ∙ made_with old maker)
+    let found = one_more old new maker (is_second (builder_parts old) maker) (here refl) in
+    inr (maker, refl, found.0, ap builder_parts found.1 ∙ made_with old maker)
 made_or_left (Ask question) old new true here left = let e = here refl in cc
 made_or_left Bad old new true here left = let e = here refl in cc
 
@@ -47,9 +47,9 @@ second_so old maker false e = cc
 
 -- one that is refused is bad, or gives a second self parameter or name
 pub no_line : (line : Line) (old : code.BodyBuilder) → asks line ≡ false → with_line_of old line ≡ None →
-    (line ≡ Bad) ⊎ ((maker : Maker) × (line ≡ Make maker) × (is_second (parts_of old) maker ≡ true))
+    (line ≡ Bad) ⊎ ((maker : Maker) × (line ≡ Make maker) × (is_second (builder_parts old) maker ≡ true))
 no_line Blank old asked e = cc
-no_line (Make maker) old asked e = inr (maker, refl, second_so old maker (is_second (parts_of old) maker) e)
+no_line (Make maker) old asked e = inr (maker, refl, second_so old maker (is_second (builder_parts old) maker) e)
 no_line (Ask question) old asked e = absurd (true≢false asked)
 no_line Bad old asked e = inl refl
 
@@ -59,9 +59,9 @@ first_so old maker false e = refl
 
 -- or memory was refused to it: it makes something, and isn't second
 pub no_memory : (line : Line) (old : code.BodyBuilder) → asks line ≡ false → (with_line_of old line ≡ None → ⊥) →
-    (maker : Maker) × (line ≡ Make maker) × (is_second (parts_of old) maker ≡ false)
+    (maker : Maker) × (line ≡ Make maker) × (is_second (builder_parts old) maker ≡ false)
 no_memory Blank old asked e = absurd (true≢false asked)
-no_memory (Make maker) old asked e = (maker, refl, first_so old maker (is_second (parts_of old) maker) e)
+no_memory (Make maker) old asked e = (maker, refl, first_so old maker (is_second (builder_parts old) maker) e)
 no_memory (Ask question) old asked e = absurd (true≢false asked)
 no_memory Bad old asked e = absurd (e refl)
 

@@ -4,8 +4,8 @@ use Rattle.std.proofs.lemmas.Grind.{flat_map-append}
 use Rattle.std.proofs.lemmas.List.{take_more}
 use Rattle.std.specs.Io.KnownBytes.{Appends}
 use Rattle.hir_io.specs.declared.ends.Sink.{Ghosts}
-use Rattle.hir_io.specs.Ends.{GrowsByFront, IsWrittenUpTo}
-use Rattle.hir_io.proofs.EndLemmas.{Appends-twice, GrowsByFront-after, GrowsByFront-more, IsWrittenUpTo-start}
+use Rattle.hir_io.specs.Effects.{AppendsPrefix, IsWrittenUpTo}
+use Rattle.hir_io.proofs.EndLemmas.{Appends-twice, AppendsPrefix-after, AppendsPrefix-more, IsWrittenUpTo-start}
 use Rattle.hir_scope.specs.declared.scope.ScopeEntry.{ScopeEntry}
 use Rattle.hir_scope.specs.Paths.{frame_at}
 use Rattle.hir_scope.specs.Scopes.{Scope}
@@ -13,7 +13,7 @@ use Rattle.hir_scope.specs.Frames.{Frame}
 use Rattle.hir_scope.specs.Resolution.{entries_of}
 use Rattle.hir_run.specs.Answer.{answer_line, after_spaces, entry_text, names_text}
 use Rattle.hir_run.specs.declared.output.Output as code
-use Rattle.hir_run.specs.Output.{Output, Wrote, WroteFront, PutsBy, Puts, output_of}
+use Rattle.hir_run.specs.Output.{Output, Wrote, WrotePrefix, PutsBy, OutputsText, output_of}
 
 pub Wrote-none : (a : Output) → Wrote a a []
 Wrote-none a = rw (append-nil a.waiting) (IsWrittenUpTo-start a.contents a.waiting)
@@ -23,14 +23,14 @@ pub Wrote-then : (a b c : Output) (text more : List ℕ) → Wrote a b text → 
 Wrote-then a b c text more w v =
     (w.0 ++ v.0, sym (append_assoc a.waiting text more) ∙ ap (λ x. x ++ more) w.1 ∙ append_assoc w.0 b.waiting more ∙ ap (λ x. w.0 ++ x) v.1 ∙ sym (append_assoc w.0 v.0 c.waiting), Appends-twice a.contents b.contents c.contents w.0 v.0 w.2 v.2)
 
-pub WroteFront-then : (a b c : Output) (text more : List ℕ) → Wrote a b text → WroteFront b c more → WroteFront a c (text ++ more)
-WroteFront-then a b c text more w g =
+pub WrotePrefix-then : (a b c : Output) (text more : List ℕ) → Wrote a b text → WrotePrefix b c more → WrotePrefix a c (text ++ more)
+WrotePrefix-then a b c text more w g =
     let regrouped : w.0 ++ (b.waiting ++ more) ≡ a.waiting ++ (text ++ more) = sym (append_assoc w.0 b.waiting more) ∙ ap (λ x. x ++ more) (sym w.1) ∙ append_assoc a.waiting text more in
-    (subst (λ (x : List ℕ). GrowsByFront a.contents c.contents x) regrouped (GrowsByFront-after a.contents b.contents c.contents w.0 (b.waiting ++ more) w.2 g.0), g.1)
+    (subst (λ (x : List ℕ). AppendsPrefix a.contents c.contents x) regrouped (AppendsPrefix-after a.contents b.contents c.contents w.0 (b.waiting ++ more) w.2 g.0), g.1)
 
-WroteFront-more : (a b : Output) (text more : List ℕ) → WroteFront a b text → WroteFront a b (text ++ more)
-WroteFront-more a b text more g =
-    (subst (λ (x : List ℕ). GrowsByFront a.contents b.contents x) (append_assoc a.waiting text more) (GrowsByFront-more a.contents b.contents (a.waiting ++ text) more g.0), g.1)
+WrotePrefix-more : (a b : Output) (text more : List ℕ) → WrotePrefix a b text → WrotePrefix a b (text ++ more)
+WrotePrefix-more a b text more g =
+    (subst (λ (x : List ℕ). AppendsPrefix a.contents b.contents x) (append_assoc a.waiting text more) (AppendsPrefix-more a.contents b.contents (a.waiting ++ text) more g.0), g.1)
 
 -- some of what waited was written
 pub rest_waits : (a b c : Output) (text : List ℕ) → Wrote a b text → IsWrittenUpTo b.contents c.contents b.waiting c.waiting → Wrote a c text
@@ -44,13 +44,13 @@ all_written b c a none =
     (b.waiting, subst (λ (x : List ℕ). b.waiting ≡ b.waiting ++ x) (sym none) (sym (append-nil b.waiting)), a)
 
 -- or a front of it
-pub cut : (a b c : Output) (text : List ℕ) → Wrote a b text → GrowsByFront b.contents c.contents b.waiting → c.waiting ≡ [] → WroteFront a c text
+pub cut : (a b c : Output) (text : List ℕ) → Wrote a b text → AppendsPrefix b.contents c.contents b.waiting → c.waiting ≡ [] → WrotePrefix a c text
 cut a b c text w g none =
-    subst (λ (x : List ℕ). WroteFront a c x) (append-nil text)
-    (WroteFront-then a b c text [] w (subst (λ (x : List ℕ). GrowsByFront b.contents c.contents x) (sym (append-nil b.waiting)) g, none))
+    subst (λ (x : List ℕ). WrotePrefix a c x) (append-nil text)
+    (WrotePrefix-then a b c text [] w (subst (λ (x : List ℕ). AppendsPrefix b.contents c.contents x) (sym (append-nil b.waiting)) g, none))
 
 -- two pieces, one behind the other
-pub put_then : {W : Type 0} (w : Ghosts W) (old mid new : code.Output W) (text more : List ℕ) → Puts w old mid text → Puts w mid new more → Puts w old new (text ++ more)
+pub put_then : {W : Type 0} (w : Ghosts W) (old mid new : code.Output W) (text more : List ℕ) → OutputsText w old mid text → OutputsText w mid new more → OutputsText w old new (text ++ more)
 put_then w old mid new text more p q =
     (q.0 ∙ p.0, by (output_of w old).failed (output_of w mid).failed (output_of w new).failed p.1 q.1)
   where
@@ -58,17 +58,17 @@ put_then w old mid new text more p q =
     by true true h p q = (q.0, q.1 ∙ p.1, q.2 ∙ p.2)
     by true false h p q = cc
     by false false false p q = Wrote-then (output_of w old) (output_of w mid) (output_of w new) text more p q
-    by false false true p q = WroteFront-then (output_of w old) (output_of w mid) (output_of w new) text more p q
+    by false false true p q = WrotePrefix-then (output_of w old) (output_of w mid) (output_of w new) text more p q
     by false true true p q =
-        let grows = WroteFront-more (output_of w old) (output_of w mid) text more p in
-        (subst (λ (v : Option (List ℕ)). GrowsByFront (output_of w old).contents v (old.waiting ++ (text ++ more))) (sym q.1) grows.0, q.2 ∙ grows.1)
+        let grows = WrotePrefix-more (output_of w old) (output_of w mid) text more p in
+        (subst (λ (v : Option (List ℕ)). AppendsPrefix (output_of w old).contents v (old.waiting ++ (text ++ more))) (sym q.1) grows.0, q.2 ∙ grows.1)
     by false true false p q = cc
 
 -- the line of an answer
-pub put_line : {W : Type 0} (w : Ghosts W) (old front back new : code.Output W) (word : List ℕ) (expr : ℕ) (known : List ℕ) → Puts w old front (word ++ decimal expr) → Puts w front back known → Puts w back new (codes "\n") → Puts w old new (answer_line word expr known)
-put_line w old front back new word expr known p q r = put_then w old back new (word ++ decimal expr ++ known) (codes "\n") (put_then w old front back (word ++ decimal expr) known p q) r
+pub put_line : {W : Type 0} (w : Ghosts W) (old prefix back new : code.Output W) (word : List ℕ) (expr : ℕ) (known : List ℕ) → OutputsText w old prefix (word ++ decimal expr) → OutputsText w prefix back known → OutputsText w back new (codes "\n") → OutputsText w old new (answer_line word expr known)
+put_line w old prefix back new word expr known p q r = put_then w old back new (word ++ decimal expr ++ known) (codes "\n") (put_then w old prefix back (word ++ decimal expr) known p q) r
 
-pub put_none : {W : Type 0} (w : Ghosts W) (old : code.Output W) → Puts w old old []
+pub put_none : {W : Type 0} (w : Ghosts W) (old : code.Output W) → OutputsText w old old []
 put_none w old = (refl, by (output_of w old).failed)
   where
     by : (f : Bool) → PutsBy f f (output_of w old) (output_of w old) []
@@ -79,7 +79,7 @@ put_none w old = (refl, by (output_of w old).failed)
 spaced-more : (numbers : List ℕ) (n : ℕ) → after_spaces (numbers ++ n ∷ []) ≡ after_spaces numbers ++ (32 ∷ decimal n)
 spaced-more numbers n = flat_map-append (λ n. 32 ∷ decimal n) numbers (n ∷ []) ∙ ap (λ v. after_spaces numbers ++ v) (append-nil (32 ∷ decimal n))
 
-pub spaced_then : {W : Type 0} (w : Ghosts W) (old mid new : code.Output W) (numbers : List ℕ) (n : ℕ) → Puts w old mid (after_spaces numbers) → Puts w mid new (32 ∷ decimal n) → Puts w old new (after_spaces (numbers ++ n ∷ []))
+pub spaced_then : {W : Type 0} (w : Ghosts W) (old mid new : code.Output W) (numbers : List ℕ) (n : ℕ) → OutputsText w old mid (after_spaces numbers) → OutputsText w mid new (32 ∷ decimal n) → OutputsText w old new (after_spaces (numbers ++ n ∷ []))
 spaced_then w old mid new numbers n p q = rw (spaced-more numbers n) (put_then w old mid new (after_spaces numbers) (32 ∷ decimal n) p q)
 
 -- one number more of a list

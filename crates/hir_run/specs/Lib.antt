@@ -3,7 +3,7 @@ pub mod Answer
 pub mod OfLines
 pub mod Printing
 pub mod Output
-pub mod Places
+pub mod RunStates
 pub mod Program
 pub mod Outcomes
 pub mod Run

@@ -4,16 +4,16 @@ use Rattle.hir_run.specs.declared.fault.RunFault.{RunFault}
 use Rattle.hir_run.specs.declared.fault.RunFault.TheVariants.{BadLine, Refused, BodyRefused, InputFailed, OutputFailed, OutOfMemory}
 
 -- one fact where it is done, where a line is bad, where what was made is refused, where a read or a write failed, where memory was refused
-abbrev pub Ends : {X : Type 0} → (X → Type 0) → (ℕ → Type 0) → (RunFault → Type 0) → Type 0 → Type 0
+abbrev pub Outcomes : {X : Type 0} → (X → Type 0) → (ℕ → Type 0) → (RunFault → Type 0) → Type 0 → Type 0
     → Type 0 →
     Result X RunFault → Type 0
-Ends done bad refused input output memory (Ok x) = done x
-Ends done bad refused input output memory (Err (BadLine number)) = bad number
-Ends done bad refused input output memory (Err (Refused fault)) = refused (Refused fault)
-Ends done bad refused input output memory (Err (BodyRefused fault)) = refused (BodyRefused fault)
-Ends done bad refused input output memory (Err InputFailed) = input
-Ends done bad refused input output memory (Err OutputFailed) = output
-Ends done bad refused input output memory (Err OutOfMemory) = memory
+Outcomes done bad refused input output memory (Ok x) = done x
+Outcomes done bad refused input output memory (Err (BadLine number)) = bad number
+Outcomes done bad refused input output memory (Err (Refused fault)) = refused (Refused fault)
+Outcomes done bad refused input output memory (Err (BodyRefused fault)) = refused (BodyRefused fault)
+Outcomes done bad refused input output memory (Err InputFailed) = input
+Outcomes done bad refused input output memory (Err OutputFailed) = output
+Outcomes done bad refused input output memory (Err OutOfMemory) = memory
 
 abbrev pub is_input_failed : {X : Type 0} → Result X RunFault → Bool
 is_input_failed (Ok x) = false

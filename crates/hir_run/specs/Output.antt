@@ -2,7 +2,7 @@
 use Rattle.std.specs.Prelude.{◌≡◌, ℕ, List, [], ◌++◌, Option, Bool, true, false}
 use Rattle.std.specs.Borrow.{GName}
 use Rattle.hir_io.specs.declared.ends.Sink.{Ghosts}
-use Rattle.hir_io.specs.Ends.{GrowsByFront, IsWrittenUpTo}
+use Rattle.hir_io.specs.Effects.{AppendsPrefix, IsWrittenUpTo}
 use Rattle.hir_run.specs.declared.output.Output as code
 
 -- which sink it has, what the sink tells, whether a write has failed, and what waits to be written
@@ -26,22 +26,22 @@ abbrev pub Wrote : Output → Output → List ℕ → Type 0
 Wrote old new text = IsWrittenUpTo old.contents new.contents (old.waiting ++ text) new.waiting
 
 -- a write failed: a front of it was written, and nothing waits
-abbrev pub WroteFront : Output → Output → List ℕ → Type 0
-WroteFront old new text = GrowsByFront old.contents new.contents (old.waiting ++ text) × (new.waiting ≡ [])
+abbrev pub WrotePrefix : Output → Output → List ℕ → Type 0
+WrotePrefix old new text = AppendsPrefix old.contents new.contents (old.waiting ++ text) × (new.waiting ≡ [])
 
 -- by whether a write had failed before, and has failed now: nothing more is written to a sink that has failed
 abbrev pub PutsBy : Bool → Bool → Output → Output → List ℕ → Type 0
 PutsBy true failed old new text =
     (failed ≡ true) × (new.contents ≡ old.contents) × (new.waiting ≡ old.waiting)
 PutsBy false false old new text = Wrote old new text
-PutsBy false true old new text = WroteFront old new text
+PutsBy false true old new text = WrotePrefix old new text
 
 abbrev pub PutsText : Output → Output → List ℕ → Type 0
 PutsText old new text = (new.sink_name ≡ old.sink_name) × PutsBy old.failed new.failed old new text
 
 -- text is put behind what waits
-abbrev pub Puts : {W : Type 0} → Ghosts W → code.Output W → code.Output W → List ℕ → Type 0
-Puts w old new text = PutsText (output_of w old) (output_of w new) text
+abbrev pub OutputsText : {W : Type 0} → Ghosts W → code.Output W → code.Output W → List ℕ → Type 0
+OutputsText w old new text = PutsText (output_of w old) (output_of w new) text
 
 -- nothing is put
 abbrev pub Untouched : {W : Type 0} → Ghosts W → code.Output W → code.Output W → Type 0

@@ -34,8 +34,8 @@ no_parts = record {
 }
 
 -- what the code holds
-abbrev pub parts_of : code.BodyBuilder → Parts
-parts_of m =
+abbrev pub builder_parts : code.BodyBuilder → Parts
+builder_parts m =
     record { built = building_of m.builder; self_param = m.self_param; params = m.params; name = m.name }
 
 -- the same with other nodes; with other roots

@@ -7,12 +7,12 @@ use Rattle.hir_base.specs.declared.defs.NamedDef.TheVariants as named
 use Rattle.hir_defs.specs.Lookups.{Tables}
 use Rattle.hir_defs.specs.NoTables.{no_tables}
 use Rattle.hir_items.specs.Bodies.{BodyContents}
-use Rattle.hir_printer.specs.Answers.{answers}
-use Rattle.hir_printer.specs.Pieces.{NodePiece, text_of}
-use Rattle.hir_printer.specs.Questions.{Setting}
-use Rattle.hir_printer.specs.Settings.{setting}
-use Rattle.hir_printer.specs.Pieces.{item_list_pieces}
-use Rattle.hir_pretty.specs.Bodies.{body_items}
+use Rattle.hir_printer.specs.TableLookups.{lookups_of}
+use Rattle.hir_printer.specs.DocPieces.{DocPiece, text_of}
+use Rattle.hir_printer.specs.NameLookups.{PrintEnv}
+use Rattle.hir_printer.specs.PrintEnvs.{print_env}
+use Rattle.hir_printer.specs.DocPieces.{doc_list_pieces}
+use Rattle.hir_pretty.specs.Bodies.{body_docs}
 use Rattle.hir_pretty.specs.FoundParts.{parents}
 
 -- the tables have the name of function 0, or that it has none, and nothing else
@@ -20,12 +20,12 @@ abbrev pub tables_of : Option (List ℕ) → Tables
 tables_of name = record no_tables { names = map.insert map.empty (named_code (named.FunctionId 0)) name }
 
 -- the body's store, these tables, no raw words, and lines
-abbrev pub printed_from : Option (List ℕ) → BodyContents → Setting
-printed_from name b = setting b.store (answers (tables_of name)) [] false
+abbrev pub printed_from : Option (List ℕ) → BodyContents → PrintEnv
+printed_from name b = print_env b.store (lookups_of (tables_of name)) [] false
 
-abbrev pub body_pieces : Option (List ℕ) → BodyContents → List NodePiece
+abbrev pub body_pieces : Option (List ℕ) → BodyContents → List DocPiece
 body_pieces name b =
-    item_list_pieces (printed_from name b) (body_items (printed_from name b) (parents (tables_of name))
+    doc_list_pieces (printed_from name b) (body_docs (printed_from name b) (parents (tables_of name))
     (body.FunctionId 0) b)
 
 -- the text of the body

@@ -20,41 +20,41 @@ is_of_store (OfStore question) = true
 is_of_store (OfBody question) = false
 
 -- the elements before the first that fails the test, and the elements from it on
-abbrev pub front : {X : Type 0} → (X → Bool) → List X → List X
-front p [] = []
-front p (x ∷ xs) = if p x then x ∷ front p xs else []
+abbrev pub prefix : {X : Type 0} → (X → Bool) → List X → List X
+prefix p [] = []
+prefix p (x ∷ xs) = if p x then x ∷ prefix p xs else []
 
-abbrev pub behind : {X : Type 0} → (X → Bool) → List X → List X
-behind p [] = []
-behind p (x ∷ xs) = if p x then behind p xs else x ∷ xs
+abbrev pub suffix : {X : Type 0} → (X → Bool) → List X → List X
+suffix p [] = []
+suffix p (x ∷ xs) = if p x then suffix p xs else x ∷ xs
 
 -- how a run goes: what is written, and how it ends
 abbrev pub Outcome : Type 0
 Outcome = Result (Unit {0}) RunFault
 
-abbrev pub Course : Type 1
-Course = List ℕ → Outcome → Type 0
+abbrev pub Trace : Type 1
+Trace = List ℕ → Outcome → Type 0
 
 -- this is written, and the run ends in this way
-abbrev pub writes : List ℕ → Outcome → Course
+abbrev pub writes : List ℕ → Outcome → Trace
 writes bytes end text outcome = (text ≡ bytes) × (outcome ≡ end)
 
 -- one course or another
-abbrev pub if_so : Bool → Course → Course → Course
-if_so true course other = course
-if_so false course other = other
+abbrev pub if_so : Bool → Trace → Trace → Trace
+if_so true trace other = trace
+if_so false trace other = other
 
 -- after this many good lines comes one that may not come there, or no line
-abbrev pub stops : ℕ → List Line → Course
+abbrev pub stops : ℕ → List Line → Trace
 stops good [] = writes [] (Ok tt)
 stops good (bad ∷ rest) = writes [] (Err (BadLine (good + 1)))
 
 -- the run ends with the first fault, if there is one; else it goes on
-abbrev pub fault_or : {F : Type 0} → (F → RunFault) → Course → Option F → Course
+abbrev pub fault_or : {F : Type 0} → (F → RunFault) → Trace → Option F → Trace
 fault_or refusal next None = next
 fault_or refusal next (Some fault) = writes [] (Err (refusal fault))
 
-abbrev pub unless_refused : {F : Type 0} → (Option F → Type 0) → (F → RunFault) → Course → Course
+abbrev pub unless_refused : {F : Type 0} → (Option F → Type 0) → (F → RunFault) → Trace → Trace
 unless_refused {F} verdict refusal next text outcome =
     (fault : Option F) × verdict fault × fault_or refusal next fault text outcome
 
@@ -72,39 +72,39 @@ AreAnswers Is (line ∷ rest) text =
     (first more : List ℕ) × IsLineAnswer Is line first × AreAnswers Is rest more × (text ≡ first ++ more)
 
 -- A section of questions, after this many good lines: those that may be asked are answered, as far as they come. Then the run goes on
-abbrev pub section : (Question → Bool) → (Question → List ℕ → Type 0) → (ℕ → List Line → Course) → ℕ
-    → List Line → Course
+abbrev pub section : (Question → Bool) → (Question → List ℕ → Type 0) → (ℕ → List Line → Trace) → ℕ
+    → List Line → Trace
 section may Is next good script text outcome =
-    (answers more : List ℕ) × AreAnswers Is (front (may_ask may) script) answers
-    × next (good + length (front (may_ask may) script)) (behind (may_ask may) script) more outcome
+    (answers more : List ℕ) × AreAnswers Is (prefix (may_ask may) script) answers
+    × next (good + length (prefix (may_ask may) script)) (suffix (may_ask may) script) more outcome
     × (text ≡ answers ++ more)
 
 -- the section from the first question on the body on: the first fault of the body's parts is looked for, and any question is answered
-abbrev pub on_body : Parts → ℕ → List Line → Course
+abbrev pub on_body : Parts → ℕ → List Line → Trace
 on_body parts good script =
     unless_refused (body_fault (body_parts parts)) BodyRefused
     (section any_question (IsAnswer parts.name (body_parts parts)) stops good script)
 
-abbrev pub behind_store : Parts → ℕ → List Line → Course
-behind_store parts good [] = stops good []
-behind_store parts good (line ∷ rest) =
+abbrev pub after_store : Parts → ℕ → List Line → Trace
+after_store parts good [] = stops good []
+after_store parts good (line ∷ rest) =
     if_so (asks line) (on_body parts good (line ∷ rest)) (stops good (line ∷ rest))
 
 -- the section from the first question on: the builder's first fault is looked for, and questions on the store are answered
-abbrev pub on_store : Parts → ℕ → List Line → Course
+abbrev pub on_store : Parts → ℕ → List Line → Trace
 on_store parts good script =
     unless_refused (finish_fault parts.built) Refused
-    (section is_of_store (IsStoreAnswer (contents_of parts.built)) (behind_store parts) good script)
+    (section is_of_store (IsStoreAnswer (contents_of parts.built)) (after_store parts) good script)
 
 -- behind the lines that make something: this is the course where no line is left
-abbrev pub behind_making : Course → Parts → ℕ → List Line → Course
-behind_making idle parts good [] = idle
-behind_making idle parts good (line ∷ rest) =
+abbrev pub after_making : Trace → Parts → ℕ → List Line → Trace
+after_making idle parts good [] = idle
+after_making idle parts good (line ∷ rest) =
     if_so (asks line) (on_store parts good (line ∷ rest)) (stops good (line ∷ rest))
 
 -- the lines before the first question
 unfoldable pub making : List Line → List Line
-making script = front makes script
+making script = prefix makes script
 
 abbrev pub maker_of : Line → Option Maker
 maker_of Blank = None
@@ -121,20 +121,20 @@ abbrev pub first_parts : List Line → Parts
 first_parts script = built_by (making script)
 
 -- the course of a script, where this is the course of one without a question and without a bad line
-unfoldable pub Runs : Course → List Line → Course
-Runs idle script = behind_making idle (first_parts script) (length (making script)) (behind makes script)
+unfoldable pub ScriptRuns : Trace → List Line → Trace
+ScriptRuns idle script = after_making idle (first_parts script) (length (making script)) (suffix makes script)
 
 -- without a question the builder's first fault is looked for at the end
-abbrev pub accepts : Parts → Course
+abbrev pub accepts : Parts → Trace
 accepts parts = unless_refused (finish_fault parts.built) Refused (writes (codes "accepted\n") (Ok tt))
 
 -- the text that a script has written, and its outcome
-abbrev pub IsMeaning : List Line → Course
-IsMeaning script = Runs (accepts (first_parts script)) script
+abbrev pub IsMeaning : List Line → Trace
+IsMeaning script = ScriptRuns (accepts (first_parts script)) script
 
 -- no fault comes in these lines, and this is the text of their answers; what comes after them is not looked at
 abbrev pub HasAnswers : List Line → List ℕ → Type 0
-HasAnswers script text = Runs (writes [] (Ok tt)) script text (Ok tt)
+HasAnswers script text = ScriptRuns (writes [] (Ok tt)) script text (Ok tt)
 
 -- whether a line gives the self parameter: it would be a second one where there was one before. And whether it gives the name
 abbrev pub gives_self : Line → Bool
@@ -171,8 +171,8 @@ abbrev pub script : List (List ℕ) → List Line
 script texts = once_each false false (says texts)
 
 -- what a text says behind these
-abbrev pub line_behind : List (List ℕ) → List ℕ → Line
-line_behind texts text =
+abbrev pub line_after : List (List ℕ) → List ℕ → Line
+line_after texts text =
     unless_second (list_any gives_self (says texts)) (list_any gives_name (says texts)) (line_of text)
 
 -- whether a line may come behind these: one that asks, or one that makes something where only such lines came before

@@ -3,12 +3,12 @@ use Rattle.std.specs.Prelude.{◌≡◌, ◌⊎◌, ℕ, ◌+◌, true, false, L
 use Rattle.std.specs.Io.KnownBytes.{Appends}
 use Rattle.hir_io.specs.declared.ends.Source as source
 use Rattle.hir_io.specs.declared.ends.Sink as sink
-use Rattle.hir_io.specs.Ends.{GrowsByFront}
+use Rattle.hir_io.specs.Effects.{AppendsPrefix}
 use Rattle.hir_io.specs.LineState.{LineState}
 use Rattle.hir_io.specs.Text.{lines, IsCutShort}
 use Rattle.hir_run.specs.declared.fault.RunFault.TheVariants.{BadLine}
-use Rattle.hir_run.specs.Outcomes.{Ends, is_input_failed, is_output_failed}
-use Rattle.hir_run.specs.Program.{Outcome, script, script_of, line_behind, may_come, IsMeaning, HasAnswers}
+use Rattle.hir_run.specs.Outcomes.{Outcomes, is_input_failed, is_output_failed}
+use Rattle.hir_run.specs.Program.{Outcome, script, script_of, line_after, may_come, IsMeaning, HasAnswers}
 
 -- the program's own output and ending. What it means that a text was written is defined elsewhere
 abbrev pub IsComplete : List ℕ → (List ℕ → Type 0) → Outcome → Type 0
@@ -28,39 +28,40 @@ AreFirstAnswers input text =
 
 -- a write failed: a front is written of the answers of some first lines, or of the whole output
 abbrev pub IsOutputCutShort : List ℕ → (List ℕ → Type 0) → Type 0
-IsOutputCutShort input WroteFront =
+IsOutputCutShort input WrotePrefix =
     (text : List ℕ)
     × (AreFirstAnswers input text ⊎ ((outcome : Outcome) × IsMeaning (script_of input) text outcome))
-    × WroteFront text
+    × WrotePrefix text
 
 -- These are the lines before the one at which memory was refused, by the line taken last and the number of those taken. It was refused at
 -- that line, which may come there; or, where none was taken last since the next was being read or the input had ended, behind all of them
-abbrev pub IsRefusedBehind : List (List ℕ) → List (List ℕ) → List ℕ → ℕ → Type 0
-IsRefusedBehind texts more [] count = count ≡ length texts
-IsRefusedBehind texts more (b ∷ bs) count =
+abbrev pub IsRefusedAfter : List (List ℕ) → List (List ℕ) → List ℕ → ℕ → Type 0
+IsRefusedAfter texts more [] count = count ≡ length texts
+IsRefusedAfter texts more (b ∷ bs) count =
     (count ≡ length texts + 1) × (rest : List (List ℕ)) × (more ≡ (b ∷ bs) ∷ rest)
-    × (may_come (script texts) (line_behind texts (b ∷ bs)) ≡ true)
+    × (may_come (script texts) (line_after texts (b ∷ bs)) ≡ true)
 
 -- memory was refused at some line: the answers of all lines before it are written, and no fault comes in these
 abbrev pub IsWithoutMemory : List ℕ → (List ℕ → Type 0) → LineState → Type 0
 IsWithoutMemory input Wrote taken =
     (texts more : List (List ℕ)) × (lines input ≡ texts ++ more)
-    × IsRefusedBehind texts more taken.line taken.count
+    × IsRefusedAfter texts more taken.line taken.count
     × (text : List ℕ) × HasAnswers (script texts) text × Wrote text
 
 -- how a run over this input ends, where these lines were taken
 abbrev pub EndsWith : List ℕ → (List ℕ → Type 0) → (List ℕ → Type 0) → Option (List ℕ) → LineState
     → Outcome → Type 0
-EndsWith input Wrote WroteFront remaining taken outcome =
-    Ends (λ done. IsComplete input Wrote (Ok done)) (λ number. IsComplete input Wrote (Err (BadLine number)))
+EndsWith input Wrote WrotePrefix remaining taken outcome =
+    Outcomes (λ done. IsComplete input Wrote (Ok done))
+    (λ number. IsComplete input Wrote (Err (BadLine number)))
     (λ fault. IsComplete input Wrote (Err fault)) (IsInputCutShort input Wrote remaining)
-    (IsOutputCutShort input WroteFront) (IsWithoutMemory input Wrote taken) outcome
+    (IsOutputCutShort input WrotePrefix) (IsWithoutMemory input Wrote taken) outcome
 
 -- what a run does over the bytes that its source tells, where these lines were taken, to those that its sink tells
 abbrev pub RunsTo : Option (List ℕ) → Option (List ℕ) → Option (List ℕ) → Option (List ℕ) → LineState
     → Outcome → Type 0
 RunsTo known old remaining new taken outcome =
-    IfSome known (λ input. EndsWith input (Appends old new) (GrowsByFront old new) remaining taken outcome)
+    IfSome known (λ input. EndsWith input (Appends old new) (AppendsPrefix old new) remaining taken outcome)
 
 -- a reader of lines that has taken none
 abbrev pub no_lines : LineState

@@ -3,8 +3,8 @@ use Rattle.std.specs.Prelude.{◌≡◌, ◌≢◌, ◌⊎◌, ℕ, ◌+◌, Boo
 use Rattle.std.specs.Io.KnownBytes.{Appends}
 use Rattle.std.specs.List.{list_all}
 use Rattle.hir_io.specs.LineState.{LineState}
-use Rattle.hir_io.specs.Reads.{Reads, ReadsAll, ReadsFront, ReadsUntilFailure}
-use Rattle.hir_io.specs.Ends.{GrowsByFront}
+use Rattle.hir_io.specs.Reads.{ReadsLines, ReadsAll, ReadsPrefix, ReadsUntilFailure}
+use Rattle.hir_io.specs.Effects.{AppendsPrefix}
 use Rattle.hir_lines.specs.Line.{Line, Blank, Make, Ask, Bad, asks, line_of, makes, may_ask}
 use Rattle.hir_lines.specs.Makers.{Maker}
 use Rattle.hir_lines.specs.Taking.{line_asked}
@@ -17,11 +17,11 @@ use Rattle.hir_store.specs.Building.{Building, contents_of, finish_fault}
 use Rattle.hir_run.specs.declared.fault.RunFault.{RunFault}
 use Rattle.hir_run.specs.declared.fault.RunFault.TheVariants.{Refused, BodyRefused, OutputFailed}
 use Rattle.hir_run.specs.Parts.{Parts, is_second, with_line}
-use Rattle.hir_run.specs.Outcomes.{Ends}
-use Rattle.hir_run.specs.Output.{Output, Wrote, WroteFront, PutsText}
-use Rattle.hir_run.specs.Places.{Place, unread}
+use Rattle.hir_run.specs.Outcomes.{Outcomes}
+use Rattle.hir_run.specs.Output.{Output, Wrote, WrotePrefix, PutsText}
+use Rattle.hir_run.specs.RunStates.{RunState, unread}
 use Rattle.hir_run.specs.Run.{EndsWith}
-use Rattle.hir_run.specs.Program.{Outcome, line_behind, says, script, built_by, IsLineAnswer, AreAnswers}
+use Rattle.hir_run.specs.Program.{Outcome, line_after, says, script, built_by, IsLineAnswer, AreAnswers}
 
 -- each of these lines may come before the first question
 abbrev pub AllMake : List (List ℕ) → Type 0
@@ -33,32 +33,32 @@ Makes texts parts = AllMake texts × (parts ≡ built_by (script texts))
 
 -- memory was refused at the line that was taken last, behind these and so many before: it may come there. Or where none was taken last,
 -- since the next was being read: behind these
-abbrev pub RefusesAt : (List ℕ → Type 0) → ℕ → Option (List ℕ) → List (List ℕ) → List ℕ → ℕ → Type 0
-RefusesAt MayCome before known texts [] count = ReadsFront known texts × (count ≡ before + length texts)
-RefusesAt MayCome before known texts (b ∷ bs) count =
-    ReadsFront known (texts ++ (b ∷ bs) ∷ []) × (count ≡ before + length texts + 1) × MayCome (b ∷ bs)
+abbrev pub OutOfMemoryAt : (List ℕ → Type 0) → ℕ → Option (List ℕ) → List (List ℕ) → List ℕ → ℕ → Type 0
+OutOfMemoryAt MayCome before known texts [] count = ReadsPrefix known texts × (count ≡ before + length texts)
+OutOfMemoryAt MayCome before known texts (b ∷ bs) count =
+    ReadsPrefix known (texts ++ (b ∷ bs) ∷ []) × (count ≡ before + length texts + 1) × MayCome (b ∷ bs)
 
 -- nothing was asked, or a question behind these texts
-abbrev pub BuildsUpTo : Option (List ℕ) → Place → Parts → Option Question → Type 0
+abbrev pub BuildsUpTo : Option (List ℕ) → RunState → Parts → Option Question → Type 0
 BuildsUpTo known now parts None =
     (texts : List (List ℕ)) × Makes texts parts × ReadsAll known texts
     × (now.lines.line ≡ []) × (now.lines.count ≡ length texts)
 BuildsUpTo known now parts (Some question) =
     (texts : List (List ℕ)) × Makes texts parts × (line_of now.lines.line ≡ Ask question)
-    × Reads known (texts ++ now.lines.line ∷ []) (unread now) now.lines.at_end
+    × ReadsLines known (texts ++ now.lines.line ∷ []) (unread now) now.lines.at_end
     × (now.lines.count ≡ length texts + 1)
 
 -- the lines that make, from the bytes that are known, and their parts
-abbrev pub Builds : Option (List ℕ) → Place → Parts → Result (Option Question) RunFault → Type 0
+abbrev pub Builds : Option (List ℕ) → RunState → Parts → Result (Option Question) RunFault → Type 0
 Builds known now parts result =
-    Ends (BuildsUpTo known now parts)
-    (λ number. (texts : List (List ℕ)) × (text : List ℕ) × AllMake texts × (line_behind texts text ≡ Bad)
-    × ReadsFront known (texts ++ text ∷ []) × (number ≡ length texts + 1))
+    Outcomes (BuildsUpTo known now parts)
+    (λ number. (texts : List (List ℕ)) × (text : List ℕ) × AllMake texts × (line_after texts text ≡ Bad)
+    × ReadsPrefix known (texts ++ text ∷ []) × (number ≡ length texts + 1))
     (λ fault. ⊥)
     ((texts : List (List ℕ)) × AllMake texts × ReadsUntilFailure known texts now.lines.pending now.remaining)
     ⊥
     ((texts : List (List ℕ)) × AllMake texts
-    × RefusesAt (λ text. line_behind texts text ≢ Bad) 0 known texts now.lines.line now.lines.count)
+    × OutOfMemoryAt (λ text. line_after texts text ≢ Bad) 0 known texts now.lines.line now.lines.count)
     result
 
 -- the line is empty or makes something; or it does neither, and is left
@@ -71,7 +71,7 @@ MakesOrLeaves line old new false = (makes line ≡ false) × (new ≡ old)
 -- what the line that was taken last does, to what was made before it
 abbrev pub BuildsLine : LineState → Parts → Parts → Result Bool RunFault → Type 0
 BuildsLine lines old new result =
-    Ends (MakesOrLeaves (line_of lines.line) old new)
+    Outcomes (MakesOrLeaves (line_of lines.line) old new)
     (λ number. ((line_of lines.line ≡ Bad)
     ⊎ ((maker : Maker) × (line_of lines.line ≡ Make maker) × (is_second old maker ≡ true)))
     × (number ≡ lines.count))
@@ -81,20 +81,20 @@ BuildsLine lines old new result =
 -- what it asks, where it makes nothing
 abbrev pub IsAsked : LineState → Result (Option Question) RunFault → Type 0
 IsAsked lines result =
-    Ends (λ asked. line_of lines.line ≡ line_asked asked)
+    Outcomes (λ asked. line_of lines.line ≡ line_asked asked)
     (λ number. (asks (line_of lines.line) ≡ false) × (number ≡ lines.count)) (λ fault. ⊥) ⊥ ⊥
     ((question : Question) × (line_of lines.line ≡ Ask question)) result
 
 -- what a builder gives: its store; or it has this first fault, or memory was refused
 abbrev pub Finishes : Building → Result Contents RunFault → Type 0
 Finishes built result =
-    Ends (λ store. (store ≡ contents_of built) × finish_fault built None) (λ number. ⊥)
+    Outcomes (λ store. (store ≡ contents_of built) × finish_fault built None) (λ number. ⊥)
     (λ fault. (first : FinishFault) × (fault ≡ Refused first) × finish_fault built (Some first)) ⊥ ⊥ ⊤ result
 
 -- what the parts of a body give: the body; or they have this first fault, or memory was refused
 abbrev pub IsBodyOf : BodyContents → Result BodyContents RunFault → Type 0
 IsBodyOf parts result =
-    Ends (λ body. (body ≡ parts) × body_fault parts None) (λ number. ⊥)
+    Outcomes (λ body. (body ≡ parts) × body_fault parts None) (λ number. ⊥)
     (λ fault. (first : BodyFault) × (fault ≡ BodyRefused first) × body_fault parts (Some first)) ⊥ ⊥ ⊤ result
 
 -- these lines may be asked, and this is the text of their answers
@@ -122,9 +122,9 @@ module _ (may : Question → Bool) (Is : Question → List ℕ → Type 0) where
   -- what a line of this number does
   abbrev pub AsksLine : Line → ℕ → Output → Output → Result (Option Question) RunFault → Type 0
   AsksLine line count old new result =
-      Ends (TakesLine line old new)
+      Outcomes (TakesLine line old new)
       (λ number. (asks line ≡ false) × (number ≡ count) × (new ≡ old)) (λ fault. ⊥) ⊥
-      ((may_ask may line ≡ true) × (text : List ℕ) × IsLineAnswer Is line text × WroteFront old new text)
+      ((may_ask may line ≡ true) × (text : List ℕ) × IsLineAnswer Is line text × WrotePrefix old new text)
       ((question : Question) × (line ≡ Ask question) × (new ≡ old)) result
 
   -- these lines were answered, all but what waits then
@@ -132,7 +132,7 @@ module _ (may : Question → Bool) (Is : Question → List ℕ → Type 0) where
   Answered script old new = (text : List ℕ) × HaveAnswers may Is script text × Wrote old new text
 
   -- all lines that are left were answered; or all before a question that may not be asked here, the first or a later one
-  abbrev pub AsksUpTo : Place → Place → Question → Option Question → Type 0
+  abbrev pub AsksUpTo : RunState → RunState → Question → Option Question → Type 0
   AsksUpTo old new first None =
       (texts : List (List ℕ)) × Answered (section_from first texts) old.output new.output
       × ReadsAll (unread old) texts × (new.lines.count ≡ old.lines.count + length texts)
@@ -141,24 +141,24 @@ module _ (may : Question → Bool) (Is : Question → List ℕ → Type 0) where
       × (((question ≡ first) × (new ≡ old))
       ⊎ ((texts : List (List ℕ)) × (text : List ℕ) × Answered (section_from first texts) old.output new.output
       × (text ≡ new.lines.line) × (line_of text ≡ Ask question)
-      × Reads (unread old) (texts ++ text ∷ []) (unread new) new.lines.at_end
+      × ReadsLines (unread old) (texts ++ text ∷ []) (unread new) new.lines.at_end
       × (old.lines.at_end ≡ true → new.lines.at_end ≡ true)
       × (new.lines.count ≡ old.lines.count + length texts + 1)))
 
   -- a section from its first question on
-  abbrev pub Asks : Place → Place → Question → Result (Option Question) RunFault → Type 0
+  abbrev pub Asks : RunState → RunState → Question → Result (Option Question) RunFault → Type 0
   Asks old new first result =
-      Ends (AsksUpTo old new first)
+      Outcomes (AsksUpTo old new first)
       (λ number. (texts : List (List ℕ)) × (text : List ℕ)
       × Answered (section_from first texts) old.output new.output × (asks (line_of text) ≡ false)
-      × ReadsFront (unread old) (texts ++ text ∷ []) × (number ≡ old.lines.count + length texts + 1))
+      × ReadsPrefix (unread old) (texts ++ text ∷ []) × (number ≡ old.lines.count + length texts + 1))
       (λ fault. ⊥)
       ((texts : List (List ℕ)) × Answered (section_from first texts) old.output new.output
       × (old.lines.at_end ≡ false) × ReadsUntilFailure (unread old) texts new.lines.pending new.remaining)
       ((texts : List (List ℕ)) × (text : List ℕ) × HaveAnswers may Is (section_from first texts) text
-      × ReadsFront (unread old) texts × WroteFront old.output new.output text)
+      × ReadsPrefix (unread old) texts × WrotePrefix old.output new.output text)
       (((texts : List (List ℕ)) × Answered (section_from first texts) old.output new.output
-      × RefusesAt (λ text. asks (line_of text) ≡ true) old.lines.count (unread old) texts
+      × OutOfMemoryAt (λ text. asks (line_of text) ≡ true) old.lines.count (unread old) texts
       new.lines.line new.lines.count)
       ⊎ (new ≡ old))
       result
@@ -166,18 +166,18 @@ module _ (may : Question → Bool) (Is : Question → List ℕ → Type 0) where
 -- that the store is accepted was written, all but what waits, or a front of it
 abbrev pub Accepts : Output → Output → Result (Unit {0}) RunFault → Type 0
 Accepts old new result =
-    Ends (λ done. Wrote old new (codes "accepted\n")) (λ number. ⊥) (λ fault. ⊥) ⊥
-    (WroteFront old new (codes "accepted\n")) ⊥ result
+    Outcomes (λ done. Wrote old new (codes "accepted\n")) (λ number. ⊥) (λ fault. ⊥) ⊥
+    (WrotePrefix old new (codes "accepted\n")) ⊥ result
 
 -- a run over the bytes that are known, of whose output some may wait
-abbrev pub RunsUpTo : Option (List ℕ) → Output → Place → Outcome → Type 0
+abbrev pub RunsUpTo : Option (List ℕ) → Output → RunState → Outcome → Type 0
 RunsUpTo known old now outcome =
     IfSome known
     (λ input. EndsWith input (Wrote old now.output)
-    (WroteFront old now.output) now.remaining now.lines outcome)
+    (WrotePrefix old now.output) now.remaining now.lines outcome)
 
 -- what waited was written and the outcome stays, or its write failed
 abbrev pub Closes : Option (List ℕ) → Option (List ℕ) → List ℕ → Outcome → Outcome → Type 0
 Closes old new waiting outcome result =
     ((result ≡ outcome) × Appends old new waiting × (waiting ≡ [] → new ≡ old))
-    ⊎ ((result ≡ Err OutputFailed) × GrowsByFront old new waiting × (waiting ≡ [] → ⊥))
+    ⊎ ((result ≡ Err OutputFailed) × AppendsPrefix old new waiting × (waiting ≡ [] → ⊥))

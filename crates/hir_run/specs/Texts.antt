@@ -2,7 +2,7 @@
 use Rattle.std.specs.Prelude.{ℕ, List, [], ◌∷◌, ◌++◌, Option, Some, Result, Ok, Err, codes}
 use Rattle.std.specs.Fmt.{decimal, option_append}
 use Rattle.std.specs.Io.KnownBytes.{Appends}
-use Rattle.hir_io.specs.Ends.{GrowsByFront}
+use Rattle.hir_io.specs.Effects.{AppendsPrefix}
 use Rattle.hir_node.specs.declared.node_id.NodeId.{NodeId}
 use Rattle.hir_node.specs.declared.node_id.NodeId.TheVariants as node
 use Rattle.hir_faults.specs.declared.fault.FinishFault.{FinishFault}
@@ -59,4 +59,4 @@ text_of (Err fault) = fault_text fault ++ 10 ∷ []
 -- all of the text was written, or a front of it where a write failed
 abbrev pub WritesText : {X E : Type 0} → Option (List ℕ) → Option (List ℕ) → List ℕ → Result X E → Type 0
 WritesText old new text (Ok done) = Appends old new text
-WritesText old new text (Err e) = GrowsByFront old new text
+WritesText old new text (Err e) = AppendsPrefix old new text

@@ -4,7 +4,7 @@ ghost use Rattle.std.specs.Prelude.{◌∷◌, ◌<◌, length, codes};
 ghost use Rattle.std.specs.Fmt.{decimal};
 ghost use Rattle.hir_expr_store.specs.PatLists.{child_exprs};
 ghost use Rattle.hir_run.specs.Answer.{store_answer, answer_line, children_text, root_text, after_spaces};
-ghost use Rattle.hir_run.specs.Output.{Puts, PutsText, output_of};
+ghost use Rattle.hir_run.specs.Output.{OutputsText, PutsText, output_of};
 
 use crate::asking::{Answers, MemoryRefused};
 use crate::output::Output;
@@ -17,7 +17,7 @@ use std::alloc::Global;
 /// Puts the children of an expression, each after a space.
 fn put_children<W: Sink>(store: &ExpressionStore, id: ExprId, output: &mut Output<'_, W>)
     requires { id < length store.now.nodes.exprs }
-    ensures { Puts W.Sink output.old output.new (after_spaces (child_exprs store.now.nodes id)) }
+    ensures { OutputsText W.Sink output.old output.new (after_spaces (child_exprs store.now.nodes id)) }
 {
     store.walk_child_exprs(
         id,
@@ -32,7 +32,7 @@ fn put_children<W: Sink>(store: &ExpressionStore, id: ExprId, output: &mut Outpu
 
 /// Puts what is known of an expression: its children, or that it isn't there.
 fn put_known<W: Sink>(store: &ExpressionStore, id: ExprId, output: &mut Output<'_, W>)
-    ensures { Puts W.Sink output.old output.new (children_text store.now.nodes id) }
+    ensures { OutputsText W.Sink output.old output.new (children_text store.now.nodes id) }
 {
     if !store.has_expr(id) {
         output.put(b" unknown");
@@ -44,7 +44,7 @@ fn put_known<W: Sink>(store: &ExpressionStore, id: ExprId, output: &mut Output<'
 
 /// Puts the root that an expression belongs to, or that there is none.
 fn put_root<W: Sink>(store: &ExpressionStore, id: ExprId, output: &mut Output<'_, W>)
-    ensures { Puts W.Sink output.old output.new (root_text store.now.roots id) }
+    ensures { OutputsText W.Sink output.old output.new (root_text store.now.roots id) }
 {
     if !store.covers_expr(id) {
         output.put(b" none");
@@ -56,7 +56,7 @@ fn put_root<W: Sink>(store: &ExpressionStore, id: ExprId, output: &mut Output<'_
 }
 
 fn answer_children<W: Sink>(store: &ExpressionStore, id: ExprId, output: &mut Output<'_, W>)
-    ensures { Puts W.Sink output.old output.new
+    ensures { OutputsText W.Sink output.old output.new
         (answer_line (codes "child_exprs ") id (children_text store.now.nodes id)) }
 {
     output.put_asked(b"child_exprs ", id);
@@ -65,7 +65,7 @@ fn answer_children<W: Sink>(store: &ExpressionStore, id: ExprId, output: &mut Ou
 }
 
 fn answer_root<W: Sink>(store: &ExpressionStore, id: ExprId, output: &mut Output<'_, W>)
-    ensures { Puts W.Sink output.old output.new
+    ensures { OutputsText W.Sink output.old output.new
         (answer_line (codes "root-of ") id (root_text store.now.roots id)) }
 {
     output.put_asked(b"root-of ", id);
@@ -79,7 +79,7 @@ pub(crate) fn answer_store<W: Sink>(
     question: StoreQuestion,
     output: &mut Output<'_, W>,
 )
-    ensures { Puts W.Sink output.old output.new (store_answer store.now question) }
+    ensures { OutputsText W.Sink output.old output.new (store_answer store.now question) }
 {
     match question {
         StoreQuestion::Children(id) => answer_children(store, id, output),

@@ -4,13 +4,13 @@ ghost use Rattle.std.specs.Prelude.{◌≡◌, ◌||◌, ℕ, List, [], Bool, tr
 ghost use Rattle.hir_lines.specs.Line.{Ask, line_of};
 ghost use Rattle.hir_run.specs.Outcomes.{is_input_failed, is_output_failed};
 ghost use Rattle.hir_run.specs.Output.{Untouched, output_of};
-ghost use Rattle.hir_run.specs.Places.{HasRoom, place_of};
+ghost use Rattle.hir_run.specs.RunStates.{CountFits, run_state_of};
 ghost use Rattle.hir_run.specs.Stages.{Asks, AsksLine, IsAsked, Replies};
 
 use crate::fault::RunFault;
 use crate::output::Output;
 use hir_io::{LineReader, Sink, Source};
-use hir_lines::{Question, Stop, ask};
+use hir_lines::{LineError, Question, ask};
 use std::alloc::Global;
 
 /// Memory was refused.
@@ -48,8 +48,8 @@ pub(crate) fn asked_by(alloc: Global, lines: &LineReader) -> Result<Option<Quest
 {
     match ask(alloc, lines.line()) {
         Ok(question) => Ok(question),
-        Err(Stop::Bad) => Err(RunFault::BadLine(lines.count())),
-        Err(Stop::Memory) => Err(RunFault::OutOfMemory),
+        Err(LineError::Syntax) => Err(RunFault::BadLine(lines.count())),
+        Err(LineError::Memory) => Err(RunFault::OutOfMemory),
     }
 }
 
@@ -104,15 +104,16 @@ pub(crate) fn answer_lines<A: Answers, R: Source, W: Sink>(
     reader: &mut R,
     output: &mut Output<'_, W>,
 ) -> Result<Option<Question>, RunFault>
-    requires fits { HasRoom (place_of R.Source W.Sink lines.old reader.old output.old) }
+    requires fits { CountFits (run_state_of R.Source W.Sink lines.old reader.old output.old) }
     requires unfailed { W.is_failed output.old.writer.now ≡ false }
-    ensures asks { Asks A.may (A.Is asked.old) (place_of R.Source W.Sink lines.old reader.old output.old)
-        (place_of R.Source W.Sink lines.new reader.new output.new) first result }
+    ensures asks { Asks A.may (A.Is asked.old) (run_state_of R.Source W.Sink lines.old reader.old output.old)
+        (run_state_of R.Source W.Sink lines.new reader.new output.new) first result }
     ensures read_failure { R.is_failed reader.new ≡ (is_input_failed result || R.is_failed reader.old) }
     ensures write_failure { W.is_failed output.new.writer.now ≡ is_output_failed result }
     // A read is made only where nothing waits.
     ensures quiet { is_input_failed result ≡ true → output.new.waiting ≡ [] }
-    ensures still_fits { OnOk result (HasRoom (place_of R.Source W.Sink lines.new reader.new output.new)) }
+    ensures still_fits { OnOk result (CountFits
+        (run_state_of R.Source W.Sink lines.new reader.new output.new)) }
     ensures same { (asked.new ≡ asked.old) × (output.new.writer.ghost_name ≡ output.old.writer.ghost_name) }
 {
     let left = answer_question(alloc, asked, first, output)?;

@@ -5,7 +5,7 @@ ghost use Rattle.hir_scope.specs.BodyScopes.{AreBodyScopes};
 ghost use Rattle.hir_run.specs.Answer.{IsBodyAnswer};
 ghost use Rattle.hir_run.specs.Printing.{print_text};
 ghost use Rattle.hir_run.specs.OfLines.{AreOfLines};
-ghost use Rattle.hir_run.specs.Output.{Puts, Untouched};
+ghost use Rattle.hir_run.specs.Output.{OutputsText, Untouched};
 
 use crate::answer::answer_store;
 use crate::asking::{Answers, MemoryRefused};
@@ -107,7 +107,7 @@ impl BodyOfLines {
 
     /// Answers `print` by the body's text.
     fn print<W: Sink>(&self, alloc: Global, output: &mut Output<'_, W>) -> Result<(), MemoryRefused>
-        ensures ok { OnOk result (Puts W.Sink output.old output.new
+        ensures ok { OnOk result (OutputsText W.Sink output.old output.new
             (print_text self.now.name self.now.body)) }
         ensures memory { OnErr result (Untouched W.Sink output.old output.new) }
     {
@@ -125,7 +125,7 @@ impl BodyOfLines {
     ) -> Result<(), MemoryRefused>
         ensures same { self.new ≡ self.old }
         ensures ok { OnOk result ((text : List ℕ) × IsBodyAnswer self.old.name self.old.body question text
-            × Puts W.Sink output.old output.new text) }
+            × OutputsText W.Sink output.old output.new text) }
         ensures memory { OnErr result (Untouched W.Sink output.old output.new) }
     {
         match question {

@@ -3,8 +3,8 @@
 ghost use Rattle.std.specs.Prelude.{◌≡◌, ◌||◌, [], OnOk};
 ghost use Rattle.hir_run.specs.Outcomes.{is_input_failed};
 ghost use Rattle.hir_run.specs.Output.{Untouched};
-ghost use Rattle.hir_run.specs.Parts.{parts_of, no_parts};
-ghost use Rattle.hir_run.specs.Places.{HasRoom, place_of};
+ghost use Rattle.hir_run.specs.Parts.{builder_parts, no_parts};
+ghost use Rattle.hir_run.specs.RunStates.{CountFits, run_state_of};
 ghost use Rattle.hir_run.specs.Run.{no_lines};
 ghost use Rattle.hir_run.specs.Stages.{Builds, BuildsLine};
 
@@ -13,7 +13,7 @@ use crate::body_builder::BodyBuilder;
 use crate::fault::RunFault;
 use crate::output::Output;
 use hir_io::{LineReader, Sink, Source};
-use hir_lines::{Question, Stop, make};
+use hir_lines::{LineError, Question, make};
 use std::alloc::Global;
 
 /// Makes what the line that was taken last makes, and answers whether it makes something or is empty.
@@ -22,12 +22,12 @@ fn build_line(
     lines: &LineReader,
     builder: &mut BodyBuilder,
 ) -> Result<bool, RunFault>
-    ensures { BuildsLine lines.now (parts_of builder.old) (parts_of builder.new) result }
+    ensures { BuildsLine lines.now (builder_parts builder.old) (builder_parts builder.new) result }
 {
     match make(alloc, lines.line(), builder) {
         Ok(taken) => Ok(taken),
-        Err(Stop::Bad) => Err(RunFault::BadLine(lines.count())),
-        Err(Stop::Memory) => Err(RunFault::OutOfMemory),
+        Err(LineError::Syntax) => Err(RunFault::BadLine(lines.count())),
+        Err(LineError::Memory) => Err(RunFault::OutOfMemory),
     }
 }
 
@@ -39,14 +39,15 @@ pub(crate) fn build<R: Source, W: Sink>(
     reader: &mut R,
     output: &mut Output<'_, W>,
 ) -> Result<Option<Question>, RunFault>
-    requires fits { HasRoom (place_of R.Source W.Sink lines.old reader.old output.old) }
-    requires fresh { (lines.old ≡ no_lines) × (parts_of builder.old ≡ no_parts) }
+    requires fits { CountFits (run_state_of R.Source W.Sink lines.old reader.old output.old) }
+    requires fresh { (lines.old ≡ no_lines) × (builder_parts builder.old ≡ no_parts) }
     requires quiet { output.old.waiting ≡ [] }
     ensures builds { Builds (R.remaining reader.old)
-        (place_of R.Source W.Sink lines.new reader.new output.new) (parts_of builder.new) result }
+        (run_state_of R.Source W.Sink lines.new reader.new output.new) (builder_parts builder.new) result }
     ensures still_quiet { Untouched W.Sink output.old output.new }
     ensures failure { R.is_failed reader.new ≡ (is_input_failed result || R.is_failed reader.old) }
-    ensures still_fits { OnOk result (HasRoom (place_of R.Source W.Sink lines.new reader.new output.new)) }
+    ensures still_fits { OnOk result (CountFits
+        (run_state_of R.Source W.Sink lines.new reader.new output.new)) }
     ensures same { output.new.writer.ghost_name ≡ output.old.writer.ghost_name }
 {
     while output.next_line(lines, reader)? {

@@ -3,7 +3,7 @@
 ghost use Rattle.std.specs.Prelude.{Some, None, List, Option, ℕ, OnOk, OnErr};
 ghost use Rattle.hir_scope.specs.BodyScopes.{AreBodyScopes};
 ghost use Rattle.hir_run.specs.Answer.{AreCapturesOf, captures_answer, after_spaces};
-ghost use Rattle.hir_run.specs.Output.{Puts, Untouched};
+ghost use Rattle.hir_run.specs.Output.{OutputsText, Untouched};
 
 use crate::asking::MemoryRefused;
 use crate::output::Output;
@@ -16,7 +16,7 @@ use std::alloc::Global;
 
 /// Puts the numbers of bindings, each after a space.
 fn put_bindings<W: Sink>(bindings: &[BindingId], output: &mut Output<'_, W>)
-    ensures { Puts W.Sink output.old output.new (after_spaces bindings.now) }
+    ensures { OutputsText W.Sink output.old output.new (after_spaces bindings.now) }
 {
     for binding in bindings {
         output.put_spaced(binding.into_raw());
@@ -25,7 +25,7 @@ fn put_bindings<W: Sink>(bindings: &[BindingId], output: &mut Output<'_, W>)
 
 /// Puts the line of a closure that captures these bindings.
 fn put_captures<W: Sink>(id: ExprId, bindings: &[BindingId], output: &mut Output<'_, W>)
-    ensures { Puts W.Sink output.old output.new (captures_answer id (Some bindings.now)) }
+    ensures { OutputsText W.Sink output.old output.new (captures_answer id (Some bindings.now)) }
 {
     output.put_asked(b"captures ", id);
     output.put(b" =");
@@ -35,7 +35,7 @@ fn put_captures<W: Sink>(id: ExprId, bindings: &[BindingId], output: &mut Output
 
 /// Puts the line of an expression that isn't a closure that the body reaches.
 fn put_no_closure<W: Sink>(id: ExprId, output: &mut Output<'_, W>)
-    ensures { Puts W.Sink output.old output.new (captures_answer id None) }
+    ensures { OutputsText W.Sink output.old output.new (captures_answer id None) }
 {
     output.put_asked(b"captures ", id);
     output.put(b" no closure");
@@ -54,7 +54,7 @@ pub(crate) fn answer_captures<W: Sink>(
 ) -> Result<(), MemoryRefused>
     requires { AreBodyScopes body.now scopes.now }
     ensures ok { OnOk result ((known : Option (List ℕ)) × AreCapturesOf body.now id known
-        × Puts W.Sink output.old output.new (captures_answer id known)) }
+        × OutputsText W.Sink output.old output.new (captures_answer id known)) }
     ensures memory { OnErr result (Untouched W.Sink output.old output.new) }
 {
     match captures(alloc, body, scopes, id) {

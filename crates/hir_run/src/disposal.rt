@@ -13,7 +13,7 @@ pub(crate) enum Disposal {
 
 impl Disposal {
     /// Ends the use of a value: drops it, or leaves its memory.
-    pub(crate) fn end<T: Drop>(self, value: T) {
+    pub(crate) fn release<T: Drop>(self, value: T) {
         match self {
             Disposal::GiveBack => drop(value),
             Disposal::Leave => forget(value),

@@ -2,7 +2,7 @@
 
 ghost use Rattle.std.specs.Prelude.{◌≡◌, ℕ, List, Option, None};
 ghost use Rattle.hir_lines.specs.Line.{Line};
-ghost use Rattle.hir_printer.specs.Pieces.{first_missing};
+ghost use Rattle.hir_printer.specs.DocPieces.{first_missing};
 ghost use Rattle.hir_run.specs.Parts.{body_parts};
 ghost use Rattle.hir_run.specs.Printing.{body_pieces};
 ghost use Rattle.hir_run.specs.Program.{Outcome, IsMeaning, built_by, script};

@@ -5,8 +5,8 @@ ghost use Rattle.std.specs.Prelude.{◌≡◌, ◌+◌, ◌≤◌, ◌∷◌, �
 ghost use Rattle.std.specs.Fmt.{decimal};
 ghost use Rattle.hir_io.specs.NextLine.{is_found, is_failed_input, is_failed_output};
 ghost use Rattle.hir_run.specs.Outcomes.{is_output_failed};
-ghost use Rattle.hir_run.specs.Output.{output_of, Puts, Untouched};
-ghost use Rattle.hir_run.specs.Places.{HasRoom, TakesNext, place_of};
+ghost use Rattle.hir_run.specs.Output.{output_of, OutputsText, Untouched};
+ghost use Rattle.hir_run.specs.RunStates.{CountFits, TakesNext, run_state_of};
 ghost use Rattle.hir_run.specs.Stages.{Accepts, Closes};
 
 use crate::fault::RunFault;
@@ -23,7 +23,7 @@ pub(crate) struct Output<'a, W> {
 impl<W: Sink> Output<'_, W> {
     /// Puts text behind what waits. Where the sink has failed, nothing is done.
     pub(crate) fn put(&mut self, text: &[u8])
-        ensures { Puts W.Sink self.old self.new text.now }
+        ensures { OutputsText W.Sink self.old self.new text.now }
     {
         if !self.writer.has_failed() {
             let _ = self.waiting.write(text, self.writer);
@@ -32,7 +32,7 @@ impl<W: Sink> Output<'_, W> {
 
     /// Puts a number in decimal.
     pub(crate) fn put_number(&mut self, number: u32)
-        ensures { Puts W.Sink self.old self.new (decimal number) }
+        ensures { OutputsText W.Sink self.old self.new (decimal number) }
     {
         if !self.writer.has_failed() {
             let _ = self.waiting.write_number(number, self.writer);
@@ -41,7 +41,7 @@ impl<W: Sink> Output<'_, W> {
 
     /// Puts a number behind a space.
     pub(crate) fn put_spaced(&mut self, number: u32)
-        ensures { Puts W.Sink self.old self.new (32 ∷ decimal number) }
+        ensures { OutputsText W.Sink self.old self.new (32 ∷ decimal number) }
     {
         self.put(b" ");
         self.put_number(number);
@@ -49,7 +49,7 @@ impl<W: Sink> Output<'_, W> {
 
     /// Puts the first words of an answer: what was asked, and of which expression.
     pub(crate) fn put_asked(&mut self, word: &[u8], id: ExprId)
-        ensures { Puts W.Sink self.old self.new (word.now ++ decimal id) }
+        ensures { OutputsText W.Sink self.old self.new (word.now ++ decimal id) }
     {
         self.put(word);
         self.put_number(id.into_raw());
@@ -61,9 +61,9 @@ impl<W: Sink> Output<'_, W> {
         lines: &mut LineReader,
         reader: &mut R,
     ) -> Result<bool, LineFault>
-        requires { HasRoom (place_of R.Source W.Sink lines.old reader.old self.old) }
-        ensures takes { TakesNext (place_of R.Source W.Sink lines.old reader.old self.old)
-            (place_of R.Source W.Sink lines.new reader.new self.new) result }
+        requires { CountFits (run_state_of R.Source W.Sink lines.old reader.old self.old) }
+        ensures takes { TakesNext (run_state_of R.Source W.Sink lines.old reader.old self.old)
+            (run_state_of R.Source W.Sink lines.new reader.new self.new) result }
         ensures falls { is_failed_input result ≡ false →
             length lines.new.pending + R.allowance reader.new + cond (is_found result) 1 0
             ≤ length lines.old.pending + R.allowance reader.old }

@@ -3,7 +3,7 @@
 ghost use Rattle.std.specs.Prelude.{◌≡◌, IfOk, OnOk, OnErr, string_bytes};
 ghost use Rattle.std.specs.Option.{option_copied};
 ghost use Rattle.hir_run.specs.OfLines.{AreOfLines};
-ghost use Rattle.hir_run.specs.Output.{Puts, Untouched};
+ghost use Rattle.hir_run.specs.Output.{OutputsText, Untouched};
 ghost use Rattle.hir_run.specs.Printing.{tables_of, body_text, print_text};
 
 use crate::asking::MemoryRefused;
@@ -66,7 +66,7 @@ pub(crate) fn answer_print<W: Sink>(
     output: &mut Output<'_, W>,
 ) -> Result<(), MemoryRefused>
     requires { AreOfLines body.now.store.nodes }
-    ensures ok { OnOk result (Puts W.Sink output.old output.new
+    ensures ok { OnOk result (OutputsText W.Sink output.old output.new
         (print_text (option_copied name.entry) body.now)) }
     ensures memory { OnErr result (Untouched W.Sink output.old output.new) }
 {

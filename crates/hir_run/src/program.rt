@@ -2,14 +2,14 @@
 
 ghost use Rattle.std.specs.Prelude.{◌≡◌, [], true, false};
 ghost use Rattle.std.specs.Io.KnownBytes.{Appends};
-ghost use Rattle.hir_io.specs.Ends.{GrowsByFront};
+ghost use Rattle.hir_io.specs.Effects.{AppendsPrefix};
 ghost use Rattle.hir_io.specs.LineState.{LineState};
 ghost use Rattle.hir_items.specs.Bodies.{body_of};
 ghost use Rattle.hir_store.specs.Building.{building_of};
 ghost use Rattle.hir_run.specs.Faults.{status_of};
 ghost use Rattle.hir_run.specs.Outcomes.{is_input_failed, is_output_failed};
 ghost use Rattle.hir_run.specs.Output.{output_of};
-ghost use Rattle.hir_run.specs.Places.{place_of};
+ghost use Rattle.hir_run.specs.RunStates.{run_state_of};
 ghost use Rattle.hir_run.specs.Program.{Outcome};
 ghost use Rattle.hir_run.specs.Run.{IsRun, Unfailed, no_lines};
 ghost use Rattle.hir_run.specs.Stages.{Finishes, IsBodyOf, RunsUpTo};
@@ -63,7 +63,7 @@ fn answer_script<R: Source, W: Sink>(
     requires quiet { output.old.waiting ≡ [] }
     requires unfailed { Unfailed R.Source W.Sink reader.old output.old.writer.now }
     ensures runs { RunsUpTo (R.remaining reader.old) (output_of W.Sink output.old)
-        (place_of R.Source W.Sink lines.new reader.new output.new) result }
+        (run_state_of R.Source W.Sink lines.new reader.new output.new) result }
     ensures input_failed { R.is_failed reader.new ≡ is_input_failed result }
     ensures output_failed { W.is_failed output.new.writer.now ≡ is_output_failed result }
     // A read is made only where nothing waits.
@@ -82,7 +82,7 @@ fn answer_script<R: Source, W: Sink>(
     let on_store = match first {
         Some(on_store) => on_store,
         None => {
-            disposal.end(store);
+            disposal.release(store);
             return output.accept();
         }
     };
@@ -90,7 +90,7 @@ fn answer_script<R: Source, W: Sink>(
     let on_body = match left {
         Some(on_body) => on_body,
         None => {
-            disposal.end(store);
+            disposal.release(store);
             return Ok(());
         }
     };
@@ -98,7 +98,7 @@ fn answer_script<R: Source, W: Sink>(
     let whole = body_of_parts(alloc, store, params, self_param)?;
     let mut body = BodyOfLines::new(whole, name);
     let unasked = answer_lines(alloc, &mut body, on_body, lines, reader, output)?;
-    disposal.end(body);
+    disposal.release(body);
     match unasked {
         None => Ok(()),
         Some(_) => unreachable!(),
@@ -212,7 +212,7 @@ pub fn run_and_report<R: Source, W: Sink, E: Sink>(
         × IsRun R.Source W.Sink reader.old reader.new writer.old writer.new taken outcome
         × (E.is_failed errors.new ≡ false →
         Appends (E.contents errors.old) (E.contents errors.new) (text_of outcome))
-        × GrowsByFront (E.contents errors.old) (E.contents errors.new) (text_of outcome)
+        × AppendsPrefix (E.contents errors.old) (E.contents errors.new) (text_of outcome)
         × (outcome ≡ Ok tt → errors.new ≡ errors.old)
         × (result ≡ status_of outcome) }
 {

@@ -4,7 +4,7 @@
 ghost use Rattle.std.specs.Prelude.{◌≡◌, ◌||◌, ◌++◌, codes, false, is_err};
 ghost use Rattle.std.specs.Fmt.{decimal};
 ghost use Rattle.std.specs.Io.KnownBytes.{Appends};
-ghost use Rattle.hir_io.specs.Ends.{GrowsByFront};
+ghost use Rattle.hir_io.specs.Effects.{AppendsPrefix};
 ghost use Rattle.hir_run.specs.Faults.{status_of};
 ghost use Rattle.hir_items.specs.FaultTexts.{body_fault_text};
 ghost use Rattle.hir_run.specs.Texts.{fault_text, finish_fault_text, node_text, text_of, WritesText};
@@ -162,7 +162,7 @@ pub fn report<W: Sink>(outcome: &Result<(), RunFault>, errors: &mut W) -> u8
     ensures status { result ≡ status_of outcome.now }
     ensures whole { W.is_failed errors.new ≡ false →
         Appends (W.contents errors.old) (W.contents errors.new) (text_of outcome.now) }
-    ensures front { GrowsByFront (W.contents errors.old) (W.contents errors.new) (text_of outcome.now) }
+    ensures prefix { AppendsPrefix (W.contents errors.old) (W.contents errors.new) (text_of outcome.now) }
     ensures quiet { outcome.now ≡ Ok tt → errors.new ≡ errors.old }
 {
     if let Err(fault) = outcome {

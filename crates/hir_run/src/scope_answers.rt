@@ -4,7 +4,7 @@ ghost use Rattle.std.specs.Prelude.{◌<◌, ◌∷◌, Some, length};
 ghost use Rattle.hir_scope.specs.Paths.{chain, frame_at};
 ghost use Rattle.hir_scope.specs.Resolution.{resolve, entries_of};
 ghost use Rattle.hir_run.specs.Answer.{asked_text, chain_answer, chain_by, chain_text, expansion_text, names_text, resolve_answer, resolve_text, resolved_text};
-ghost use Rattle.hir_run.specs.Output.{Puts};
+ghost use Rattle.hir_run.specs.Output.{OutputsText};
 
 use crate::output::Output;
 use hir_base::{HygieneId, Name, SyntaxContext};
@@ -14,7 +14,7 @@ use hir_scope::{ExprScopes, ScopeEntry, ScopeId};
 
 /// Puts a name behind a space.
 fn put_name<W: Sink>(name: &Name, output: &mut Output<'_, W>)
-    ensures { Puts W.Sink output.old output.new (32 ∷ name.now) }
+    ensures { OutputsText W.Sink output.old output.new (32 ∷ name.now) }
 {
     output.put(b" ");
     output.put(name.as_str().as_bytes());
@@ -22,7 +22,7 @@ fn put_name<W: Sink>(name: &Name, output: &mut Output<'_, W>)
 
 /// Puts the names of entries, each after a space.
 fn put_names<W: Sink>(entries: &[ScopeEntry], output: &mut Output<'_, W>)
-    ensures { Puts W.Sink output.old output.new (names_text entries.now) }
+    ensures { OutputsText W.Sink output.old output.new (names_text entries.now) }
 {
     for entry in entries {
         put_name(entry.name(), output);
@@ -32,7 +32,8 @@ fn put_names<W: Sink>(entries: &[ScopeEntry], output: &mut Output<'_, W>)
 /// Puts the names of a scope's entries.
 fn put_scope<W: Sink>(scopes: &ExprScopes, scope: ScopeId, output: &mut Output<'_, W>)
     requires { scope < length scopes.now.scopes }
-    ensures { Puts W.Sink output.old output.new (names_text (entries_of (frame_at scopes.now.scopes scope))) }
+    ensures { OutputsText W.Sink output.old output.new
+        (names_text (entries_of (frame_at scopes.now.scopes scope))) }
 {
     put_names(scopes.entries(scope), output);
 }
@@ -40,7 +41,7 @@ fn put_scope<W: Sink>(scopes: &ExprScopes, scope: ScopeId, output: &mut Output<'
 /// Puts the names of a scope's chain, innermost first.
 fn put_chain<W: Sink>(scopes: &ExprScopes, scope: ScopeId, output: &mut Output<'_, W>)
     requires { scope < length scopes.now.scopes }
-    ensures { Puts W.Sink output.old output.new
+    ensures { OutputsText W.Sink output.old output.new
         (names_text (entries_of (chain scopes.now.scopes (Some scope)))) }
 {
     for around in scopes.scope_chain(Some(scope)) {
@@ -50,7 +51,7 @@ fn put_chain<W: Sink>(scopes: &ExprScopes, scope: ScopeId, output: &mut Output<'
 
 /// Puts the number of an expansion behind a space, and nothing for source text.
 fn put_expansion<W: Sink>(hygiene: HygieneId, output: &mut Output<'_, W>)
-    ensures { Puts W.Sink output.old output.new (expansion_text hygiene) }
+    ensures { OutputsText W.Sink output.old output.new (expansion_text hygiene) }
 {
     match hygiene.syntax_context() {
         SyntaxContext::Root(_) => {}
@@ -60,7 +61,7 @@ fn put_expansion<W: Sink>(hygiene: HygieneId, output: &mut Output<'_, W>)
 
 /// Puts the words by which a name was asked for.
 fn put_asked_name<W: Sink>(name: &Name, hygiene: HygieneId, output: &mut Output<'_, W>)
-    ensures { Puts W.Sink output.old output.new (asked_text name.now hygiene) }
+    ensures { OutputsText W.Sink output.old output.new (asked_text name.now hygiene) }
 {
     put_name(name, output);
     put_expansion(hygiene, output);
@@ -75,7 +76,7 @@ fn put_resolved<W: Sink>(
     output: &mut Output<'_, W>,
 )
     requires { scope < length scopes.now.scopes }
-    ensures { Puts W.Sink output.old output.new
+    ensures { OutputsText W.Sink output.old output.new
         (resolved_text (resolve (chain scopes.now.scopes (Some scope)) name.now hygiene)) }
 {
     match scopes.resolve_name_in_scope(scope, name, hygiene) {
@@ -89,7 +90,7 @@ fn put_resolved<W: Sink>(
 
 /// Puts what is known of an expression: the names of its chain, or that it isn't reached.
 fn put_known<W: Sink>(scopes: &ExprScopes, id: ExprId, output: &mut Output<'_, W>)
-    ensures { Puts W.Sink output.old output.new (chain_text (chain_by scopes.now id)) }
+    ensures { OutputsText W.Sink output.old output.new (chain_text (chain_by scopes.now id)) }
 {
     let Some(scope) = scopes.scope_for(id) else {
         output.put(b" unreached");
@@ -107,7 +108,8 @@ fn put_meaning<W: Sink>(
     hygiene: HygieneId,
     output: &mut Output<'_, W>,
 )
-    ensures { Puts W.Sink output.old output.new (resolve_text (chain_by scopes.now id) name.now hygiene) }
+    ensures { OutputsText W.Sink output.old output.new
+        (resolve_text (chain_by scopes.now id) name.now hygiene) }
 {
     match scopes.scope_for(id) {
         Some(scope) => put_resolved(scopes, scope, name, hygiene, output),
@@ -117,7 +119,7 @@ fn put_meaning<W: Sink>(
 
 /// Puts the line of the names that an expression sees.
 pub(crate) fn answer_chain<W: Sink>(scopes: &ExprScopes, id: ExprId, output: &mut Output<'_, W>)
-    ensures { Puts W.Sink output.old output.new (chain_answer id (chain_by scopes.now id)) }
+    ensures { OutputsText W.Sink output.old output.new (chain_answer id (chain_by scopes.now id)) }
 {
     output.put_asked(b"chain ", id);
     put_known(scopes, id, output);
@@ -132,7 +134,7 @@ pub(crate) fn answer_resolve<W: Sink>(
     hygiene: HygieneId,
     output: &mut Output<'_, W>,
 )
-    ensures { Puts W.Sink output.old output.new
+    ensures { OutputsText W.Sink output.old output.new
         (resolve_answer id name.now hygiene (chain_by scopes.now id)) }
 {
     output.put_asked(b"resolve ", id);

@@ -17,7 +17,7 @@ use hir_base::{
     MacroCallPtr, PatFieldSource, PatPtr, SyntheticSyntax, TypePtr, TypeSource, ast,
 };
 use hir_path::{BindingId, ExprId, ExprOrPatId, LabelId, PatId, TypeRefId};
-use hir_rare::Rare;
+use hir_rare::LazyBox;
 
 /// Where the nodes of a store come from. `finish` of a builder makes it.
 ///
@@ -26,8 +26,8 @@ use hir_rare::Rare;
 /// `==` compares where nodes came from, expansions, diagnostics, and whether the expression part is kept; the maps from sources to
 /// nodes, those of fields and the definitions of bindings aren't compared.
 pub struct ExpressionStoreSourceMap {
-    pub(crate) exprs: Option<Rare<ExprSources>>,
-    pub(crate) types: Rare<TypeSources>,
+    pub(crate) exprs: Option<LazyBox<ExprSources>>,
+    pub(crate) types: LazyBox<TypeSources>,
 }
 
 /// Drops its parts one after the other. It is written out so that it is proved once, and is a call wherever a value is dropped.
@@ -297,15 +297,15 @@ impl PartialEq for ExpressionStoreSourceMap {
     fn eq(&self, other: &ExpressionStoreSourceMap) -> bool {
         let same = match (&self.exprs, &other.exprs) {
             (Some(mine), Some(theirs)) => {
-                let blank = mine.blank();
-                same_exprs(mine.or_blank(&blank), theirs.or_blank(&blank))
+                let empty_value = mine.empty_value();
+                same_exprs(mine.or_empty(&empty_value), theirs.or_empty(&empty_value))
             }
             (None, None) => true,
             (Some(_), None) | (None, Some(_)) => false,
         };
-        let blank = self.types.blank();
-        let types = self.types.or_blank(&blank);
-        let others = other.types.or_blank(&blank);
+        let empty_value = self.types.empty_value();
+        let types = self.types.or_empty(&empty_value);
+        let others = other.types.or_empty(&empty_value);
         same && types.type_map_back == others.type_map_back
             && types.lifetime_map_back == others.lifetime_map_back
     }

@@ -5,15 +5,15 @@ ghost use Rattle.hir_source.specs.Sources.{has_news};
 
 use crate::source_map::ExpressionStoreSourceMap;
 use crate::sources::{ExprSources, TypeSources};
-use hir_rare::Rare;
+use hir_rare::LazyBox;
 use std::alloc::Global;
 
 /// Where nodes come from, as far as entries were added: the builder of a store has the calls that add them. Nothing is checked: ids may
 /// be of nodes that don't exist.
 #[derive(PartialEq, Eq)]
 pub struct SourceMapBuilder {
-    pub exprs: Rare<ExprSources>,
-    pub types: Rare<TypeSources>,
+    pub exprs: LazyBox<ExprSources>,
+    pub types: LazyBox<TypeSources>,
     /// Where the maps take their memory from.
     pub alloc: Global,
 }
@@ -37,8 +37,8 @@ impl SourceMapBuilder {
         ensures { result ≡ no_sources alloc }
     {
         SourceMapBuilder {
-            exprs: Rare::new(alloc),
-            types: Rare::new(alloc),
+            exprs: LazyBox::new(alloc),
+            types: LazyBox::new(alloc),
             alloc,
         }
     }
@@ -65,7 +65,7 @@ impl SourceMapBuilder {
 }
 
 /// Whether there is an expansion or a diagnostic.
-fn has_news(exprs: &Rare<ExprSources>) -> bool
+fn has_news(exprs: &LazyBox<ExprSources>) -> bool
     ensures { result ≡ has_news exprs.now }
 {
     match exprs.get() {

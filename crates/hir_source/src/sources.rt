@@ -9,7 +9,7 @@ use hir_base::{
     MacroCallPtr, PatFieldSource, PatSource, Seq, Table, TypeSource,
 };
 use hir_path::{BindingId, ExprId, ExprOrPatId, LabelId, LifetimeRefId, PatId, TypeRefId};
-use hir_rare::Blank;
+use hir_rare::Empty;
 use std::alloc::Global;
 
 /// Where expressions, patterns, labels and bindings come from, what macro calls expanded to, and the diagnostics.
@@ -121,22 +121,22 @@ impl TypeSources {
     }
 }
 
-impl Blank for ExprSources {
+impl Empty for ExprSources {
     ghost use Rattle.hir_source.specs.Sources.{no_expr_sources};
 
-    ghost blank = { no_expr_sources };
+    ghost empty_value = { no_expr_sources };
 
-    fn blank(alloc: Global) -> ExprSources {
+    fn empty_value(alloc: Global) -> ExprSources {
         ExprSources::new(alloc)
     }
 }
 
-impl Blank for TypeSources {
+impl Empty for TypeSources {
     ghost use Rattle.hir_source.specs.Sources.{no_type_sources};
 
-    ghost blank = { no_type_sources };
+    ghost empty_value = { no_type_sources };
 
-    fn blank(alloc: Global) -> TypeSources {
+    fn empty_value(alloc: Global) -> TypeSources {
         TypeSources::new(alloc)
     }
 }

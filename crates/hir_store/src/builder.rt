@@ -20,7 +20,7 @@ use hir_node::{
     LabelKind, LifetimeRef, LifetimeRefId, LifetimeRefKind, Pat, PatId, PatKind, TypeRef,
     TypeRefId, TypeRefKind,
 };
-use hir_rare::Rare;
+use hir_rare::LazyBox;
 use hir_source::{ExpressionStoreSourceMap, SourceMapBuilder};
 use std::alloc::{AllocError, AllocFailed, Global};
 use std::fmt::{self, Display};
@@ -37,8 +37,8 @@ pub struct ExpressionStoreBuilder {
     pub types: Arena<TypeRefKind, TypeRef>,
     /// The closure, coroutine or anonymous constant that owns a binding. A binding that the body itself owns has no entry.
     pub binding_owners: Table<BindingId, ExprId>,
-    pub(crate) hygiene: Rare<Table<ExprOrPatId, HygieneId>>,
-    pub(crate) block_scopes: Rare<Seq<BlockId>>,
+    pub(crate) hygiene: LazyBox<Table<ExprOrPatId, HygieneId>>,
+    pub(crate) block_scopes: LazyBox<Seq<BlockId>>,
     pub(crate) source_map: SourceMapBuilder,
     pub(crate) roots: Option<RootList>,
     pub(crate) alloc: Global,
@@ -99,8 +99,8 @@ impl ExpressionStoreBuilder {
             lifetimes: Arena::new(alloc),
             types: Arena::new(alloc),
             binding_owners: Table::new(alloc),
-            hygiene: Rare::new(alloc),
-            block_scopes: Rare::new(alloc),
+            hygiene: LazyBox::new(alloc),
+            block_scopes: LazyBox::new(alloc),
             source_map: SourceMapBuilder::new(alloc),
             roots: None,
             alloc,
@@ -240,7 +240,7 @@ impl ExpressionStoreBuilder {
         ensures err { OnErr result (self.new ≡ self.old) }
         ensures value_returned { IfErr result (λ failed. failed.value ≡ (id, hygiene)) }
     {
-        match self.hygiene.make() {
+        match self.hygiene.get_or_alloc() {
             Ok(table) => table.put(id, hygiene),
             Err(_) => Err(AllocFailed {
                 value: (id, hygiene),
@@ -255,7 +255,7 @@ impl ExpressionStoreBuilder {
         ensures err { OnErr result (self.new ≡ self.old) }
         ensures value_returned { IfErr result (λ failed. failed.value ≡ block) }
     {
-        match self.block_scopes.make() {
+        match self.block_scopes.get_or_alloc() {
             Ok(blocks) => blocks.push(block),
             Err(_) => Err(AllocFailed { value: block }),
         }
@@ -289,16 +289,16 @@ impl ExpressionStoreBuilder {
     /// Moves the owners of bindings out of the builder, to where a store has them.
     ///
     /// Answers an error if memory for them was refused: nothing has changed then.
-    pub(crate) fn take_owners(&mut self) -> Result<Rare<Table<BindingId, ExprId>>, AllocError>
+    pub(crate) fn take_owners(&mut self) -> Result<LazyBox<Table<BindingId, ExprId>>, AllocError>
         ensures owners { IfOk result (λ owners. owners ≡ self.old.binding_owners) }
         ensures ok { OnOk result (self.new ≡ record self.old { binding_owners = map.empty }) }
         ensures err { OnErr result (self.new ≡ self.old) }
     {
         if self.binding_owners.is_empty() {
-            return Ok(Rare::new(self.alloc));
+            return Ok(LazyBox::new(self.alloc));
         }
         let owners = replace(&mut self.binding_owners, Table::new(self.alloc));
-        match Rare::of(self.alloc, owners) {
+        match LazyBox::of(self.alloc, owners) {
             Ok(owners) => Ok(owners),
             Err(failed) => {
                 self.binding_owners = failed.value;
@@ -310,8 +310,8 @@ impl ExpressionStoreBuilder {
     /// The store and the source map of a builder without a fault, with the owners of bindings and what follows from its nodes.
     pub(crate) fn into_store(
         self,
-        owners: Rare<Table<BindingId, ExprId>>,
-        kept: Rare<KeptParts>,
+        owners: LazyBox<Table<BindingId, ExprId>>,
+        kept: LazyBox<KeptParts>,
     ) -> (ExpressionStore, ExpressionStoreSourceMap)
         requires sound { finish_fault (building_of self) None }
         requires parents { HasParents (graph (nodes_of self)) kept.parents.parents }

@@ -27,7 +27,7 @@ impl ExpressionStoreBuilder {
         ensures err { OnErr result (self.new ≡ self.old) }
         ensures value_returned { IfErr result (λ failed. failed.value ≡ (source, expr)) }
     {
-        match self.source_map.exprs.make() {
+        match self.source_map.exprs.get_or_alloc() {
             Ok(maps) => maps.expr_map.put(source, expr),
             Err(_) => Err(AllocFailed {
                 value: (source, expr),
@@ -46,7 +46,7 @@ impl ExpressionStoreBuilder {
         ensures err { OnErr result (self.new ≡ self.old) }
         ensures value_returned { IfErr result (λ failed. failed.value ≡ (expr, source)) }
     {
-        match self.source_map.exprs.make() {
+        match self.source_map.exprs.get_or_alloc() {
             Ok(maps) => maps.expr_map_back.put(expr, source),
             Err(_) => Err(AllocFailed {
                 value: (expr, source),
@@ -65,7 +65,7 @@ impl ExpressionStoreBuilder {
         ensures err { OnErr result (self.new ≡ self.old) }
         ensures value_returned { IfErr result (λ failed. failed.value ≡ (source, pat)) }
     {
-        match self.source_map.exprs.make() {
+        match self.source_map.exprs.get_or_alloc() {
             Ok(maps) => maps.pat_map.put(source, pat),
             Err(_) => Err(AllocFailed {
                 value: (source, pat),
@@ -84,7 +84,7 @@ impl ExpressionStoreBuilder {
         ensures err { OnErr result (self.new ≡ self.old) }
         ensures value_returned { IfErr result (λ failed. failed.value ≡ (pat, source)) }
     {
-        match self.source_map.exprs.make() {
+        match self.source_map.exprs.get_or_alloc() {
             Ok(maps) => maps.pat_map_back.put(pat, source),
             Err(_) => Err(AllocFailed {
                 value: (pat, source),
@@ -103,7 +103,7 @@ impl ExpressionStoreBuilder {
         ensures err { OnErr result (self.new ≡ self.old) }
         ensures value_returned { IfErr result (λ failed. failed.value ≡ (source, label)) }
     {
-        match self.source_map.exprs.make() {
+        match self.source_map.exprs.get_or_alloc() {
             Ok(maps) => maps.label_map.put(source, label),
             Err(_) => Err(AllocFailed {
                 value: (source, label),
@@ -122,7 +122,7 @@ impl ExpressionStoreBuilder {
         ensures err { OnErr result (self.new ≡ self.old) }
         ensures value_returned { IfErr result (λ failed. failed.value ≡ (label, source)) }
     {
-        match self.source_map.exprs.make() {
+        match self.source_map.exprs.get_or_alloc() {
             Ok(maps) => maps.label_map_back.put(label, source),
             Err(_) => Err(AllocFailed {
                 value: (label, source),
@@ -141,7 +141,7 @@ impl ExpressionStoreBuilder {
         ensures err { OnErr result (self.new ≡ self.old) }
         ensures value_returned { IfErr result (λ failed. failed.value ≡ (source, type_ref)) }
     {
-        match self.source_map.types.make() {
+        match self.source_map.types.get_or_alloc() {
             Ok(maps) => maps.type_map.put(source, type_ref),
             Err(_) => Err(AllocFailed {
                 value: (source, type_ref),
@@ -160,7 +160,7 @@ impl ExpressionStoreBuilder {
         ensures err { OnErr result (self.new ≡ self.old) }
         ensures value_returned { IfErr result (λ failed. failed.value ≡ (type_ref, source)) }
     {
-        match self.source_map.types.make() {
+        match self.source_map.types.get_or_alloc() {
             Ok(maps) => maps.type_map_back.put(type_ref, source),
             Err(_) => Err(AllocFailed {
                 value: (type_ref, source),
@@ -179,7 +179,7 @@ impl ExpressionStoreBuilder {
         ensures err { OnErr result (self.new ≡ self.old) }
         ensures value_returned { IfErr result (λ failed. failed.value ≡ (source, lifetime)) }
     {
-        match self.source_map.types.make() {
+        match self.source_map.types.get_or_alloc() {
             Ok(maps) => maps.lifetime_map.put(source, lifetime),
             Err(_) => Err(AllocFailed {
                 value: (source, lifetime),
@@ -198,7 +198,7 @@ impl ExpressionStoreBuilder {
         ensures err { OnErr result (self.new ≡ self.old) }
         ensures value_returned { IfErr result (λ failed. failed.value ≡ (lifetime, source)) }
     {
-        match self.source_map.types.make() {
+        match self.source_map.types.get_or_alloc() {
             Ok(maps) => maps.lifetime_map_back.put(lifetime, source),
             Err(_) => Err(AllocFailed {
                 value: (lifetime, source),
@@ -217,7 +217,7 @@ impl ExpressionStoreBuilder {
         ensures err { OnErr result (self.new ≡ self.old) }
         ensures value_returned { IfErr result (λ failed. failed.value ≡ (expr, source)) }
     {
-        match self.source_map.exprs.make() {
+        match self.source_map.exprs.get_or_alloc() {
             Ok(maps) => maps.field_map_back.put(expr, source),
             Err(_) => Err(AllocFailed {
                 value: (expr, source),
@@ -236,7 +236,7 @@ impl ExpressionStoreBuilder {
         ensures err { OnErr result (self.new ≡ self.old) }
         ensures value_returned { IfErr result (λ failed. failed.value ≡ (pat, source)) }
     {
-        match self.source_map.exprs.make() {
+        match self.source_map.exprs.get_or_alloc() {
             Ok(maps) => maps.pat_field_map_back.put(pat, source),
             Err(_) => Err(AllocFailed {
                 value: (pat, source),
@@ -255,7 +255,7 @@ impl ExpressionStoreBuilder {
         ensures err { OnErr result (self.new ≡ self.old) }
         ensures value_returned { IfErr result (λ failed. failed.value ≡ (call, expansion)) }
     {
-        match self.source_map.exprs.make() {
+        match self.source_map.exprs.get_or_alloc() {
             Ok(maps) => maps.expansions.put(call, expansion),
             Err(_) => Err(AllocFailed {
                 value: (call, expansion),
@@ -275,7 +275,7 @@ impl ExpressionStoreBuilder {
         ensures value_returned { IfErr result (λ failed. failed.value ≡ (binding, pat)) }
     {
         let alloc = self.source_map.alloc;
-        match self.source_map.exprs.make() {
+        match self.source_map.exprs.get_or_alloc() {
             Ok(maps) => define(alloc, &mut maps.definitions, binding, pat),
             Err(_) => Err(AllocFailed {
                 value: (binding, pat),
@@ -293,7 +293,7 @@ impl ExpressionStoreBuilder {
         ensures err { OnErr result (self.new ≡ self.old) }
         ensures value_returned { IfErr result (λ failed. failed.value ≡ diagnostic) }
     {
-        match self.source_map.exprs.make() {
+        match self.source_map.exprs.get_or_alloc() {
             Ok(maps) => maps.diagnostics.push(diagnostic),
             Err(_) => Err(AllocFailed { value: diagnostic }),
         }

@@ -11,7 +11,7 @@ use crate::builder::{ExpressionStoreBuilder, Refused};
 use hir_expr_store::{ExpressionStore, KeptParts, PatLinks};
 use hir_faults::{FinishFault, validated_parents};
 use hir_forest::{Parents, Root};
-use hir_rare::Rare;
+use hir_rare::LazyBox;
 use hir_source::ExpressionStoreSourceMap;
 
 impl ExpressionStoreBuilder {
@@ -50,7 +50,7 @@ impl ExpressionStoreBuilder {
     }
 
     /// What a store of the nodes keeps, where there is no fault. Else the first fault, or `Memory`.
-    fn validate(&self) -> Result<Rare<KeptParts>, FinishFault>
+    fn validate(&self) -> Result<LazyBox<KeptParts>, FinishFault>
         ensures ok { IfOk result (λ kept. finish_fault (building_of self.now) None
             × HasParents (graph (nodes_of self.now)) kept.parents.parents
             × HasPatLinks (nodes_of self.now).pats kept.links) }
@@ -61,7 +61,7 @@ impl ExpressionStoreBuilder {
         let Ok(links) = PatLinks::of(self.alloc, self.pats.as_slice()) else {
             return Err(FinishFault::Memory);
         };
-        match Rare::of(self.alloc, KeptParts { parents, links }) {
+        match LazyBox::of(self.alloc, KeptParts { parents, links }) {
             Ok(kept) => Ok(kept),
             Err(_) => Err(FinishFault::Memory),
         }

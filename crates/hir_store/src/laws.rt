@@ -8,13 +8,13 @@ ghost use Rattle.hir_store.specs.Building.{Building, HasTheSame, finish_fault};
 
 use crate::builder::ExpressionStoreBuilder;
 pub use hir_expr_store::laws::{
-    ByChildren, bindings_in_unfold, bounds_and_args_of_nodes_fit, contents_are_a_forest, exprs_in_unfold,
-    rank_decreases, children_are_disjoint, children_of_reached_are_reached, nodes_are_sound, nodes_under_unfold,
-    one_parent, parts_of_args_fit, parts_of_paths_fit, paths_of_bounds_are_in_range,
-    paths_of_nodes_fit, paths_that_fit_have_one_list_each, pats_unfold, ranks_are_bounded,
-    reached_is_decided, reached_is_listed, reached_is_listed_once, roots_are_disjoint,
-    roots_stand_apart, under_two_is_under_one, fold_down_unfold, reached_nodes_are_in_range,
-    descendants_are_in_range, parents_are_in_range,
+    ByChildren, bindings_in_unfold, bounds_and_args_of_nodes_fit, children_are_disjoint,
+    children_of_reached_are_reached, contents_are_a_forest, descendants_are_in_range,
+    exprs_in_unfold, fold_down_unfold, nodes_are_sound, nodes_under_unfold, one_parent,
+    parents_are_in_range, parts_of_args_fit, parts_of_paths_fit, paths_of_bounds_are_in_range,
+    paths_of_nodes_fit, paths_that_fit_have_one_list_each, pats_unfold, rank_decreases,
+    ranks_are_bounded, reached_is_decided, reached_is_listed, reached_is_listed_once,
+    reached_nodes_are_in_range, roots_are_disjoint, roots_stand_apart, under_two_is_under_one,
 };
 
 /// A builder has one first fault at most: it is accepted exactly where there is none.

@@ -142,27 +142,30 @@ fn add(b: &mut ExpressionStoreBuilder, alloc: Global, step: &Step) -> Result<(),
             Ok(())
         }
         Step::Root(node) => taken(b.push_root(Idx::from_raw(*node)), Idx::from_raw(*node)),
-        Step::Expr(step) => match nodes::both(nodes::expr(alloc, step), nodes::expr(alloc, step)) {
+        Step::Expr(step) => match nodes::zip_ok(
+            nodes::expr(alloc, step),
+            nodes::expr(alloc, step),
+        ) {
             Ok((expr, same)) => added(b.alloc_expr(expr), same),
             Err(fault) => Err(fault),
         },
-        Step::Pat(step) => match nodes::both(nodes::pat(alloc, step), nodes::pat(alloc, step)) {
+        Step::Pat(step) => match nodes::zip_ok(nodes::pat(alloc, step), nodes::pat(alloc, step)) {
             Ok((pat, same)) => added(b.alloc_pat(pat), same),
             Err(fault) => Err(fault),
         },
         Step::Type(step) => {
-            match nodes::both(nodes::type_ref(alloc, step), nodes::type_ref(alloc, step)) {
+            match nodes::zip_ok(nodes::type_ref(alloc, step), nodes::type_ref(alloc, step)) {
                 Ok((type_ref, same)) => added(b.alloc_type(type_ref), same),
                 Err(fault) => Err(fault),
             }
         }
         Step::Binding(text) => {
-            match nodes::both(nodes::binding(alloc, text), nodes::binding(alloc, text)) {
+            match nodes::zip_ok(nodes::binding(alloc, text), nodes::binding(alloc, text)) {
                 Ok((binding, same)) => added(b.alloc_binding(binding), same),
                 Err(fault) => Err(fault),
             }
         }
-        Step::Label(text) => match nodes::both(
+        Step::Label(text) => match nodes::zip_ok(
             nodes::label(alloc, text),
             nodes::label(alloc, text),
         ) {

@@ -14,13 +14,13 @@ mod entries;
 #[cfg(test)]
 mod laws;
 #[cfg(test)]
+mod lazy_box;
+#[cfg(test)]
 mod lookups;
 #[cfg(test)]
 mod nodes;
 #[cfg(test)]
 mod outcomes;
-#[cfg(test)]
-mod rare;
 #[cfg(test)]
 mod refused_memory;
 #[cfg(test)]

@@ -74,7 +74,7 @@ pub enum TypeStep {
 }
 
 /// Both, if they could be made.
-pub fn both<T: Drop, U: Drop>(
+pub fn zip_ok<T: Drop, U: Drop>(
     first: Result<T, AllocError>,
     second: Result<U, AllocError>,
 ) -> Result<(T, U), BuildFault> {
@@ -126,7 +126,7 @@ fn normal(
     names: &[&str],
     lists: Result<Seq<Option<GenericArgs>>, AllocError>,
 ) -> Result<Path, AllocError> {
-    let path = match both(plain(alloc, names), lists) {
+    let path = match zip_ok(plain(alloc, names), lists) {
         Ok((mod_path, generic_args)) => Ok(NormalPath {
             generic_args,
             type_anchor: None,
@@ -142,7 +142,7 @@ fn binding_with(
     alloc: Global,
     args: Result<GenericArgs, AllocError>,
 ) -> Result<AssociatedTypeBinding, AllocError> {
-    match both(Name::new(alloc, "B"), args) {
+    match zip_ok(Name::new(alloc, "B"), args) {
         Ok((name, args)) => Ok(AssociatedTypeBinding {
             name,
             args: Some(args),

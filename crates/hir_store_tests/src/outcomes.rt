@@ -70,7 +70,7 @@ pub fn is_empty(store: &ExpressionStore, alloc: Global) -> bool {
 }
 
 /// Both, if they could be made.
-fn both<T: Drop, U: Drop>(
+fn zip_ok<T: Drop, U: Drop>(
     first: Result<T, BuildFault>,
     second: Result<U, BuildFault>,
 ) -> Result<(T, U), BuildFault> {
@@ -80,7 +80,7 @@ fn both<T: Drop, U: Drop>(
 /// Whether the builder of these steps is refused by this fault, and comes back as it was: as another one of
 /// the same steps. Where memory is refused, that is the error, and no wrong fault.
 pub fn is_refused(alloc: Global, steps: &[Step], fault: FinishFault) -> Result<bool, BuildFault> {
-    match both(build::build_once(alloc, steps), finish_steps(alloc, steps)) {
+    match zip_ok(build::build_once(alloc, steps), finish_steps(alloc, steps)) {
         Ok((wanted, outcome)) => match outcome {
             Ok(_) => Ok(false),
             Err(refused) => {
@@ -96,7 +96,7 @@ pub fn is_refused(alloc: Global, steps: &[Step], fault: FinishFault) -> Result<b
 
 /// Whether the builders of these steps and of those differ.
 pub fn differ(alloc: Global, first: &[Step], second: &[Step]) -> Result<bool, BuildFault> {
-    match both(
+    match zip_ok(
         build::build_steps(alloc, first),
         build::build_steps(alloc, second),
     ) {

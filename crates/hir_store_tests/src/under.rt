@@ -84,7 +84,7 @@ fn what_lies_under_marked_nodes(rt: HostRuntime) -> Result<(), Fail> {
     let made = outcomes::accept_steps(a, LET_IN_TUPLE)?;
     let all_held = all_held(a, &made.0);
     std::mem::drop(made);
-    let (both, neither) = ((Some(true), Some(true)), (Some(false), Some(false)));
-    assert!(&rt; all_held? == [neither, both, both, neither, (Some(false), None)]);
+    let (zip_ok, neither) = ((Some(true), Some(true)), (Some(false), Some(false)));
+    assert!(&rt; all_held? == [neither, zip_ok, zip_ok, neither, (Some(false), None)]);
     Ok(())
 }

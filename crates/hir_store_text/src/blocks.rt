@@ -2,13 +2,13 @@
 
 use crate::missing::refuse_missing;
 use hir_base::{BlockId, Id};
-use hir_notation::{Answer, Stop, Words};
+use hir_notation::{Answer, TextError, Words};
 use hir_store::{Blocks, ExpressionStore};
 use std::alloc::{AllocError, Global};
 use std::collections::BTreeMap;
 
 /// The maps of blocks at the end of the line: `N=N..`
-fn read_maps(words: &mut Words<'_>, alloc: Global) -> Result<BTreeMap<BlockId, u32>, Stop> {
+fn read_maps(words: &mut Words<'_>, alloc: Global) -> Result<BTreeMap<BlockId, u32>, TextError> {
     let mut maps = BTreeMap::new(alloc);
     for _ in 0..words.rest().len() {
         if words.is_end() {
@@ -49,7 +49,7 @@ pub(crate) fn ask(
     store: &ExpressionStore,
     words: &mut Words<'_>,
     answer: &mut Answer,
-) -> Result<(), Stop> {
+) -> Result<(), TextError> {
     let maps = read_maps(words, alloc)?;
     Ok(write(store, &maps, answer)?)
 }

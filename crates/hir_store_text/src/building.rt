@@ -2,7 +2,7 @@
 
 use hir_node::{Binding, Expr, Label, LifetimeRef, Pat, TypeRef};
 use hir_notation::{
-    Stop, Words, read_binding, read_expr, read_label, read_lifetime, read_pat, read_type,
+    TextError, Words, read_binding, read_expr, read_label, read_lifetime, read_pat, read_type,
 };
 use hir_store::ExpressionStoreBuilder;
 use std::alloc::Global;
@@ -21,79 +21,79 @@ pub(crate) enum Arena {
 /// A node that a line makes.
 trait NodeKind: Sized + Drop {
     /// What stands behind the first word of the line.
-    fn read(alloc: Global, words: &mut Words<'_>) -> Result<Self, Stop>;
+    fn read(alloc: Global, words: &mut Words<'_>) -> Result<Self, TextError>;
 
-    fn add(self, builder: &mut ExpressionStoreBuilder) -> Result<(), Stop>;
+    fn add(self, builder: &mut ExpressionStoreBuilder) -> Result<(), TextError>;
 }
 
 impl NodeKind for Expr {
-    fn read(alloc: Global, words: &mut Words<'_>) -> Result<Expr, Stop> {
+    fn read(alloc: Global, words: &mut Words<'_>) -> Result<Expr, TextError> {
         read_expr(words, alloc)
     }
 
-    fn add(self, builder: &mut ExpressionStoreBuilder) -> Result<(), Stop> {
+    fn add(self, builder: &mut ExpressionStoreBuilder) -> Result<(), TextError> {
         done_or_stop(builder.alloc_expr(self))
     }
 }
 
 impl NodeKind for Pat {
-    fn read(alloc: Global, words: &mut Words<'_>) -> Result<Pat, Stop> {
+    fn read(alloc: Global, words: &mut Words<'_>) -> Result<Pat, TextError> {
         read_pat(words, alloc)
     }
 
-    fn add(self, builder: &mut ExpressionStoreBuilder) -> Result<(), Stop> {
+    fn add(self, builder: &mut ExpressionStoreBuilder) -> Result<(), TextError> {
         done_or_stop(builder.alloc_pat(self))
     }
 }
 
 impl NodeKind for TypeRef {
-    fn read(alloc: Global, words: &mut Words<'_>) -> Result<TypeRef, Stop> {
+    fn read(alloc: Global, words: &mut Words<'_>) -> Result<TypeRef, TextError> {
         read_type(words, alloc)
     }
 
-    fn add(self, builder: &mut ExpressionStoreBuilder) -> Result<(), Stop> {
+    fn add(self, builder: &mut ExpressionStoreBuilder) -> Result<(), TextError> {
         done_or_stop(builder.alloc_type(self))
     }
 }
 
 impl NodeKind for Binding {
-    fn read(alloc: Global, words: &mut Words<'_>) -> Result<Binding, Stop> {
+    fn read(alloc: Global, words: &mut Words<'_>) -> Result<Binding, TextError> {
         read_binding(words, alloc)
     }
 
-    fn add(self, builder: &mut ExpressionStoreBuilder) -> Result<(), Stop> {
+    fn add(self, builder: &mut ExpressionStoreBuilder) -> Result<(), TextError> {
         done_or_stop(builder.alloc_binding(self))
     }
 }
 
 impl NodeKind for Label {
-    fn read(alloc: Global, words: &mut Words<'_>) -> Result<Label, Stop> {
+    fn read(alloc: Global, words: &mut Words<'_>) -> Result<Label, TextError> {
         read_label(words, alloc)
     }
 
-    fn add(self, builder: &mut ExpressionStoreBuilder) -> Result<(), Stop> {
+    fn add(self, builder: &mut ExpressionStoreBuilder) -> Result<(), TextError> {
         done_or_stop(builder.alloc_label(self))
     }
 }
 
 impl NodeKind for LifetimeRef {
-    fn read(alloc: Global, words: &mut Words<'_>) -> Result<LifetimeRef, Stop> {
+    fn read(alloc: Global, words: &mut Words<'_>) -> Result<LifetimeRef, TextError> {
         read_lifetime(words, alloc)
     }
 
-    fn add(self, builder: &mut ExpressionStoreBuilder) -> Result<(), Stop> {
+    fn add(self, builder: &mut ExpressionStoreBuilder) -> Result<(), TextError> {
         done_or_stop(builder.alloc_lifetime(self))
     }
 }
 
 /// Whether there was memory for what was added.
-pub fn done_or_stop<T: Drop, E>(outcome: Result<T, E>) -> Result<(), Stop>
+pub fn done_or_stop<T: Drop, E>(outcome: Result<T, E>) -> Result<(), TextError>
 where
-    Stop: From<E>,
+    TextError: From<E>,
 {
     match outcome {
         Ok(_) => Ok(()),
-        Err(refused) => Err(Stop::from(refused)),
+        Err(refused) => Err(TextError::from(refused)),
     }
 }
 
@@ -102,7 +102,7 @@ fn make_one<T: NodeKind>(
     alloc: Global,
     builder: &mut ExpressionStoreBuilder,
     words: &mut Words<'_>,
-) -> Result<(), Stop> {
+) -> Result<(), TextError> {
     let node = T::read(alloc, words)?;
     words.end()?;
     node.add(builder)
@@ -114,7 +114,7 @@ pub(crate) fn make(
     builder: &mut ExpressionStoreBuilder,
     arena: Arena,
     words: &mut Words<'_>,
-) -> Result<(), Stop> {
+) -> Result<(), TextError> {
     match arena {
         Arena::Exprs => make_one::<Expr>(alloc, builder, words),
         Arena::Pats => make_one::<Pat>(alloc, builder, words),

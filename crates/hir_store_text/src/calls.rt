@@ -5,13 +5,13 @@ use crate::ends::last_node;
 use crate::missing::answer_unknown;
 use crate::recorder::{Recorder, write_same};
 use hir_node::{GenericArgs, Path, StoreVisitorExt, TypeBound, visit_generic_args};
-use hir_notation::{Answer, Node, Stop, Words, next_args, next_bound, next_path};
+use hir_notation::{Answer, Node, TextError, Words, next_args, next_bound, next_path};
 use hir_store::ExpressionStore;
 use std::alloc::Global;
 
 /// A part of a node that a visitor is called for.
 trait Part: Sized + Drop {
-    fn read(alloc: Global, words: &mut Words<'_>) -> Result<Self, Stop>;
+    fn read(alloc: Global, words: &mut Words<'_>) -> Result<Self, TextError>;
 
     fn visit(&self, recorder: &mut Recorder);
 
@@ -20,7 +20,7 @@ trait Part: Sized + Drop {
 }
 
 impl Part for Path {
-    fn read(alloc: Global, words: &mut Words<'_>) -> Result<Path, Stop> {
+    fn read(alloc: Global, words: &mut Words<'_>) -> Result<Path, TextError> {
         next_path(words, alloc)
     }
 
@@ -34,7 +34,7 @@ impl Part for Path {
 }
 
 impl Part for TypeBound {
-    fn read(alloc: Global, words: &mut Words<'_>) -> Result<TypeBound, Stop> {
+    fn read(alloc: Global, words: &mut Words<'_>) -> Result<TypeBound, TextError> {
         next_bound(words, alloc)
     }
 
@@ -48,7 +48,7 @@ impl Part for TypeBound {
 }
 
 impl Part for GenericArgs {
-    fn read(alloc: Global, words: &mut Words<'_>) -> Result<GenericArgs, Stop> {
+    fn read(alloc: Global, words: &mut Words<'_>) -> Result<GenericArgs, TextError> {
         next_args(words, alloc)
     }
 
@@ -62,7 +62,11 @@ impl Part for GenericArgs {
 }
 
 /// `calls path PATH`, `calls bound BOUND`, `calls args ARGS`
-fn of_part<T: Part>(alloc: Global, words: &mut Words<'_>, answer: &mut Answer) -> Result<(), Stop> {
+fn of_part<T: Part>(
+    alloc: Global,
+    words: &mut Words<'_>,
+    answer: &mut Answer,
+) -> Result<(), TextError> {
     let part = T::read(alloc, words)?;
     words.end()?;
     let mut first = Recorder::new(alloc);
@@ -109,7 +113,7 @@ fn of_node(
     store: &ExpressionStore,
     words: &mut Words<'_>,
     answer: &mut Answer,
-) -> Result<(), Stop> {
+) -> Result<(), TextError> {
     let node = last_node(words)?;
     let mut by_store = Recorder::new(alloc);
     let mut by_node = Recorder::new(alloc);
@@ -126,7 +130,7 @@ pub(crate) fn ask(
     store: &ExpressionStore,
     words: &mut Words<'_>,
     answer: &mut Answer,
-) -> Result<(), Stop> {
+) -> Result<(), TextError> {
     if words.flag(b"path") {
         of_part::<Path>(alloc, words, answer)
     } else if words.flag(b"args") {

@@ -3,7 +3,7 @@
 use crate::building::done_or_stop;
 use hir_base::{BlockId, HygieneId, Id};
 use hir_node::{BindingId, ExprId, ExprOrPatId, PatId};
-use hir_notation::{Stop, Words, next_hygiene};
+use hir_notation::{TextError, Words, next_hygiene};
 use hir_store::ExpressionStoreBuilder;
 
 /// What the first word of a line says that it adds.
@@ -30,7 +30,7 @@ enum Entry {
 }
 
 /// What stands behind the first word.
-fn read(kind: Kind, words: &mut Words<'_>) -> Result<Entry, Stop> {
+fn read(kind: Kind, words: &mut Words<'_>) -> Result<Entry, TextError> {
     match kind {
         Kind::Roots => Ok(Entry::Roots),
         Kind::Root => Ok(Entry::Root(words.next_id()?)),
@@ -55,7 +55,7 @@ fn read(kind: Kind, words: &mut Words<'_>) -> Result<Entry, Stop> {
 }
 
 /// The same to the end of the line.
-fn read_line(kind: Kind, words: &mut Words<'_>) -> Result<Entry, Stop> {
+fn read_line(kind: Kind, words: &mut Words<'_>) -> Result<Entry, TextError> {
     let entry = read(kind, words)?;
     words.end()?;
     Ok(entry)
@@ -66,7 +66,7 @@ pub(crate) fn make(
     builder: &mut ExpressionStoreBuilder,
     kind: Kind,
     words: &mut Words<'_>,
-) -> Result<(), Stop> {
+) -> Result<(), TextError> {
     match read_line(kind, words)? {
         Entry::Roots => {
             builder.begin_roots();

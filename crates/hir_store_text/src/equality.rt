@@ -5,7 +5,7 @@ use crate::missing::{answer_unknown, differs};
 use crate::nodes::has_node;
 use hir_base::{ArenaIter, ExactEq, TryClone};
 use hir_node::{Binding, Expr, Label, LabelId, LifetimeRef, Pat, TypeRef};
-use hir_notation::{Answer, Node, Stop, Words, next_node};
+use hir_notation::{Answer, Node, TextError, Words, next_node};
 use hir_store::{ExpressionStore, ExpressionStoreSourceMap};
 use hir_words::value_of;
 use std::alloc::AllocError;
@@ -44,7 +44,7 @@ pub fn ask_kept(
     word: &[u8],
     words: &mut Words<'_>,
     answer: &mut Answer,
-) -> Result<bool, Stop> {
+) -> Result<bool, TextError> {
     let Some(question) = value_of(&KEPT, word) else {
         return Ok(false);
     };
@@ -176,7 +176,7 @@ pub(crate) fn equal(
     store: &ExpressionStore,
     words: &mut Words<'_>,
     answer: &mut Answer,
-) -> Result<(), Stop> {
+) -> Result<(), TextError> {
     let first = next_node(words)?;
     let second = last_node(words)?;
     if has_node(store, first) && has_node(store, second) {
@@ -235,7 +235,7 @@ pub(crate) fn copies(
     store: &ExpressionStore,
     words: &mut Words<'_>,
     answer: &mut Answer,
-) -> Result<(), Stop> {
+) -> Result<(), TextError> {
     words.end()?;
     if are_all_copied(store)? && is_copied(store)? {
         Ok(answer.word("equal")?)

@@ -3,7 +3,7 @@
 use crate::building::{self, Arena};
 use crate::entries::{self, Kind};
 use crate::mapping::{self, Either, Numbered, Place};
-use hir_notation::{Stop, Words};
+use hir_notation::{TextError, Words};
 use hir_store::ExpressionStoreBuilder;
 use hir_words::value_of;
 use std::alloc::Global;
@@ -56,7 +56,7 @@ fn add(
     builder: &mut ExpressionStoreBuilder,
     line: Line,
     words: &mut Words<'_>,
-) -> Result<(), Stop> {
+) -> Result<(), TextError> {
     match line {
         Line::Node(arena) => building::make(alloc, builder, arena, words),
         Line::Entry(kind) => entries::make(builder, kind, words),
@@ -73,7 +73,7 @@ pub fn make(
     builder: &mut ExpressionStoreBuilder,
     word: &[u8],
     words: &mut Words<'_>,
-) -> Result<bool, Stop> {
+) -> Result<bool, TextError> {
     let Some(line) = value_of(&LINES, word) else {
         return Ok(false);
     };

@@ -4,7 +4,7 @@ use crate::building::done_or_stop;
 use crate::ends::{last_either, last_number, last_source};
 use hir_base::{Id, Idx, InFile, SyntaxNodePtr};
 use hir_node::ExprOrPatId;
-use hir_notation::{Stop, Words, next_source, pointer, read_diagnostic};
+use hir_notation::{TextError, Words, next_source, pointer, read_diagnostic};
 use hir_store::ExpressionStoreBuilder;
 use std::alloc::Global;
 
@@ -37,19 +37,19 @@ pub(crate) enum Place {
 }
 
 /// A source, and an expression or a pattern at the end of the line.
-fn read_either(words: &mut Words<'_>) -> Result<(InFile<SyntaxNodePtr>, ExprOrPatId), Stop> {
+fn read_either(words: &mut Words<'_>) -> Result<(InFile<SyntaxNodePtr>, ExprOrPatId), TextError> {
     let source = next_source(words)?;
     Ok((source, last_either(words)?))
 }
 
 /// A source, and a number at the end of the line.
-fn read_numbered(words: &mut Words<'_>) -> Result<(InFile<SyntaxNodePtr>, u32), Stop> {
+fn read_numbered(words: &mut Words<'_>) -> Result<(InFile<SyntaxNodePtr>, u32), TextError> {
     let source = next_source(words)?;
     Ok((source, last_number(words)?))
 }
 
 /// A number, and a source at the end of the line.
-fn read_back(words: &mut Words<'_>) -> Result<(u32, InFile<SyntaxNodePtr>), Stop> {
+fn read_back(words: &mut Words<'_>) -> Result<(u32, InFile<SyntaxNodePtr>), TextError> {
     let number = words.next_number()?;
     Ok((number, last_source(words)?))
 }
@@ -59,7 +59,7 @@ pub(crate) fn map_either(
     builder: &mut ExpressionStoreBuilder,
     by: Either,
     words: &mut Words<'_>,
-) -> Result<(), Stop> {
+) -> Result<(), TextError> {
     let (source, node) = read_either(words)?;
     match by {
         Either::Expr => done_or_stop(builder.map_expr(pointer(source), node)),
@@ -72,7 +72,7 @@ pub(crate) fn map_numbered(
     builder: &mut ExpressionStoreBuilder,
     kind: Numbered,
     words: &mut Words<'_>,
-) -> Result<(), Stop> {
+) -> Result<(), TextError> {
     let (source, number) = read_numbered(words)?;
     match kind {
         Numbered::Label => done_or_stop(builder.map_label(pointer(source), Idx::from_raw(number))),
@@ -93,7 +93,7 @@ pub(crate) fn map_back(
     builder: &mut ExpressionStoreBuilder,
     place: Place,
     words: &mut Words<'_>,
-) -> Result<(), Stop> {
+) -> Result<(), TextError> {
     let (number, source) = read_back(words)?;
     match place {
         Place::Expr => done_or_stop(builder.map_expr_back(Idx::from_raw(number), pointer(source))),
@@ -122,7 +122,7 @@ pub(crate) fn add_diagnostic(
     alloc: Global,
     builder: &mut ExpressionStoreBuilder,
     words: &mut Words<'_>,
-) -> Result<(), Stop> {
+) -> Result<(), TextError> {
     let diagnostic = read_diagnostic(words, alloc)?;
     done_or_stop(builder.push_diagnostic(diagnostic))?;
     words.end()

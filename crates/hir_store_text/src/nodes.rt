@@ -5,7 +5,7 @@ use crate::missing::{answer_unknown, differs};
 use hir_base::TryClone;
 use hir_node::{BindingId, Expr, ExprId, ExprOrPatId, LabelId, Literal, PathId, TypeRefId};
 use hir_notation::{
-    Answer, Node, Stop, Words, next_node, precedence_text, write_hygiene, write_literal,
+    Answer, Node, TextError, Words, next_node, precedence_text, write_hygiene, write_literal,
 };
 use hir_store::{ExprRoots, ExpressionStore};
 use std::alloc::AllocError;
@@ -31,7 +31,7 @@ enum Question {
 }
 
 /// What stands behind the first word.
-fn read(kind: Kind, words: &mut Words<'_>) -> Result<Question, Stop> {
+fn read(kind: Kind, words: &mut Words<'_>) -> Result<Question, TextError> {
     match kind {
         Kind::Counts => Ok(Question::Counts),
         Kind::Roots => Ok(Question::Roots),
@@ -143,14 +143,14 @@ pub(crate) fn ask(
     kind: Kind,
     words: &mut Words<'_>,
     answer: &mut Answer,
-) -> Result<(), Stop> {
+) -> Result<(), TextError> {
     let question = read(kind, words)?;
     words.end()?;
     Ok(write(store, question, answer)?)
 }
 
 /// Whether there is what comes next, a node or `path:T`.
-fn has_next(store: &ExpressionStore, words: &mut Words<'_>) -> Result<bool, Stop> {
+fn has_next(store: &ExpressionStore, words: &mut Words<'_>) -> Result<bool, TextError> {
     if words.prefix(b"path:") {
         let id: TypeRefId = words.id()?;
         return Ok(store.has_path(PathId::from_type_ref_unchecked(id)));
@@ -163,7 +163,7 @@ pub(crate) fn ask_has(
     store: &ExpressionStore,
     words: &mut Words<'_>,
     answer: &mut Answer,
-) -> Result<(), Stop> {
+) -> Result<(), TextError> {
     let is_there = has_next(store, words)?;
     words.end()?;
     Ok(answer.yes_or_no(is_there)?)
@@ -190,7 +190,7 @@ pub(crate) fn ask_hygiene(
     store: &ExpressionStore,
     words: &mut Words<'_>,
     answer: &mut Answer,
-) -> Result<(), Stop> {
+) -> Result<(), TextError> {
     let id = last_either(words)?;
     Ok(write_hygiene_of(store, id, answer)?)
 }

@@ -3,7 +3,7 @@
 use crate::ends::last_id;
 use crate::missing::answer_unknown;
 use hir_node::ExprId;
-use hir_notation::{Answer, Stop, Words, next_precedence};
+use hir_notation::{Answer, TextError, Words, next_precedence};
 use hir_store::ExpressionStore;
 use std::alloc::AllocError;
 
@@ -16,7 +16,7 @@ pub(crate) enum Question {
 }
 
 /// `parens PRECEDENCE PRECEDENCE`
-fn parens(words: &mut Words<'_>, answer: &mut Answer) -> Result<(), Stop> {
+fn parens(words: &mut Words<'_>, answer: &mut Answer) -> Result<(), TextError> {
     let child = next_precedence(words)?;
     let parent = next_precedence(words)?;
     words.end()?;
@@ -44,7 +44,7 @@ pub(crate) fn ask(
     question: Question,
     words: &mut Words<'_>,
     answer: &mut Answer,
-) -> Result<(), Stop> {
+) -> Result<(), TextError> {
     match question {
         Question::Parens => parens(words, answer),
         Question::CoroutineForClosure => Ok(coroutine_for_closure(last_id(words)?, answer)?),

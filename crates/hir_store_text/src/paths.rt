@@ -6,8 +6,8 @@ use hir_node::{
     GenericArgs, Path, PathSegment, PathSegments, TraitBoundModifier, TypeBound, TypeRefId,
 };
 use hir_notation::{
-    Answer, Stop, Words, join_args, next_bound, next_path, write_args, write_mod_path, write_path,
-    write_segments,
+    Answer, TextError, Words, join_args, next_bound, next_path, write_args, write_mod_path,
+    write_path, write_segments,
 };
 use hir_store::{ExpressionStore, TypeBoundExt};
 use hir_words::value_of;
@@ -57,14 +57,14 @@ const PARTS: [(&str, Part); 12] = [
 ];
 
 /// The part of a path that a line asks for.
-fn next_part(words: &mut Words<'_>) -> Result<Part, Stop> {
+fn next_part(words: &mut Words<'_>) -> Result<Part, TextError> {
     let word = words.next_keyword()?;
     if let Some(cut) = value_of(&CUTS, word) {
         return Ok(Part::Cut(cut, words.next_number()? as usize));
     }
     match value_of(&PARTS, word) {
         Some(part) => Ok(part),
-        None => Err(Stop::Bad),
+        None => Err(TextError::Syntax),
     }
 }
 
@@ -239,14 +239,18 @@ fn ask_part(
     path: &Path,
     words: &mut Words<'_>,
     answer: &mut Answer,
-) -> Result<(), Stop> {
+) -> Result<(), TextError> {
     let part = next_part(words)?;
     words.end()?;
     Ok(write_part(alloc, path, part, answer)?)
 }
 
 /// `path PATH ..`: a part of it.
-pub(crate) fn ask(alloc: Global, words: &mut Words<'_>, answer: &mut Answer) -> Result<(), Stop> {
+pub(crate) fn ask(
+    alloc: Global,
+    words: &mut Words<'_>,
+    answer: &mut Answer,
+) -> Result<(), TextError> {
     let path = next_path(words, alloc)?;
     ask_part(alloc, &path, words, answer)
 }
@@ -256,7 +260,7 @@ fn next_is_sound(
     alloc: Global,
     store: &ExpressionStore,
     words: &mut Words<'_>,
-) -> Result<bool, Stop> {
+) -> Result<bool, TextError> {
     let path = next_path(words, alloc)?;
     Ok(store.path_is_sound(&path))
 }
@@ -267,7 +271,7 @@ pub(crate) fn ask_sound(
     store: &ExpressionStore,
     words: &mut Words<'_>,
     answer: &mut Answer,
-) -> Result<(), Stop> {
+) -> Result<(), TextError> {
     let is_sound = next_is_sound(alloc, store, words)?;
     words.end()?;
     Ok(answer.yes_or_no(is_sound)?)
@@ -310,7 +314,7 @@ pub(crate) fn ask_bound_path(
     store: &ExpressionStore,
     words: &mut Words<'_>,
     answer: &mut Answer,
-) -> Result<(), Stop> {
+) -> Result<(), TextError> {
     let bound = next_bound(words, alloc)?;
     bound_path(store, &bound, answer)?;
     words.end()

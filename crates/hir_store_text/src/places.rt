@@ -4,7 +4,7 @@ use crate::ends::last_source;
 use crate::missing::differs;
 use hir_base::{HirFileId, InFile, MacroCallId, SyntaxNodePtr, TextRange};
 use hir_node::ExprOrPatId;
-use hir_notation::{Answer, Node, Stop, Words, pointer, syntax, write_node, write_source};
+use hir_notation::{Answer, Node, TextError, Words, pointer, syntax, write_node, write_source};
 use hir_store::ExpressionStoreSourceMap;
 use std::alloc::{AllocError, Global};
 use std::collections::BTreeMap;
@@ -70,7 +70,7 @@ pub(crate) fn ask(
     question: Question,
     words: &mut Words<'_>,
     answer: &mut Answer,
-) -> Result<(), Stop> {
+) -> Result<(), TextError> {
     let source = last_source(words)?;
     Ok(write(sources, question, source, answer)?)
 }
@@ -143,7 +143,7 @@ pub(crate) fn ask_expansions(
     sources: &ExpressionStoreSourceMap,
     words: &mut Words<'_>,
     answer: &mut Answer,
-) -> Result<(), Stop> {
+) -> Result<(), TextError> {
     words.end()?;
     let places = expansions(alloc, sources)?;
     if agree(sources, places.len()) {

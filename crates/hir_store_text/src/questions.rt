@@ -5,7 +5,7 @@ use crate::walks::Walk;
 use crate::{
     blocks, calls, equality, nodes, numbers, paths, places, searches, sources, try_walks, walks,
 };
-use hir_notation::{Answer, Stop, Words};
+use hir_notation::{Answer, TextError, Words};
 use hir_store::{ExpressionStore, ExpressionStoreSourceMap};
 use hir_words::value_of;
 use std::alloc::Global;
@@ -179,7 +179,7 @@ fn ask_store(
     question: OfStore,
     words: &mut Words<'_>,
     answer: &mut Answer,
-) -> Result<(), Stop> {
+) -> Result<(), TextError> {
     match question {
         OfStore::Blocks => blocks::ask(alloc, store, words, answer),
         OfStore::Calls => calls::ask(alloc, store, words, answer),
@@ -199,7 +199,7 @@ fn ask_sources(
     question: OfSources,
     words: &mut Words<'_>,
     answer: &mut Answer,
-) -> Result<(), Stop> {
+) -> Result<(), TextError> {
     match question {
         OfSources::Syntax => sources::ask_of_node(sources, words, answer),
         OfSources::Source(question) => sources::ask(sources, question, words, answer),
@@ -217,7 +217,7 @@ fn answer_question(
     question: Question,
     words: &mut Words<'_>,
     answer: &mut Answer,
-) -> Result<(), Stop> {
+) -> Result<(), TextError> {
     match question {
         Question::Nodes(kind) => nodes::ask(store, kind, words, answer),
         Question::Has => nodes::ask_has(store, words, answer),
@@ -240,7 +240,7 @@ pub fn ask(
     word: &[u8],
     words: &mut Words<'_>,
     answer: &mut Answer,
-) -> Result<bool, Stop> {
+) -> Result<bool, TextError> {
     let Some(question) = value_of(&QUESTIONS, word) else {
         return Ok(false);
     };

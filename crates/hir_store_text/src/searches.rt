@@ -3,7 +3,7 @@
 use crate::ends::last_node;
 use hir_base::Steps;
 use hir_node::{BindingId, ExprId, PatId};
-use hir_notation::{Answer, Node, Stop, Words};
+use hir_notation::{Answer, Node, TextError, Words};
 use hir_store::ExpressionStore;
 
 /// A node of the kinds that are made for a root.
@@ -15,12 +15,12 @@ enum Rooted {
 }
 
 /// A node at the end of the line.
-fn last_rooted(words: &mut Words<'_>) -> Result<Rooted, Stop> {
+fn last_rooted(words: &mut Words<'_>) -> Result<Rooted, TextError> {
     match last_node(words)? {
         Node::Expr(id) => Ok(Rooted::Expr(id)),
         Node::Pat(id) => Ok(Rooted::Pat(id)),
         Node::Binding(id) => Ok(Rooted::Binding(id)),
-        Node::Type(_) | Node::Label(_) | Node::Lifetime(_) => Err(Stop::Bad),
+        Node::Type(_) | Node::Label(_) | Node::Lifetime(_) => Err(TextError::Syntax),
     }
 }
 
@@ -57,7 +57,7 @@ pub(crate) fn ask(
     is_counted: bool,
     words: &mut Words<'_>,
     answer: &mut Answer,
-) -> Result<(), Stop> {
+) -> Result<(), TextError> {
     let node = last_rooted(words)?;
     let root = if is_counted {
         counted_root_of(store, node)

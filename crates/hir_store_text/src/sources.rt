@@ -3,7 +3,7 @@
 use crate::ends::{last_either, last_number};
 use hir_base::{AstPtr, Idx, InFile, SyntaxNodePtr, SyntheticSyntax};
 use hir_node::{ExprId, LabelId, PatId};
-use hir_notation::{Answer, Stop, Words, syntax, write_diagnostic, write_source};
+use hir_notation::{Answer, TextError, Words, syntax, write_diagnostic, write_source};
 use hir_store::{ExpressionStoreDiagnostics, ExpressionStoreSourceMap};
 use std::alloc::AllocError;
 
@@ -99,7 +99,7 @@ pub(crate) fn ask(
     question: Question,
     words: &mut Words<'_>,
     answer: &mut Answer,
-) -> Result<(), Stop> {
+) -> Result<(), TextError> {
     let number = last_number(words)?;
     Ok(write(sources, question, number, answer)?)
 }
@@ -109,7 +109,7 @@ pub(crate) fn ask_of_node(
     sources: &ExpressionStoreSourceMap,
     words: &mut Words<'_>,
     answer: &mut Answer,
-) -> Result<(), Stop> {
+) -> Result<(), TextError> {
     let node = last_either(words)?;
     Ok(write_syntax(sources.expr_or_pat_syntax(node), answer)?)
 }
@@ -135,7 +135,7 @@ pub(crate) fn ask_diagnostics(
     sources: &ExpressionStoreSourceMap,
     words: &mut Words<'_>,
     answer: &mut Answer,
-) -> Result<(), Stop> {
+) -> Result<(), TextError> {
     words.end()?;
     Ok(write_diagnostics(sources.diagnostics(), answer)?)
 }

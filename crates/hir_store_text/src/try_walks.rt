@@ -5,7 +5,7 @@ use crate::missing::answer_unknown;
 use crate::recorder::{Halt, Recorder};
 use hir_base::Idx;
 use hir_node::{BindingId, ExprId, PatId};
-use hir_notation::{Answer, Stop, Words};
+use hir_notation::{Answer, TextError, Words};
 use hir_store::ExpressionStore;
 use std::alloc::Global;
 
@@ -95,7 +95,7 @@ pub(crate) fn ask(
     walk: TryWalk,
     words: &mut Words<'_>,
     answer: &mut Answer,
-) -> Result<(), Stop> {
+) -> Result<(), TextError> {
     let number = words.next_number()?;
     let end = last_number(words)?;
     let mut found = Recorder::new(alloc);
@@ -106,7 +106,7 @@ pub(crate) fn ask(
             answer.join(found.as_str()?)?;
             answer.word("refused")?;
         }
-        Some(Err(Halt::Memory)) => return Err(Stop::Memory),
+        Some(Err(Halt::Memory)) => return Err(TextError::Memory),
     }
     Ok(())
 }

@@ -5,7 +5,7 @@ use crate::missing::answer_unknown;
 use crate::recorder::{Recorder, write_same};
 use hir_base::Idx;
 use hir_node::{BindingId, ExprId, PatId};
-use hir_notation::{Answer, Stop, Words};
+use hir_notation::{Answer, TextError, Words};
 use hir_store::ExpressionStore;
 use std::alloc::{AllocError, Global};
 
@@ -104,7 +104,7 @@ pub(crate) fn ask(
     walk: Walk,
     words: &mut Words<'_>,
     answer: &mut Answer,
-) -> Result<(), Stop> {
+) -> Result<(), TextError> {
     let number = last_number(words)?;
     let mut found = Recorder::new(alloc);
     let is_there = walk_from(store, walk, number, &mut found);
@@ -117,7 +117,7 @@ pub(crate) fn ask_child_pats(
     store: &ExpressionStore,
     words: &mut Words<'_>,
     answer: &mut Answer,
-) -> Result<(), Stop> {
+) -> Result<(), TextError> {
     let number = last_number(words)?;
     let mut found = Recorder::new(alloc);
     let mut by_walk = Recorder::new(alloc);

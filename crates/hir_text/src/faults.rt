@@ -9,7 +9,7 @@ use hir_defs::{BodyFault, SignatureFault};
 use hir_error::HirError;
 use hir_expr_store::Missing;
 use hir_io::{EndFailed, FillFault, LineFault};
-use hir_notation::{Answer, Stop, Words};
+use hir_notation::{Answer, TextError, Words};
 use hir_pretty::PrintFault;
 use hir_run::RunFault;
 use hir_scope::ScopesFault;
@@ -111,9 +111,9 @@ fn write<F: Display + Copy>(
     faults: &[(&str, F)],
     name: &[u8],
     answer: &mut Answer,
-) -> Result<(), Stop> {
+) -> Result<(), TextError> {
     let Some(fault) = value_of(faults, name) else {
-        return Err(Stop::Bad);
+        return Err(TextError::Syntax);
     };
     Ok(answer.word(format!(in alloc; "{fault}")?.as_str())?)
 }
@@ -146,9 +146,9 @@ fn missing_of(name: &[u8]) -> Option<Missing> {
 }
 
 /// Writes what is missing, as it says it and as an error of it does.
-fn write_missing(alloc: Global, name: &[u8], answer: &mut Answer) -> Result<(), Stop> {
+fn write_missing(alloc: Global, name: &[u8], answer: &mut Answer) -> Result<(), TextError> {
     let Some(missing) = missing_of(name) else {
-        return Err(Stop::Bad);
+        return Err(TextError::Syntax);
     };
     answer.word(format!(in alloc; "{missing}:")?.as_str())?;
     let error = HirError::from(missing);
@@ -156,7 +156,7 @@ fn write_missing(alloc: Global, name: &[u8], answer: &mut Answer) -> Result<(), 
 }
 
 /// The same of an error that holds the first fault of its kind that has no parts.
-fn write_error(alloc: Global, name: &[u8], answer: &mut Answer) -> Result<(), Stop> {
+fn write_error(alloc: Global, name: &[u8], answer: &mut Answer) -> Result<(), TextError> {
     let errors = [
         ("Arena", HirError::from(ArenaFault::Memory)),
         ("Store", HirError::from(FinishFault::NoRoots)),
@@ -170,7 +170,12 @@ fn write_error(alloc: Global, name: &[u8], answer: &mut Answer) -> Result<(), St
 }
 
 /// Writes the text of the fault of this type and name.
-fn write_fault(alloc: Global, kind: Kind, name: &[u8], answer: &mut Answer) -> Result<(), Stop> {
+fn write_fault(
+    alloc: Global,
+    kind: Kind,
+    name: &[u8],
+    answer: &mut Answer,
+) -> Result<(), TextError> {
     match kind {
         Kind::Arena => write(alloc, &ARENA, name, answer),
         Kind::Finish => write(alloc, &FINISH, name, answer),
@@ -194,12 +199,12 @@ pub(crate) fn ask(
     word: &[u8],
     words: &mut Words<'_>,
     answer: &mut Answer,
-) -> Result<bool, Stop> {
+) -> Result<bool, TextError> {
     if word != b"fault".as_slice() {
         return Ok(false);
     }
     let Some(kind) = value_of(&KINDS, words.next_keyword()?) else {
-        return Err(Stop::Bad);
+        return Err(TextError::Syntax);
     };
     let name = words.next_keyword()?;
     words.end()?;

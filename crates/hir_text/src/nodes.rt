@@ -1,7 +1,7 @@
 //! The nodes that lines have made so far, and the store that questions ask.
 
 use hir_defs_text::{Finished, Subject};
-use hir_notation::{Answer, Stop, Words};
+use hir_notation::{Answer, TextError, Words};
 use hir_store::{ExpressionStoreBuilder, FinishFault};
 use hir_store_text::{answer_unknown, refuse};
 use std::alloc::{AllocError, Global};
@@ -48,7 +48,7 @@ impl Nodes {
         alloc: Global,
         word: &[u8],
         words: &mut Words<'_>,
-    ) -> Result<bool, Stop> {
+    ) -> Result<bool, TextError> {
         let is_taken = hir_store_text::make(alloc, &mut self.builder, word, words)?;
         self.has_lines = self.has_lines || is_taken;
         Ok(is_taken)
@@ -61,13 +61,17 @@ impl Nodes {
     }
 
     /// Finishes the nodes so far. Where that is refused they stay, and the answer says why.
-    fn finish(&mut self, alloc: Global, answer: &mut Answer) -> Result<Option<Finished>, Stop> {
+    fn finish(
+        &mut self,
+        alloc: Global,
+        answer: &mut Answer,
+    ) -> Result<Option<Finished>, TextError> {
         match finish(alloc, mem::replace(&mut self.builder, empty(alloc)?))? {
             Ok(finished) => {
                 self.has_lines = false;
                 Ok(Some(finished))
             }
-            Err((FinishFault::Memory, _)) => Err(Stop::Memory),
+            Err((FinishFault::Memory, _)) => Err(TextError::Memory),
             Err((fault, builder)) => {
                 self.builder = builder;
                 refuse(alloc, &fault, answer)?;
@@ -78,7 +82,7 @@ impl Nodes {
 
     /// Whether there is a store to ask: the nodes are finished, where lines made some since the last time. Where that is refused,
     /// the answer says why.
-    pub(crate) fn ready(&mut self, alloc: Global, answer: &mut Answer) -> Result<bool, Stop> {
+    pub(crate) fn ready(&mut self, alloc: Global, answer: &mut Answer) -> Result<bool, TextError> {
         if !self.has_lines {
             return Ok(true);
         }
@@ -97,7 +101,7 @@ impl Nodes {
         &mut self,
         alloc: Global,
         answer: &mut Answer,
-    ) -> Result<Option<Finished>, Stop> {
+    ) -> Result<Option<Finished>, TextError> {
         if self.has_lines {
             return self.finish(alloc, answer);
         }

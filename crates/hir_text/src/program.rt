@@ -3,7 +3,7 @@
 ghost use Rattle.std.specs.Prelude.{◌≡◌, ◌++◌, IsFalse, IsTrue, false};
 
 use hir_io::{EndFailed, Sink, Source};
-use hir_notation::{Answer, Stop, Words};
+use hir_notation::{Answer, TextError, Words};
 use hir_run::{report, run as run_program};
 use std::alloc::{AllocError, Global};
 use std::mem;
@@ -140,7 +140,7 @@ pub(crate) fn line(
     input: &mut Vec<u8>,
     word: &[u8],
     words: &mut Words<'_>,
-) -> Result<bool, Stop> {
+) -> Result<bool, TextError> {
     if !word.is_empty() || !words.eat(b">") {
         return Ok(false);
     }
@@ -159,13 +159,13 @@ pub(crate) fn line(
 }
 
 /// How many calls of an end come before the one that fails: the number behind this word tells which one it is.
-fn good_calls(words: &mut Words<'_>, word: &[u8]) -> Result<u64, Stop> {
+fn good_calls(words: &mut Words<'_>, word: &[u8]) -> Result<u64, TextError> {
     if !words.prefix(word) {
         return Ok(u64::MAX);
     }
     match words.number()?.checked_sub(1) {
         Some(good_calls) => Ok(u64::from(good_calls)),
-        None => Err(Stop::Bad),
+        None => Err(TextError::Syntax),
     }
 }
 
@@ -221,14 +221,14 @@ fn run_over(
     good_reads: u64,
     good_writes: u64,
     answer: &mut Answer,
-) -> Result<(), Stop> {
+) -> Result<(), TextError> {
     let mut reader = FailingReader::new(input, good_reads);
     let mut writer = FailingWriter::new(alloc, good_writes);
     let mut errors = FailingWriter::new(alloc, u64::MAX);
     let outcome = run_program(alloc, &mut reader, &mut writer);
     let status = report(&outcome, &mut errors);
     if status == 4 || writer.is_out_of_memory || errors.is_out_of_memory {
-        return Err(Stop::Memory);
+        return Err(TextError::Memory);
     }
     Ok(write_run(status, &writer, &errors, answer)?)
 }
@@ -239,7 +239,7 @@ pub(crate) fn run(
     input: &mut Vec<u8>,
     words: &mut Words<'_>,
     answer: &mut Answer,
-) -> Result<(), Stop> {
+) -> Result<(), TextError> {
     let good_reads = good_calls(words, b"reads:")?;
     let good_writes = good_calls(words, b"writes:")?;
     words.end()?;

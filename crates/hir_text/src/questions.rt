@@ -4,7 +4,7 @@ use crate::{faults, scopes, texts};
 use hir_base::ExpressionStoreOwnerId;
 use hir_defs::{StoreOf, Tables};
 use hir_defs_text::{Subject, asked_body};
-use hir_notation::{Answer, Stop, Words};
+use hir_notation::{Answer, TextError, Words};
 use hir_source::SourceMapBuilder;
 use hir_store::{ExpressionStore, ExpressionStoreSourceMap};
 use std::alloc::Global;
@@ -19,7 +19,7 @@ pub(crate) fn ask_tables(
     word: &[u8],
     words: &mut Words<'_>,
     answer: &mut Answer,
-) -> Result<bool, Stop> {
+) -> Result<bool, TextError> {
     Ok(
         hir_defs_text::ask(alloc, tables, word, words, answer)?
             || texts::ask_of_tables(alloc, tables, word, words, answer)?
@@ -46,7 +46,7 @@ fn ask_store(
     word: &[u8],
     words: &mut Words<'_>,
     answer: &mut Answer,
-) -> Result<bool, Stop> {
+) -> Result<bool, TextError> {
     let body = asked_body(tables, owner);
     Ok(
         hir_defs_text::ask_of_body(body, word, words, answer)?
@@ -64,16 +64,16 @@ fn asked_store<'a>(
     tables: &'a Tables,
     kept: Option<&'a StoreAndSources>,
     subject: &'a Subject,
-) -> Result<(&'a ExpressionStore, &'a ExpressionStoreSourceMap), Stop> {
+) -> Result<(&'a ExpressionStore, &'a ExpressionStoreSourceMap), TextError> {
     match subject {
         Subject::Store(finished) => Ok((&finished.0, &finished.1)),
         Subject::Owner(owner) => match ExpressionStore::with_source_map(tables, *owner) {
             Ok(found) => Ok(found),
-            Err(_) => Err(Stop::Bad),
+            Err(_) => Err(TextError::Syntax),
         },
         Subject::None => match kept {
             Some(kept) => Ok((&kept.0, &kept.1)),
-            None => Err(Stop::Bad),
+            None => Err(TextError::Syntax),
         },
     }
 }
@@ -95,7 +95,7 @@ pub(crate) fn ask_subject(
     word: &[u8],
     words: &mut Words<'_>,
     answer: &mut Answer,
-) -> Result<bool, Stop> {
+) -> Result<bool, TextError> {
     let (store, sources) = asked_store(tables, kept, subject)?;
     let owner = owner_of(subject);
     ask_store(
@@ -110,7 +110,7 @@ pub(crate) fn ask_empty(
     kept: Option<&StoreAndSources>,
     word: &[u8],
     words: &mut Words<'_>,
-) -> Result<bool, Stop> {
+) -> Result<bool, TextError> {
     let store = ExpressionStore::empty(alloc);
     let sources = SourceMapBuilder::new(alloc).finish(false);
     let mut answer = Answer::new(alloc);

@@ -9,7 +9,7 @@ use hir_captures::{CapturesFault, captures};
 use hir_defs::{Body, Tables};
 use hir_defs_text::asked_body;
 use hir_node::{BindingId, ExprId};
-use hir_notation::{Answer, Stop, Words, next_hygiene, next_owner, opt_hygiene};
+use hir_notation::{Answer, TextError, Words, next_hygiene, next_owner, opt_hygiene};
 use hir_scope::{Expansion, ExprScopes, ScopeEntry, ScopeId, ScopesFault};
 use hir_store::ExpressionStore;
 use hir_store_text::{answer_unknown, differs, refuse, write_same};
@@ -64,7 +64,7 @@ enum Question {
 }
 
 /// What stands behind the word `resolve`.
-fn read_resolve(alloc: Global, words: &mut Words<'_>) -> Result<OfScopes, Stop> {
+fn read_resolve(alloc: Global, words: &mut Words<'_>) -> Result<OfScopes, TextError> {
     let expr = words.next_id()?;
     let name = words.next_name(alloc)?;
     let hygiene = opt_hygiene(words)?;
@@ -73,7 +73,7 @@ fn read_resolve(alloc: Global, words: &mut Words<'_>) -> Result<OfScopes, Stop> 
 
 /// An expansion: the hygiene of its names, the macro, and the hygiene that the names have in the macro's definition. The words
 /// stand behind `macro:`, as `5 1 root`.
-fn read_expansion(words: &mut Words<'_>) -> Result<(HygieneId, Expansion), Stop> {
+fn read_expansion(words: &mut Words<'_>) -> Result<(HygieneId, Expansion), TextError> {
     let macro_def = MacroDefId::from_raw(words.number()?);
     let hygiene = next_hygiene(words)?;
     let parent = next_hygiene(words)?;
@@ -84,7 +84,7 @@ fn read_expansion(words: &mut Words<'_>) -> Result<(HygieneId, Expansion), Stop>
 fn read_expansions(
     alloc: Global,
     words: &mut Words<'_>,
-) -> Result<HashMap<HygieneId, Expansion>, Stop> {
+) -> Result<HashMap<HygieneId, Expansion>, TextError> {
     let mut expansions = HashMap::new(alloc);
     for _ in 0..words.rest().len() {
         if !words.prefix(b"macro:") {
@@ -97,7 +97,7 @@ fn read_expansions(
 }
 
 /// What stands behind the word `resolve-through`.
-fn read_resolve_through(alloc: Global, words: &mut Words<'_>) -> Result<OfScopes, Stop> {
+fn read_resolve_through(alloc: Global, words: &mut Words<'_>) -> Result<OfScopes, TextError> {
     let expr = words.next_id()?;
     let name = words.next_name(alloc)?;
     let hygiene = opt_hygiene(words)?;
@@ -106,7 +106,7 @@ fn read_resolve_through(alloc: Global, words: &mut Words<'_>) -> Result<OfScopes
 }
 
 /// What stands behind the first word.
-fn read(alloc: Global, kind: Kind, words: &mut Words<'_>) -> Result<Question, Stop> {
+fn read(alloc: Global, kind: Kind, words: &mut Words<'_>) -> Result<Question, TextError> {
     match kind {
         Kind::Chain => Ok(Question::Scopes(OfScopes::Chain(words.next_id()?))),
         Kind::Frames => Ok(Question::Scopes(OfScopes::Frames(words.next_id()?))),
@@ -121,7 +121,11 @@ fn read(alloc: Global, kind: Kind, words: &mut Words<'_>) -> Result<Question, St
 }
 
 /// The question of a line, where it is such a question.
-fn read_line(alloc: Global, word: &[u8], words: &mut Words<'_>) -> Result<Option<Question>, Stop> {
+fn read_line(
+    alloc: Global,
+    word: &[u8],
+    words: &mut Words<'_>,
+) -> Result<Option<Question>, TextError> {
     let Some(kind) = value_of(&KINDS, word) else {
         return Ok(None);
     };
@@ -131,9 +135,9 @@ fn read_line(alloc: Global, word: &[u8], words: &mut Words<'_>) -> Result<Option
 }
 
 /// The answer is why there are no scopes.
-fn refuse_scopes(alloc: Global, fault: ScopesFault, answer: &mut Answer) -> Result<(), Stop> {
+fn refuse_scopes(alloc: Global, fault: ScopesFault, answer: &mut Answer) -> Result<(), TextError> {
     match fault {
-        ScopesFault::Memory => Err(Stop::Memory),
+        ScopesFault::Memory => Err(TextError::Memory),
         ScopesFault::Missing | ScopesFault::Full => Ok(refuse(alloc, &fault, answer)?),
     }
 }
@@ -143,7 +147,7 @@ fn open_scopes(
     alloc: Global,
     outcome: Result<ExprScopes, ScopesFault>,
     answer: &mut Answer,
-) -> Result<Option<Box<ExprScopes>>, Stop> {
+) -> Result<Option<Box<ExprScopes>>, TextError> {
     match outcome {
         Ok(scopes) => Ok(Some(Box::new(alloc, scopes)?)),
         Err(fault) => {
@@ -361,7 +365,7 @@ fn compared(
     outcome: Result<ExprScopes, ScopesFault>,
     scopes: &ExprScopes,
     answer: &mut Answer,
-) -> Result<Option<bool>, Stop> {
+) -> Result<Option<bool>, TextError> {
     match open_scopes(alloc, outcome, answer)? {
         Some(others) => Ok(Some(*scopes == *others)),
         None => Ok(None),
@@ -388,7 +392,7 @@ fn ask_looked_up(
     owner: &ExpressionStoreOwnerId,
     scopes: &ExprScopes,
     answer: &mut Answer,
-) -> Result<(), Stop> {
+) -> Result<(), TextError> {
     let by_kind = compared(alloc, made_by_kind(alloc, tables, *owner), scopes, answer)?;
     let of_all = compared(alloc, made_of_owner(alloc, tables, owner), scopes, answer)?;
     if by_kind != of_all {
@@ -404,7 +408,7 @@ fn ask_by_tables(
     store: &ExpressionStore,
     owner: Option<ExpressionStoreOwnerId>,
     answer: &mut Answer,
-) -> Result<(), Stop> {
+) -> Result<(), TextError> {
     let Some(owner) = owner else {
         return Ok(answer_unknown(answer)?);
     };
@@ -424,7 +428,7 @@ pub(crate) fn ask_of_tables(
     word: &[u8],
     words: &mut Words<'_>,
     answer: &mut Answer,
-) -> Result<bool, Stop> {
+) -> Result<bool, TextError> {
     if word != b"scopes-by-tables".as_slice() {
         return Ok(false);
     }
@@ -454,7 +458,7 @@ fn ask_same(
     store: &ExpressionStore,
     body: Option<&Body>,
     answer: &mut Answer,
-) -> Result<(), Stop> {
+) -> Result<(), TextError> {
     let Some(first) = open_scopes(alloc, ExprScopes::new_store(alloc, kept), answer)? else {
         return Ok(());
     };
@@ -465,7 +469,7 @@ fn ask_same(
 }
 
 /// `counted-scopes`: compares the scopes of a body with those that are counted.
-fn ask_counted(alloc: Global, body: &Body, answer: &mut Answer) -> Result<(), Stop> {
+fn ask_counted(alloc: Global, body: &Body, answer: &mut Answer) -> Result<(), TextError> {
     let mut steps = Steps::new();
     let counted = ExprScopes::new_body_counted(alloc, body, &mut steps);
     let Some(counted) = open_scopes(alloc, counted, answer)? else {
@@ -480,7 +484,7 @@ fn write_captures(
     alloc: Global,
     found: Result<Vec<BindingId>, CapturesFault>,
     answer: &mut Answer,
-) -> Result<(), Stop> {
+) -> Result<(), TextError> {
     match found {
         Ok(bindings) => {
             for binding in bindings.as_slice() {
@@ -488,7 +492,7 @@ fn write_captures(
             }
             Ok(())
         }
-        Err(CapturesFault::Memory) => Err(Stop::Memory),
+        Err(CapturesFault::Memory) => Err(TextError::Memory),
         Err(CapturesFault::NotAClosure) => {
             Ok(refuse(alloc, &CapturesFault::NotAClosure, answer)?)
         }
@@ -501,7 +505,7 @@ fn ask_captures(
     body: &Body,
     closure: ExprId,
     answer: &mut Answer,
-) -> Result<(), Stop> {
+) -> Result<(), TextError> {
     match ExprScopes::new_body(alloc, body) {
         Ok(scopes) => write_captures(alloc, captures(alloc, body, &scopes, closure), answer),
         Err(fault) => refuse_scopes(alloc, fault, answer),
@@ -515,7 +519,7 @@ fn ask_scopes(
     body: Option<&Body>,
     question: &OfScopes,
     answer: &mut Answer,
-) -> Result<(), Stop> {
+) -> Result<(), TextError> {
     match open_scopes(alloc, make_scopes(alloc, store, body), answer)? {
         Some(scopes) => Ok(write(question, &scopes, answer)?),
         None => Ok(()),
@@ -530,7 +534,7 @@ fn write_asked(
     body: Option<&Body>,
     question: &Question,
     answer: &mut Answer,
-) -> Result<(), Stop> {
+) -> Result<(), TextError> {
     match question {
         Question::Scopes(question) => ask_scopes(alloc, store, body, question, answer),
         Question::Captures(closure) => match body {
@@ -557,7 +561,7 @@ pub(crate) fn ask(
     word: &[u8],
     words: &mut Words<'_>,
     answer: &mut Answer,
-) -> Result<bool, Stop> {
+) -> Result<bool, TextError> {
     let Some(question) = read_line(alloc, word, words)? else {
         return Ok(false);
     };

@@ -8,7 +8,7 @@ use hir_base::ExpressionStoreOwnerId;
 use hir_defs::{StoreOf, Tables};
 use hir_defs_text::{Definition, Finished, Pending, Subject};
 use hir_expr_store::Missing;
-use hir_notation::{Answer, Stop, Words, next_owner};
+use hir_notation::{Answer, TextError, Words, next_owner};
 use hir_store::ExpressionStore;
 use hir_store_text::{answer_unknown, refuse_missing};
 use hir_words::value_of;
@@ -31,7 +31,7 @@ struct Session {
 // It is here so that the loop over them, which holds nothing of a session, is proved for any.
 trait Lines {
     /// Does what a line says that has no answer; answers whether it is such a line.
-    fn make(&mut self, word: &[u8], words: &mut Words<'_>) -> Result<bool, Stop>;
+    fn make(&mut self, word: &[u8], words: &mut Words<'_>) -> Result<bool, TextError>;
 
     /// Does what a line says that has an answer and isn't a question; answers whether it is such a line.
     fn change(
@@ -39,10 +39,10 @@ trait Lines {
         word: &[u8],
         words: &mut Words<'_>,
         answer: &mut Answer,
-    ) -> Result<bool, Stop>;
+    ) -> Result<bool, TextError>;
 
     /// Finishes what lines made; answers whether there is a store to ask.
-    fn ready(&mut self) -> Result<bool, Stop>;
+    fn ready(&mut self) -> Result<bool, TextError>;
 
     /// Answers a question, where the line is one.
     fn ask(
@@ -50,7 +50,7 @@ trait Lines {
         word: &[u8],
         words: &mut Words<'_>,
         answer: &mut Answer,
-    ) -> Result<bool, Stop>;
+    ) -> Result<bool, TextError>;
 }
 
 /// Whether a line is empty, a remark or an answer.
@@ -66,7 +66,7 @@ fn ask_once<L: Lines>(
     alloc: Global,
     lines: &mut L,
     mut words: Words<'_>,
-) -> Result<Option<Answer>, Stop> {
+) -> Result<Option<Answer>, TextError> {
     let word = words.keyword();
     let mut answer = Answer::new(alloc);
     if lines.ask(word, &mut words, &mut answer)? {
@@ -80,9 +80,9 @@ fn ask_once_more<L: Lines>(
     alloc: Global,
     lines: &mut L,
     words: Words<'_>,
-) -> Result<Option<Answer>, Stop> {
+) -> Result<Option<Answer>, TextError> {
     match ask_once(alloc, lines, words) {
-        Err(Stop::Memory) => {
+        Err(TextError::Memory) => {
             let mut answer = Answer::new(alloc);
             answer.refuse();
             answer.word("Memory")?;
@@ -98,20 +98,24 @@ fn ask_again<L: Lines>(
     alloc: Global,
     lines: &mut L,
     words: Words<'_>,
-) -> Result<Option<Answer>, Stop> {
+) -> Result<Option<Answer>, TextError> {
     if !lines.ready()? {
         return ask_once(alloc, lines, words);
     }
     match ask_once(alloc, lines, words) {
-        Err(Stop::Memory) => ask_once_more(alloc, lines, words),
+        Err(TextError::Memory) => ask_once_more(alloc, lines, words),
         outcome => outcome,
     }
 }
 
 /// Puts an answer behind the others, where the line was a question.
-fn push_answer(number: usize, answer: Option<Answer>, answers: &mut Answers) -> Result<(), Stop> {
+fn push_answer(
+    number: usize,
+    answer: Option<Answer>,
+    answers: &mut Answers,
+) -> Result<(), TextError> {
     let Some(answer) = answer else {
-        return Err(Stop::Bad);
+        return Err(TextError::Syntax);
     };
     answers.push(number, answer)?;
     Ok(())
@@ -124,7 +128,7 @@ fn take_line<L: Lines>(
     number: usize,
     line: &[u8],
     answers: &mut Answers,
-) -> Result<(), Stop> {
+) -> Result<(), TextError> {
     if is_skipped(line) {
         return Ok(());
     }
@@ -141,7 +145,7 @@ fn take_line<L: Lines>(
         answers.push(number, answer)?;
         return Ok(());
     }
-    Err(Stop::Bad)
+    Err(TextError::Syntax)
 }
 
 /// Takes all lines of a text.
@@ -156,8 +160,8 @@ fn take_lines<L: Lines>(
         number = number.saturating_add(1);
         match take_line(alloc, lines, number, line.as_bytes(), answers) {
             Ok(()) => {}
-            Err(Stop::Bad) => return Err(TextFault::BadLine(number)),
-            Err(Stop::Memory) => return Err(TextFault::Memory),
+            Err(TextError::Syntax) => return Err(TextFault::BadLine(number)),
+            Err(TextError::Memory) => return Err(TextFault::Memory),
         }
     }
     Ok(())
@@ -183,7 +187,7 @@ fn select(
     tables: &Tables,
     words: &mut Words<'_>,
     answer: &mut Answer,
-) -> Result<(), Stop> {
+) -> Result<(), TextError> {
     let owner = next_owner(words)?;
     words.end()?;
     match lookup(tables, &owner) {
@@ -223,7 +227,7 @@ fn define(
     pending: &mut Pending,
     tables: &mut Tables,
     answer: &mut Answer,
-) -> Result<(), Stop> {
+) -> Result<(), TextError> {
     if let Some(finished) = nodes.take_store(alloc, answer)? {
         nodes.subject = hir_defs_text::make(alloc, definition, finished, pending, tables, answer)?;
     }
@@ -259,7 +263,7 @@ impl Session {
     }
 
     /// Forgets the nodes, the store and the parameters so far.
-    fn begin(&mut self) -> Result<(), Stop> {
+    fn begin(&mut self) -> Result<(), TextError> {
         self.nodes = Nodes::new(self.alloc)?;
         self.pending = Pending::new(self.alloc);
         Ok(())
@@ -271,7 +275,7 @@ impl Session {
         change: Change,
         words: &mut Words<'_>,
         answer: &mut Answer,
-    ) -> Result<(), Stop> {
+    ) -> Result<(), TextError> {
         match change {
             Change::Finish => {
                 words.end()?;
@@ -293,7 +297,7 @@ impl Session {
 }
 
 impl Lines for Session {
-    fn make(&mut self, word: &[u8], words: &mut Words<'_>) -> Result<bool, Stop> {
+    fn make(&mut self, word: &[u8], words: &mut Words<'_>) -> Result<bool, TextError> {
         if self.nodes.line(self.alloc, word, words)?
             || program::line(self.alloc, &mut self.input, word, words)?
             || self.pending.line(self.alloc, word, words)?
@@ -314,7 +318,7 @@ impl Lines for Session {
         word: &[u8],
         words: &mut Words<'_>,
         answer: &mut Answer,
-    ) -> Result<bool, Stop> {
+    ) -> Result<bool, TextError> {
         if let Some(change) = value_of(&CHANGES, word) {
             self.do_change(change, words, answer)?;
             return Ok(true);
@@ -333,7 +337,7 @@ impl Lines for Session {
         Ok(true)
     }
 
-    fn ready(&mut self) -> Result<bool, Stop> {
+    fn ready(&mut self) -> Result<bool, TextError> {
         let mut answer = Answer::new(self.alloc);
         self.nodes.ready(self.alloc, &mut answer)
     }
@@ -343,7 +347,7 @@ impl Lines for Session {
         word: &[u8],
         words: &mut Words<'_>,
         answer: &mut Answer,
-    ) -> Result<bool, Stop> {
+    ) -> Result<bool, TextError> {
         let alloc = self.alloc;
         if ask_tables(alloc, &self.tables, word, words, answer)? {
             return Ok(true);

@@ -8,7 +8,7 @@ use hir_defs::{Body, Tables};
 use hir_defs_text::asked_def;
 use hir_node::{ExprId, PatId, Path};
 use hir_notation::{
-    Answer, Stop, Words, as_def_with_body, as_generic, as_variant, next_def, next_path,
+    Answer, TextError, Words, as_def_with_body, as_generic, as_variant, next_def, next_path,
     opt_edition, read_def,
 };
 use hir_pretty::{
@@ -29,11 +29,14 @@ fn owner_or_first(owner: Option<ExpressionStoreOwnerId>) -> ExpressionStoreOwner
 }
 
 /// Writes a text that was printed, or the first definition that is missing.
-fn write_printed(printed: Result<String, PrintFault>, answer: &mut Answer) -> Result<(), Stop> {
+fn write_printed(
+    printed: Result<String, PrintFault>,
+    answer: &mut Answer,
+) -> Result<(), TextError> {
     match printed {
         Ok(text) => Ok(answer.join(text.as_str())?),
         Err(PrintFault::Missing(missing)) => Ok(refuse_missing(missing, answer)?),
-        Err(PrintFault::Memory) => Err(Stop::Memory),
+        Err(PrintFault::Memory) => Err(TextError::Memory),
     }
 }
 
@@ -41,7 +44,7 @@ fn write_printed(printed: Result<String, PrintFault>, answer: &mut Answer) -> Re
 fn write_opt_printed(
     printed: Option<Result<String, PrintFault>>,
     answer: &mut Answer,
-) -> Result<(), Stop> {
+) -> Result<(), TextError> {
     match printed {
         Some(printed) => write_printed(printed, answer),
         None => Ok(answer_unknown(answer)?),
@@ -71,7 +74,11 @@ enum OfStore {
 }
 
 /// What stands behind the first word.
-fn read_of_store(alloc: Global, kind: StoreKind, words: &mut Words<'_>) -> Result<OfStore, Stop> {
+fn read_of_store(
+    alloc: Global,
+    kind: StoreKind,
+    words: &mut Words<'_>,
+) -> Result<OfStore, TextError> {
     match kind {
         StoreKind::Expr => Ok(OfStore::Expr(words.next_id()?)),
         StoreKind::Pat => {
@@ -114,7 +121,7 @@ fn ask_store(
     kind: StoreKind,
     words: &mut Words<'_>,
     answer: &mut Answer,
-) -> Result<(), Stop> {
+) -> Result<(), TextError> {
     let question = read_of_store(alloc, kind, words)?;
     let edition = opt_edition(words)?;
     let printed = print_of_store(alloc, tables, store, owner, &question, edition);
@@ -131,7 +138,7 @@ pub(crate) fn ask_of_store(
     word: &[u8],
     words: &mut Words<'_>,
     answer: &mut Answer,
-) -> Result<bool, Stop> {
+) -> Result<bool, TextError> {
     let Some(kind) = value_of(&STORE_KINDS, word) else {
         return Ok(false);
     };
@@ -163,7 +170,7 @@ enum Pretty {
 }
 
 /// What stands behind the first word.
-fn read_pretty(kind: PrettyKind, words: &mut Words<'_>) -> Result<Pretty, Stop> {
+fn read_pretty(kind: PrettyKind, words: &mut Words<'_>) -> Result<Pretty, TextError> {
     match kind {
         PrettyKind::Body => Ok(Pretty::Body(as_def_with_body(next_def(words)?)?)),
         PrettyKind::Expr => Ok(Pretty::Expr(words.next_id()?)),
@@ -175,7 +182,10 @@ fn read_pretty(kind: PrettyKind, words: &mut Words<'_>) -> Result<Pretty, Stop> 
 }
 
 /// A question on the body, where the line is one, and the edition.
-fn read_pretty_line(word: &[u8], words: &mut Words<'_>) -> Result<Option<(Pretty, Edition)>, Stop> {
+fn read_pretty_line(
+    word: &[u8],
+    words: &mut Words<'_>,
+) -> Result<Option<(Pretty, Edition)>, TextError> {
     let Some(kind) = value_of(&PRETTY_KINDS, word) else {
         return Ok(None);
     };
@@ -243,7 +253,7 @@ pub(crate) fn ask_of_body(
     word: &[u8],
     words: &mut Words<'_>,
     answer: &mut Answer,
-) -> Result<bool, Stop> {
+) -> Result<bool, TextError> {
     let Some((question, edition)) = read_pretty_line(word, words)? else {
         return Ok(false);
     };
@@ -255,7 +265,7 @@ pub(crate) fn ask_of_body(
 }
 
 /// The number behind `as:`, or else this one.
-fn opt_as<T>(id: Id<T>, words: &mut Words<'_>) -> Result<Id<T>, Stop> {
+fn opt_as<T>(id: Id<T>, words: &mut Words<'_>) -> Result<Id<T>, TextError> {
     if words.prefix(b"as:") {
         return Ok(Id::from_raw(words.number()?));
     }
@@ -263,7 +273,7 @@ fn opt_as<T>(id: Id<T>, words: &mut Words<'_>) -> Result<Id<T>, Stop> {
 }
 
 /// The definition behind `as:`, or else this one.
-fn opt_as_def(def: DefWithBodyId, words: &mut Words<'_>) -> Result<DefWithBodyId, Stop> {
+fn opt_as_def(def: DefWithBodyId, words: &mut Words<'_>) -> Result<DefWithBodyId, TextError> {
     if words.prefix(b"as:") {
         return as_def_with_body(read_def(words)?);
     }
@@ -299,7 +309,7 @@ enum OfTables {
 }
 
 /// What stands behind the first word.
-fn read_of_tables(kind: TablesKind, words: &mut Words<'_>) -> Result<OfTables, Stop> {
+fn read_of_tables(kind: TablesKind, words: &mut Words<'_>) -> Result<OfTables, TextError> {
     match kind {
         TablesKind::Body => {
             let def = as_def_with_body(next_def(words)?)?;
@@ -322,7 +332,7 @@ fn read_of_tables(kind: TablesKind, words: &mut Words<'_>) -> Result<OfTables, S
 fn read_tables_line(
     word: &[u8],
     words: &mut Words<'_>,
-) -> Result<Option<(OfTables, Edition)>, Stop> {
+) -> Result<Option<(OfTables, Edition)>, TextError> {
     let Some(kind) = value_of(&TABLES_KINDS, word) else {
         return Ok(None);
     };
@@ -364,7 +374,7 @@ pub(crate) fn ask_of_tables(
     word: &[u8],
     words: &mut Words<'_>,
     answer: &mut Answer,
-) -> Result<bool, Stop> {
+) -> Result<bool, TextError> {
     let Some((question, edition)) = read_tables_line(word, words)? else {
         return Ok(false);
     };

@@ -6,11 +6,11 @@ mod names;
 mod numbers;
 mod parts;
 mod quotes;
-mod stop;
 mod tables;
+mod text_error;
 mod words;
 
 pub use answer::Answer;
-pub use stop::Stop;
 pub use tables::value_of;
+pub use text_error::TextError;
 pub use words::Words;

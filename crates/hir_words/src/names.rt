@@ -2,7 +2,7 @@
 
 use crate::parts::Part;
 use crate::quotes;
-use crate::stop::Stop;
+use crate::text_error::TextError;
 use crate::words::Words;
 use hir_base::{Name, Seq, Text};
 use std::alloc::Global;
@@ -36,37 +36,37 @@ impl<'a> Words<'a> {
     }
 
     /// A name, bare or in quotes.
-    pub fn string(&mut self, alloc: Global) -> Result<String, Stop> {
+    pub fn string(&mut self, alloc: Global) -> Result<String, TextError> {
         if self.is_at(b"\"") {
             return quotes::read_string(self, alloc);
         }
         let bare = self.bare_name();
         if bare.is_empty() {
-            return Err(Stop::Bad);
+            return Err(TextError::Syntax);
         }
         Ok(String::from_str(alloc, std::str::from_utf8(bare)?)?)
     }
 
     /// A name.
-    pub fn name(&mut self, alloc: Global) -> Result<Name, Stop> {
+    pub fn name(&mut self, alloc: Global) -> Result<Name, TextError> {
         let text = self.string(alloc)?;
         Ok(Name::new(alloc, text.as_str())?)
     }
 
     /// The same behind a space.
-    pub fn next_name(&mut self, alloc: Global) -> Result<Name, Stop> {
+    pub fn next_name(&mut self, alloc: Global) -> Result<Name, TextError> {
         self.expect(b" ")?;
         self.name(alloc)
     }
 
     /// A text in quotes, behind a space.
-    pub fn next_text(&mut self, alloc: Global) -> Result<Text, Stop> {
+    pub fn next_text(&mut self, alloc: Global) -> Result<Text, TextError> {
         self.expect(b" ")?;
         Ok(Text::from_string(quotes::read_string(self, alloc)?))
     }
 
     /// A name or `-`, behind a space.
-    pub fn next_opt_name(&mut self, alloc: Global) -> Result<Option<Name>, Stop> {
+    pub fn next_opt_name(&mut self, alloc: Global) -> Result<Option<Name>, TextError> {
         self.expect(b" ")?;
         if self.eat(b"-") {
             return Ok(None);
@@ -75,12 +75,12 @@ impl<'a> Words<'a> {
     }
 
     /// Bytes in quotes.
-    pub fn bytes(&mut self, alloc: Global) -> Result<Seq<u8>, Stop> {
+    pub fn bytes(&mut self, alloc: Global) -> Result<Seq<u8>, TextError> {
         Ok(Seq::from_vec(quotes::read_bytes(self, alloc)?))
     }
 
     /// The same behind a space.
-    pub fn next_bytes(&mut self, alloc: Global) -> Result<Seq<u8>, Stop> {
+    pub fn next_bytes(&mut self, alloc: Global) -> Result<Seq<u8>, TextError> {
         self.expect(b" ")?;
         self.bytes(alloc)
     }

@@ -2,7 +2,7 @@
 ghost use Rattle.std.specs.Prelude.{◌≤◌};
 
 use crate::parts::Part;
-use crate::stop::Stop;
+use crate::text_error::TextError;
 use crate::words::Words;
 use hir_base::{Id, Idx, ShortList};
 use std::alloc::Global;
@@ -28,22 +28,22 @@ fn with_digit(number: u128, digit: u32, base: u32) -> Option<u128> {
 
 impl<'a> Words<'a> {
     /// A number below 2^128, without a sign or a needless zero.
-    pub fn big(&mut self) -> Result<u128, Stop> {
+    pub fn big(&mut self) -> Result<u128, TextError> {
         let digits = self.part(Part::Digits);
         if matches!(digits, [] | [b'0', _, ..]) {
-            return Err(Stop::Bad);
+            return Err(TextError::Syntax);
         }
-        number_of(digits, 10).ok_or(Stop::Bad)
+        number_of(digits, 10).ok_or(TextError::Syntax)
     }
 
     /// A number of 128 bits with a sign: a `-` where it is negative.
-    pub fn int(&mut self) -> Result<i128, Stop> {
+    pub fn int(&mut self) -> Result<i128, TextError> {
         if !self.eat(b"-") {
             return Ok(i128::try_from(self.big()?)?);
         }
         match 0i128.checked_sub_unsigned(self.big()?) {
             Some(number) if number < 0 => Ok(number),
-            Some(_) | None => Err(Stop::Bad),
+            Some(_) | None => Err(TextError::Syntax),
         }
     }
 
@@ -53,38 +53,38 @@ impl<'a> Words<'a> {
     }
 
     /// A number of 64 bits.
-    pub fn long(&mut self) -> Result<u64, Stop> {
+    pub fn long(&mut self) -> Result<u64, TextError> {
         Ok(u64::try_from(self.big()?)?)
     }
 
     /// A number.
-    pub fn number(&mut self) -> Result<u32, Stop> {
+    pub fn number(&mut self) -> Result<u32, TextError> {
         Ok(u32::try_from(self.big()?)?)
     }
 
     /// A number below 65,536.
-    pub fn short(&mut self) -> Result<u16, Stop> {
+    pub fn short(&mut self) -> Result<u16, TextError> {
         Ok(u16::try_from(self.big()?)?)
     }
 
     /// A number below 256.
-    pub fn byte(&mut self) -> Result<u8, Stop> {
+    pub fn byte(&mut self) -> Result<u8, TextError> {
         Ok(u8::try_from(self.big()?)?)
     }
 
     /// The number behind a space.
-    pub fn next_number(&mut self) -> Result<u32, Stop> {
+    pub fn next_number(&mut self) -> Result<u32, TextError> {
         self.part_number(b" ")
     }
 
     /// The number behind this.
-    pub fn part_number(&mut self, before: &[u8]) -> Result<u32, Stop> {
+    pub fn part_number(&mut self, before: &[u8]) -> Result<u32, TextError> {
         self.expect(before)?;
         self.number()
     }
 
     /// A number or `-`, behind a space.
-    pub fn next_opt_number(&mut self) -> Result<Option<u32>, Stop> {
+    pub fn next_opt_number(&mut self) -> Result<Option<u32>, TextError> {
         self.expect(b" ")?;
         if self.eat(b"-") {
             return Ok(None);
@@ -93,24 +93,24 @@ impl<'a> Words<'a> {
     }
 
     /// The number of a node.
-    pub fn id<K>(&mut self) -> Result<Idx<K>, Stop> {
+    pub fn id<K>(&mut self) -> Result<Idx<K>, TextError> {
         Ok(Idx::from_raw(self.number()?))
     }
 
     /// The same behind a space.
-    pub fn next_id<K>(&mut self) -> Result<Idx<K>, Stop> {
+    pub fn next_id<K>(&mut self) -> Result<Idx<K>, TextError> {
         self.expect(b" ")?;
         self.id()
     }
 
     /// The same behind a colon.
-    pub fn part_id<K>(&mut self) -> Result<Idx<K>, Stop> {
+    pub fn part_id<K>(&mut self) -> Result<Idx<K>, TextError> {
         self.expect(b":")?;
         self.id()
     }
 
     /// The number of a node, or `-`.
-    pub fn opt_id<K>(&mut self) -> Result<Option<Idx<K>>, Stop> {
+    pub fn opt_id<K>(&mut self) -> Result<Option<Idx<K>>, TextError> {
         if self.eat(b"-") {
             return Ok(None);
         }
@@ -118,19 +118,19 @@ impl<'a> Words<'a> {
     }
 
     /// The same behind a space.
-    pub fn next_opt_id<K>(&mut self) -> Result<Option<Idx<K>>, Stop> {
+    pub fn next_opt_id<K>(&mut self) -> Result<Option<Idx<K>>, TextError> {
         self.expect(b" ")?;
         self.opt_id()
     }
 
     /// The same behind a colon.
-    pub fn part_opt_id<K>(&mut self) -> Result<Option<Idx<K>>, Stop> {
+    pub fn part_opt_id<K>(&mut self) -> Result<Option<Idx<K>>, TextError> {
         self.expect(b":")?;
         self.opt_id()
     }
 
     /// The number of a node, where the next word begins with this.
-    pub fn prefixed_id<K>(&mut self, start: &[u8]) -> Result<Option<Idx<K>>, Stop> {
+    pub fn prefixed_id<K>(&mut self, start: &[u8]) -> Result<Option<Idx<K>>, TextError> {
         if self.prefix(start) {
             return Ok(Some(self.id()?));
         }
@@ -138,12 +138,12 @@ impl<'a> Words<'a> {
     }
 
     /// The number of a definition behind a space.
-    pub fn next_def<T>(&mut self) -> Result<Id<T>, Stop> {
+    pub fn next_def<T>(&mut self) -> Result<Id<T>, TextError> {
         Ok(Id::from_raw(self.next_number()?))
     }
 
     /// A list of nodes behind a space: joined by `,`, or `-`.
-    pub fn next_ids<K>(&mut self, alloc: Global) -> Result<ShortList<Idx<K>>, Stop> {
+    pub fn next_ids<K>(&mut self, alloc: Global) -> Result<ShortList<Idx<K>>, TextError> {
         self.expect(b" ")?;
         let mut ids = ShortList::new();
         if self.eat(b"-") {
@@ -155,6 +155,6 @@ impl<'a> Words<'a> {
                 return Ok(ids);
             }
         }
-        Err(Stop::Bad)
+        Err(TextError::Syntax)
     }
 }

@@ -1,7 +1,7 @@
 //! Texts in quotes: read with their escapes, and written with them.
 
 use crate::numbers::number_of;
-use crate::stop::Stop;
+use crate::text_error::TextError;
 use crate::words::Words;
 use std::alloc::{AllocError, Global};
 
@@ -36,40 +36,44 @@ fn letter_of(c: char) -> Option<char> {
 }
 
 /// Two hexadecimal digits.
-fn read_byte(words: &mut Words<'_>) -> Result<u8, Stop> {
+fn read_byte(words: &mut Words<'_>) -> Result<u8, TextError> {
     let digits = words.take(2);
     if digits.len() < 2 {
-        return Err(Stop::Bad);
+        return Err(TextError::Syntax);
     }
-    Ok(u8::try_from(number_of(digits, 16).ok_or(Stop::Bad)?)?)
+    Ok(u8::try_from(number_of(digits, 16).ok_or(TextError::Syntax)?)?)
 }
 
 /// A character's number in braces, in hexadecimal.
-fn read_char(words: &mut Words<'_>) -> Result<char, Stop> {
+fn read_char(words: &mut Words<'_>) -> Result<char, TextError> {
     words.expect(b"{")?;
     let digits = words.keyword();
     words.expect(b"}")?;
     if digits.is_empty() {
-        return Err(Stop::Bad);
+        return Err(TextError::Syntax);
     }
-    let number = number_of(digits, 16).ok_or(Stop::Bad)?;
-    char::from_u32(u32::try_from(number)?).ok_or(Stop::Bad)
+    let number = number_of(digits, 16).ok_or(TextError::Syntax)?;
+    char::from_u32(u32::try_from(number)?).ok_or(TextError::Syntax)
 }
 
 /// What is left behind a backslash: the bytes that it stands for are put behind the others.
-fn read_escape(words: &mut Words<'_>, bytes: &mut Vec<u8>) -> Result<(), Stop> {
+fn read_escape(words: &mut Words<'_>, bytes: &mut Vec<u8>) -> Result<(), TextError> {
     if words.eat(b"u") {
         let c = read_char(words)?;
         return Ok(bytes.extend_from_slice(c.encode_utf8(&mut [0u8; 4]).as_bytes())?);
     }
     match words.take(1) {
-        [letter] => Ok(bytes.push(escape_of(*letter).ok_or(Stop::Bad)?)?),
-        _ => Err(Stop::Bad),
+        [letter] => Ok(bytes.push(escape_of(*letter).ok_or(TextError::Syntax)?)?),
+        _ => Err(TextError::Syntax),
     }
 }
 
 /// The next byte or escape, which is put behind the others: false at the closing quote.
-fn read_next(words: &mut Words<'_>, bytes: &mut Vec<u8>, has_bytes: bool) -> Result<bool, Stop> {
+fn read_next(
+    words: &mut Words<'_>,
+    bytes: &mut Vec<u8>,
+    has_bytes: bool,
+) -> Result<bool, TextError> {
     if words.eat(b"\"") {
         return Ok(false);
     }
@@ -84,7 +88,11 @@ fn read_next(words: &mut Words<'_>, bytes: &mut Vec<u8>, has_bytes: bool) -> Res
 }
 
 /// What stands in quotes, among which bytes may be written as `\xHH` where this says so.
-fn read_quoted(words: &mut Words<'_>, alloc: Global, has_bytes: bool) -> Result<Vec<u8>, Stop> {
+fn read_quoted(
+    words: &mut Words<'_>,
+    alloc: Global,
+    has_bytes: bool,
+) -> Result<Vec<u8>, TextError> {
     words.expect(b"\"")?;
     let mut bytes = Vec::new(alloc);
     for _ in 0..words.rest().len() {
@@ -92,19 +100,19 @@ fn read_quoted(words: &mut Words<'_>, alloc: Global, has_bytes: bool) -> Result<
             return Ok(bytes);
         }
     }
-    Err(Stop::Bad)
+    Err(TextError::Syntax)
 }
 
 /// Bytes in quotes.
-pub(crate) fn read_bytes(words: &mut Words<'_>, alloc: Global) -> Result<Vec<u8>, Stop> {
+pub(crate) fn read_bytes(words: &mut Words<'_>, alloc: Global) -> Result<Vec<u8>, TextError> {
     read_quoted(words, alloc, true)
 }
 
 /// A text in quotes.
-pub(crate) fn read_string(words: &mut Words<'_>, alloc: Global) -> Result<String, Stop> {
+pub(crate) fn read_string(words: &mut Words<'_>, alloc: Global) -> Result<String, TextError> {
     match String::from_utf8(read_quoted(words, alloc, false)?) {
         Ok(text) => Ok(text),
-        Err(_) => Err(Stop::Bad),
+        Err(_) => Err(TextError::Syntax),
     }
 }
 

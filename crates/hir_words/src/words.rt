@@ -1,8 +1,8 @@
 //! What is left of a line: words and their parts, taken one after the other.
 
 use crate::parts::Part;
-use crate::stop::Stop;
 use crate::tables::value_of;
+use crate::text_error::TextError;
 
 /// What is left of a line.
 #[derive(Clone, Copy)]
@@ -48,11 +48,11 @@ impl<'a> Words<'a> {
     }
 
     /// These bytes.
-    pub fn expect(&mut self, text: &[u8]) -> Result<(), Stop> {
+    pub fn expect(&mut self, text: &[u8]) -> Result<(), TextError> {
         if self.eat(text) {
             Ok(())
         } else {
-            Err(Stop::Bad)
+            Err(TextError::Syntax)
         }
     }
 
@@ -67,11 +67,11 @@ impl<'a> Words<'a> {
     }
 
     /// The end of the line.
-    pub fn end(&self) -> Result<(), Stop> {
+    pub fn end(&self) -> Result<(), TextError> {
         if self.is_end() {
             Ok(())
         } else {
-            Err(Stop::Bad)
+            Err(TextError::Syntax)
         }
     }
 
@@ -81,37 +81,37 @@ impl<'a> Words<'a> {
     }
 
     /// The keyword behind a space.
-    pub fn next_keyword(&mut self) -> Result<&'a [u8], Stop> {
+    pub fn next_keyword(&mut self) -> Result<&'a [u8], TextError> {
         self.expect(b" ")?;
         Ok(self.keyword())
     }
 
     /// The word behind a space: all up to the next space, or to the line's end.
-    pub fn next_word(&mut self) -> Result<&'a [u8], Stop> {
+    pub fn next_word(&mut self) -> Result<&'a [u8], TextError> {
         self.expect(b" ")?;
         Ok(self.part(Part::Word))
     }
 
     /// What the next keyword stands for in a table.
-    pub fn keyword_in<T: Copy>(&mut self, table: &[(&str, T)]) -> Result<T, Stop> {
+    pub fn keyword_in<T: Copy>(&mut self, table: &[(&str, T)]) -> Result<T, TextError> {
         let word = self.keyword();
-        value_of(table, word).ok_or(Stop::Bad)
+        value_of(table, word).ok_or(TextError::Syntax)
     }
 
     /// The same behind a space.
-    pub fn next_in<T: Copy>(&mut self, table: &[(&str, T)]) -> Result<T, Stop> {
+    pub fn next_in<T: Copy>(&mut self, table: &[(&str, T)]) -> Result<T, TextError> {
         self.expect(b" ")?;
         self.keyword_in(table)
     }
 
     /// What the first of these stands for that the line goes on with, which is then taken.
-    pub fn eat_in<T: Copy>(&mut self, table: &[(&str, T)]) -> Result<T, Stop> {
+    pub fn eat_in<T: Copy>(&mut self, table: &[(&str, T)]) -> Result<T, TextError> {
         for (text, value) in table {
             if self.eat(text.as_bytes()) {
                 return Ok(*value);
             }
         }
-        Err(Stop::Bad)
+        Err(TextError::Syntax)
     }
 
     /// What the next word stands for, where it is one of these, which is then taken.

@@ -24,7 +24,7 @@ not_under g lengths nodes i root is apart under = apart (subst (LiesUnderRoot g 
 
 pub loop-i-init : goal.loop-i-init
 loop-i-init c = record {
-  came = c.requires.came;
+  seen = c.requires.seen;
   earlier = refl;
   clear = λ g h ends. clear_none g c.args.parents.now h c.args.listed.now c.args.clear.now (λ n m. omega (arith, ((c.requires.clear n).0 m).1));
   fine = λ g h ends j lt. absurd (omega arith);
@@ -37,14 +37,14 @@ returns-then-root-lengths c = λ g h ends.
     let high = c.if-root-lengths.true in
     (i, c.loop-i-test.true, inl (refl, λ low. omega arith), c.loop-i.invariant.fine g h ends)
 
-pub returns-then-came-node : goal.returns-then-came-node
-returns-then-came-node c = λ g h ends.
+pub returns-then-seen-node : goal.returns-then-seen-node
+returns-then-seen-node c = λ g h ends.
     let i = c.loop-i.i in
     let nodes = root_nodes c.args.roots.now in
     let root : ℕ = (get_or c.args.roots.now i none).node in
     let node = root_node_is c.args.roots.now i none c.loop-i-test.true in
     let low : root < c.args.lengths.exprs = c.if-root-lengths.false in
-    let again : Contains (take i nodes) root = (c.loop-i.invariant.came root).0 c.if-came-node.true in
+    let again : Contains (take i nodes) root = (c.loop-i.invariant.seen root).0 c.if-seen-node.true in
     (i, c.loop-i-test.true, inr (at_root c.args.lengths nodes i root node low, inl (refl, λ new. new (subst (Contains (take i nodes)) (sym node) again))), c.loop-i.invariant.fine g h ends)
 
 pub returns-then-is_under : goal.returns-then-is_under
@@ -54,7 +54,7 @@ returns-then-is_under c = λ g h ends.
     let root : ℕ = (get_or c.args.roots.now i none).node in
     let node = root_node_is c.args.roots.now i none c.loop-i-test.true in
     let low : root < c.args.lengths.exprs = c.if-root-lengths.false in
-    let once : Contains (take i nodes) root → ⊥ = λ again. false≢true (sym c.if-came-node.false ∙ (c.loop-i.invariant.came root).1 again) in
+    let once : Contains (take i nodes) root → ⊥ = λ again. false≢true (sym c.if-seen-node.false ∙ (c.loop-i.invariant.seen root).1 again) in
     let marked = (c.is_under.ensures.under g h (ends root (omega (arith, c.requires.exprs, h.nodes))) (c.loop-i.invariant.clear g h ends)).0 c.if-is_under.true in
     let under : LiesUnderRoot g c.args.lengths.exprs nodes root = (under_root g c.args.listed.now c.args.lengths.exprs nodes c.requires.listed root).0 marked in (
       i,
@@ -70,7 +70,7 @@ returns-then-not-fit c = λ g h ends.
     let root : ℕ = (get_or c.args.roots.now i none).node in
     let node = root_node_is c.args.roots.now i none c.loop-i-test.true in
     let low : root < c.args.lengths.exprs = c.if-root-lengths.false in
-    let once : Contains (take i nodes) root → ⊥ = λ again. false≢true (sym c.if-came-node.false ∙ (c.loop-i.invariant.came root).1 again) in
+    let once : Contains (take i nodes) root → ⊥ = λ again. false≢true (sym c.if-seen-node.false ∙ (c.loop-i.invariant.seen root).1 again) in
     let apart : LiesUnderRoot g c.args.lengths.exprs nodes root → ⊥ = λ under.
     let marked = (under_root g c.args.listed.now c.args.lengths.exprs nodes c.requires.listed root).1 under in
     false≢true (sym c.if-is_under.false ∙ (c.is_under.ensures.under g h (ends root (omega (arith, c.requires.exprs, h.nodes))) (c.loop-i.invariant.clear g h ends)).1 marked) in
@@ -89,12 +89,12 @@ loop-i-preserved c =
     let root : ℕ = (get_or c.args.roots.now i none).node in
     let node = root_node_is c.args.roots.now i none c.loop-i-test.true in
     let low : root < c.args.lengths.exprs = c.if-root-lengths.false in
-    let once : Contains (take i nodes) root → ⊥ = λ again. false≢true (sym c.if-came-node.false ∙ (c.loop-i.invariant.came root).1 again) in
+    let once : Contains (take i nodes) root → ⊥ = λ again. false≢true (sym c.if-seen-node.false ∙ (c.loop-i.invariant.seen root).1 again) in
     let fit = c.fit.ensures.0 c.if-not-fit.false in
     let long : i < length nodes = omega (arith, c.loop-i-test.true, length-map c.args.roots.now (λ (x : Root). x.node)) in
     record {
-      came = subst (λ (n : ℕ). MarksAll (set c.loop-i.came n true) (take (i + 1) nodes)) node
-          (MarksAll-more c.loop-i.came nodes i long (omega (arith, c.requires.exprs, c.requires.came_nodes, c.loop-i.auto.came)) c.loop-i.invariant.came);
+      seen = subst (λ (n : ℕ). MarksAll (set c.loop-i.seen n true) (take (i + 1) nodes)) node
+          (MarksAll-more c.loop-i.seen nodes i long (omega (arith, c.requires.exprs, c.requires.seen_nodes, c.loop-i.auto.seen)) c.loop-i.invariant.seen);
       earlier = ends_more c.args.roots.now i none c.loop-i-test.true;
       clear = λ g h ends. c.is_under.ensures.clear g h (ends root (omega (arith, c.requires.exprs, h.nodes))) (c.loop-i.invariant.clear g h ends) c.if-is_under.false;
       fine = λ g h ends.

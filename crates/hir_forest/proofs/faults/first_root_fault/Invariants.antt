@@ -6,7 +6,7 @@ use Rattle.hir_forest.proofs.faults.first_root_fault.Given as goal
 
 abbrev pub invariant-loop-i : goal.invariant-loop-i
 invariant-loop-i l = record {
-  came : MarksAll l.came (take l.i (root_nodes l.roots));
+  seen : MarksAll l.seen (take l.i (root_nodes l.roots));
   earlier : l.earlier ≡ ends_before l.roots l.i;
   clear : (g : List (List ℕ)) → HasParents g l.parents → ((n : ℕ) → n < length g → ChainEnds g n) → AreClear g l.listed l.clear;
   fine : (g : List (List ℕ)) → HasParents g l.parents → ((n : ℕ) → n < length g → ChainEnds g n)

@@ -1,5 +1,5 @@
 use Rattle.std.proofs.Common.{◌≡◌, [], length}
-use Rattle.hir_io.specs.Ends.{IsWrittenUpTo}
+use Rattle.hir_io.specs.Effects.{IsWrittenUpTo}
 use Rattle.hir_io.proofs.ends.write_all.Given as goal
 
 abbrev pub invariant-loop-rest : goal.invariant-loop-rest

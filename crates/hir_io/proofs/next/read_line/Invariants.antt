@@ -1,6 +1,6 @@
 use Rattle.std.proofs.Common.{◌≡◌, ◌+◌, ◌≤◌, ◌⊎◌, [], false, cond, length}
 use Rattle.std.specs.Io.KnownBytes.{Keeps}
-use Rattle.hir_io.specs.Ends.{IsWrittenUpTo}
+use Rattle.hir_io.specs.Effects.{IsWrittenUpTo}
 use Rattle.hir_io.specs.Text.{HasNoLineEnd}
 use Rattle.hir_io.specs.NextLine.{bytes_left}
 use Rattle.hir_io.proofs.next.read_line.Given as goal

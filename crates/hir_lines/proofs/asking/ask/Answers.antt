@@ -2,7 +2,7 @@ use Rattle.std.proofs.Common.{◌≡◌, ℕ, List, length, sym, ap, ◌∙◌, 
 use Rattle.std.proofs.lemmas.Bool.Decides.{nat_tests}
 use Rattle.std.proofs.lemmas.Result.{err_from_is_err_and}
 use Rattle.hir_lines.specs.Line.{question}
-use Rattle.hir_lines.specs.Readings.{parts_of, whole}
+use Rattle.hir_lines.specs.Readings.{split_parts, whole}
 use Rattle.hir_lines.proofs.Tables.{asks_by, empty_line}
 use Rattle.hir_lines.proofs.WrittenLines.{asks_it}
 use Rattle.hir_lines.proofs.asking.ask.Goals as goal
@@ -15,7 +15,7 @@ returns-then-is_empty c =
 pub returns-in_err-question : goal.returns-in_err-question
 returns-in_err-question c =
     let p = err_from_is_err_and c.from_residual.result c.from_residual.ensures.1 in
-    let words : parts_of 32 c.args.text.now ≡ c.new-words.result = sym c.new-words.ensures in
+    let words : split_parts 32 c.args.text.now ≡ c.new-words.result = sym c.new-words.ensures in
     let some : length c.args.text.now ≡ 0 → ⊥ = λ none. grind (arith, nat_tests) in
     let by = asks_by c.args.text.now some in
     let asked = c.in_err-question.ensures {u = tt} in
@@ -31,5 +31,5 @@ returns-in_err-question c =
 
 pub returns : goal.returns
 returns c =
-    let words : parts_of 32 c.args.text.now ≡ c.new-words.result = sym c.new-words.ensures in
+    let words : split_parts 32 c.args.text.now ≡ c.new-words.result = sym c.new-words.ensures in
     record { asks = asks_it c.args.text.now c.in_ok-question.question (ap (λ (ws : List (List ℕ)). whole question ws) words ∙ c.in_ok-question.ensures {u = tt}) }

@@ -5,7 +5,7 @@ use Rattle.std.proofs.lemmas.Grind.{common_steps}
 use Rattle.hir_lines.specs.Numerals.{has_needless_zero, if_below, is_digit, number_of, value}
 use Rattle.hir_lines.specs.Readings.{is_byte}
 use Rattle.hir_lines.proofs.Digits.{digit_more, if_below-below, number_is, value-next}
-use Rattle.hir_lines.proofs.Fronts.{eleven_digits, front_ends, front_number, large_front, needless_front, no_digit, no_front, plain_more}
+use Rattle.hir_lines.proofs.Prefixes.{eleven_digits, prefix_ends, prefix_number, large_prefix, needless_prefix, no_digit, no_prefix, plain_more}
 use Rattle.hir_lines.proofs.numerals.first_number.Goals as goal
 use Rattle.hir_lines.proofs.numerals.first_number.Goals.{then-loop-end-test+else-is_ascii_digit, then-loop-end-test+then-is_ascii_digit+else-text-end, else-loop-end-test, then-end-eq0-via-then-end-eq0, then-end-eq0-via-else-end-eq0+then-has_needless_zero, then-end-eq0-via-else-end-eq0+else-has_needless_zero+then-value-from, else-end-text-via-else-end-text, else-end-text-via-then-end-text+else-text-end-2}
 
@@ -35,14 +35,14 @@ returns-then-end-eq0-clause-number c =
     elim c.then-end-eq0.branch [
       | then-end-eq0-via-then-end-eq0 w ↦ elim c.loop-end-test.branch [
         | then-loop-end-test+else-is_ascii_digit v ↦ elim (cases_Bool (is_byte c.args.separator (get_or text i 0))) [
-          | inl met ↦ no_front _ (take i text) _ (front_ends c.args.separator text i c.loop-end.invariant.within plain (λ h. met)) (none w.if-end-eq0.true)
+          | inl met ↦ no_prefix _ (take i text) _ (prefix_ends c.args.separator text i c.loop-end.invariant.within plain (λ h. met)) (none w.if-end-eq0.true)
           | inr other ↦ no_digit c.args.separator text i (omega (arith, v.loop-end-test.true)) plain other (sym v.is_ascii_digit.ensures.value ∙ v.if-is_ascii_digit.false)
         ]
-        | then-loop-end-test+then-is_ascii_digit+else-text-end v ↦ no_front _ (take i text) _ (front_ends c.args.separator text i c.loop-end.invariant.within plain (λ h. grind (arith, nat_tests))) (none w.if-end-eq0.true)
-        | else-loop-end-test v ↦ no_front _ (take i text) _ (front_ends c.args.separator text i c.loop-end.invariant.within plain (λ h. absurd (omega (arith, h, v.loop-end-test.false, w.if-end-eq0.true)))) (none w.if-end-eq0.true)
+        | then-loop-end-test+then-is_ascii_digit+else-text-end v ↦ no_prefix _ (take i text) _ (prefix_ends c.args.separator text i c.loop-end.invariant.within plain (λ h. grind (arith, nat_tests))) (none w.if-end-eq0.true)
+        | else-loop-end-test v ↦ no_prefix _ (take i text) _ (prefix_ends c.args.separator text i c.loop-end.invariant.within plain (λ h. absurd (omega (arith, h, v.loop-end-test.false, w.if-end-eq0.true)))) (none w.if-end-eq0.true)
       ]
-      | then-end-eq0-via-else-end-eq0+then-has_needless_zero w ↦ needless_front c.args.separator text i plain (sym w.has_needless_zero.ensures ∙ w.if-has_needless_zero.true)
-      | then-end-eq0-via-else-end-eq0+else-has_needless_zero+then-value-from w ↦ large_front c.args.separator text i plain (omega (arith, c.loop-end.invariant.value_is, w.if-value-from.true, w.from-else-has_needless_zero.ensures))
+      | then-end-eq0-via-else-end-eq0+then-has_needless_zero w ↦ needless_prefix c.args.separator text i plain (sym w.has_needless_zero.ensures ∙ w.if-has_needless_zero.true)
+      | then-end-eq0-via-else-end-eq0+else-has_needless_zero+then-value-from w ↦ large_prefix c.args.separator text i plain (omega (arith, c.loop-end.invariant.value_is, w.if-value-from.true, w.from-else-has_needless_zero.ensures))
     ]
 
 pub returns-then-text-end-2-clause-number : goal.returns-then-text-end-2-clause-number
@@ -74,4 +74,4 @@ returns-clause-number c =
       | else-end-text-via-else-end-text v ↦ λ h. absurd (omega (arith, h, v.if-end-text.false))
       | else-end-text-via-then-end-text+else-text-end-2 v ↦ λ h. grind (arith, nat_tests)
     ] in
-    front_number _ (take i text) _ c.loop-end.value (front_ends c.args.separator text i c.loop-end.invariant.within c.loop-end.invariant.plain stops) is
+    prefix_number _ (take i text) _ c.loop-end.value (prefix_ends c.args.separator text i c.loop-end.invariant.within c.loop-end.invariant.plain stops) is

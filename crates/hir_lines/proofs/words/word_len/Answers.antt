@@ -1,7 +1,7 @@
 use Rattle.std.proofs.Common.{◌≡◌, false, get_or, arith}
 use Rattle.std.proofs.lemmas.Bool.Decides.{nat_tests}
 use Rattle.hir_lines.specs.Readings.{is_byte}
-use Rattle.hir_lines.proofs.Fronts.{front_ends, plain_more}
+use Rattle.hir_lines.proofs.Prefixes.{prefix_ends, plain_more}
 use Rattle.hir_lines.proofs.words.word_len.Goals as goal
 
 pub loop-end-preserved : goal.loop-end-preserved
@@ -11,8 +11,8 @@ loop-end-preserved c =
 
 pub returns-else-text-end-clause-first : goal.returns-else-text-end-clause-first
 returns-else-text-end-clause-first c =
-    front_ends c.args.separator c.args.text.now c.loop-end.end c.loop-end.invariant.within c.loop-end.invariant.plain (λ _. grind (arith, nat_tests))
+    prefix_ends c.args.separator c.args.text.now c.loop-end.end c.loop-end.invariant.within c.loop-end.invariant.plain (λ _. grind (arith, nat_tests))
 
 pub returns-after-loop-end-clause-first : goal.returns-after-loop-end-clause-first
 returns-after-loop-end-clause-first c =
-    front_ends c.args.separator c.args.text.now c.loop-end.end c.loop-end.invariant.within c.loop-end.invariant.plain (λ h. absurd (omega (arith, h, c.loop-end-test.false)))
+    prefix_ends c.args.separator c.args.text.now c.loop-end.end c.loop-end.invariant.within c.loop-end.invariant.plain (λ h. absurd (omega (arith, h, c.loop-end-test.false)))

@@ -1,5 +1,5 @@
 use Rattle.std.proofs.Common.{codes}
-use Rattle.hir_page.specs.Pieces.{Text}
+use Rattle.hir_page.specs.Layouts.{Text}
 use Rattle.hir_page.specs.Literals.{lone_char}
 use Rattle.std.proofs.lemmas.Result.{on_ok_weaker, on_err_weaker}
 use Rattle.hir_page.proofs.PieceLemmas.{on_err, stops_here, stops_inside, stops_at_last, last_written}

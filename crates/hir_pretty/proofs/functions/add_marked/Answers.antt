@@ -1,10 +1,10 @@
 use Rattle.hir_printer.proofs.Common.{codes, map, nat_lt, enumerate_from, text, adds_then, adds_more, left_begins, left_goes_on, left_ends, following_joined}
-use Rattle.hir_pretty.specs.AddedItems.{marked_items}
+use Rattle.hir_pretty.specs.AddedDocs.{marked_docs}
 use Rattle.hir_pretty.proofs.ListLemmas.{marked_step, marked_end}
 use Rattle.hir_pretty.proofs.functions.add_marked.Goals as goal
 
 pub loop-at-init : goal.loop-at-init
-loop-at-init g c = left_begins (λ s. following_joined (text (codes ", ")) (map (marked_items c.args.marks.now) (enumerate_from 0 c.args.params.now)))
+loop-at-init g c = left_begins (λ s. following_joined (text (codes ", ")) (map (marked_docs c.args.marks.now) (enumerate_from 0 c.args.params.now)))
 
 pub loop-at-preserved : goal.loop-at-preserved
 loop-at-preserved g c = left_goes_on c.loop-at.invariant (adds_more (adds_then c.in_ok-add_if.ensures c.in_ok-add_if-2.ensures) c.in_ok-add.ensures)

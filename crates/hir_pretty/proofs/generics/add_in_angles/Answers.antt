@@ -1,4 +1,4 @@
-use Rattle.hir_printer.proofs.Common.{refl, enumerate_from, on_ok_weaker, name_items, adds, adds_more, adds_then, adds_as}
+use Rattle.hir_printer.proofs.Common.{refl, enumerate_from, on_ok_weaker, name_docs, adds, adds_more, adds_then, adds_as}
 use Rattle.hir_generics.specs.declared.data.LifetimeParamData.{LifetimeParamData}
 use Rattle.hir_pretty.specs.Signatures.{each_lifetime, each_type_or_const}
 use Rattle.hir_pretty.proofs.ListLemmas.{angles, is_longer}
@@ -8,4 +8,4 @@ pub returns : goal.returns
 returns g c = on_ok_weaker c.add-2.result
     (λ a. adds_as (adds_more (adds_then (adds_then (adds c.in_ok-add.ensures (λ s. refl)) c.in_ok-add_lifetimes.ensures) c.in_ok-add_types_and_consts.ensures) a)
     (λ s. angles (each_lifetime s c.args.params.now.lifetimes) (each_type_or_const s (enumerate_from 0 c.args.params.now.type_or_consts)) _
-    (is_longer (λ (lifetime : LifetimeParamData). name_items s lifetime.name) c.args.params.now.lifetimes _ c.len_lifetimes.ensures.len))) c.add-2.ensures
+    (is_longer (λ (lifetime : LifetimeParamData). name_docs s lifetime.name) c.args.params.now.lifetimes _ c.len_lifetimes.ensures.len))) c.add-2.ensures

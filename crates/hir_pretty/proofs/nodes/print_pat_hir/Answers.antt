@@ -1,4 +1,4 @@
-use Rattle.hir_printer.proofs.Common.{refl, subst, append-nil, err_from_is_err_and, words_of, setting, pieces, PrintsPieces, answers, adds, prints}
+use Rattle.hir_printer.proofs.Common.{refl, subst, append-nil, err_from_is_err_and, words_of, print_env, pieces, PrintsPieces, lookups_of, adds, prints}
 use Rattle.hir_node.specs.declared.node_id.NodeId.TheVariants as node
 use Rattle.hir_pretty.proofs.OtherLemmas.{prints_refused}
 use Rattle.hir_pretty.proofs.nodes.print_pat_hir.Goals as goal
@@ -8,5 +8,5 @@ returns-in_err-add c = let p = err_from_is_err_and c.from_residual.result c.from
 
 pub returns : goal.returns
 returns c =
-    let s = setting c.args.store.now (answers c.args.tables.now) (words_of c.args.tables.now.words c.args.edition) c.args.oneline in
+    let s = print_env c.args.store.now (lookups_of c.args.tables.now) (words_of c.args.tables.now.words c.args.edition) c.args.oneline in
     subst (λ ps. PrintsPieces s ps c.print.result) (append-nil (pieces s (node.Pat c.args.pat))) (prints c.new-printer.ensures (adds c.in_ok-add.ensures (λ s. refl)) c.print.ensures)

@@ -2,7 +2,7 @@ use Rattle.std.proofs.Common.{◌≡◌, List, [], ◌++◌, ◌∷◌, refl, sy
 use Rattle.std.specs.List.{FoldsTo}
 use Rattle.std.proofs.lemmas.Fn.{chained_keeps}
 use Rattle.hir_run.specs.Answer.{after_spaces}
-use Rattle.hir_run.specs.Output.{Puts}
+use Rattle.hir_run.specs.Output.{OutputsText}
 use Rattle.hir_run.proofs.WritingLemmas.{put_none, spaced_then}
 use Rattle.hir_run.proofs.answer.put_children.Goals as goal
 
@@ -14,7 +14,7 @@ turns_keep {P} {turn = turn} {old} {new} {xs} runs Keeps more none = chained_kee
 -- the closure was called at each child, so all of them were put
 pub returns : goal.returns
 returns g c =
-    let kept = turns_keep c.walk_child_exprs.ensures.runs (λ numbers st. (st.0.ghost_name ≡ c.walk_child_exprs-arg-1.given) × Puts g.W.Sink c.args.output.now st.0.now (after_spaces numbers))
+    let kept = turns_keep c.walk_child_exprs.ensures.runs (λ numbers st. (st.0.ghost_name ≡ c.walk_child_exprs-arg-1.given) × OutputsText g.W.Sink c.args.output.now st.0.now (after_spaces numbers))
     (λ numbers old n new so_far called.
     let step = called.met in
     (step.1.0 ∙ so_far.0, spaced_then g.W.Sink c.args.output.now old.0.now new.0.now numbers n so_far.1 step.1.1))

@@ -1,9 +1,9 @@
 use Rattle.std.proofs.Common.{◌≡◌, ◌+◌, true, false, Ok, Err, length, ◌++◌, ◌∷◌, [], subst, sym, ◌∙◌, arith, length-append, refl}
 use Rattle.std.proofs.lemmas.Result.{err_from_is_err_and}
-use Rattle.hir_io.proofs.ReadLemmas.{Reads-none, ReadsAll-end}
+use Rattle.hir_io.proofs.ReadLemmas.{ReadsLines-none, ReadsAll-end}
 use Rattle.hir_lines.specs.Line.{line_of}
 use Rattle.hir_run.specs.Output.{output_of}
-use Rattle.hir_run.specs.Places.{TakesNext, place_of}
+use Rattle.hir_run.specs.RunStates.{TakesNext, run_state_of}
 use Rattle.hir_run.specs.Stages.{AsksLine}
 use Rattle.hir_run.proofs.AskedLemmas.{first_answered, first_left, first_fails, answered_kept, fails_to_read, read_on, counted_on, line_answered, line_left, line_fails}
 use Rattle.hir_run.proofs.ClosingLemmas.{next_reads}
@@ -13,11 +13,11 @@ pub returns-in_err-left-clause-asks : goal.returns-in_err-left-clause-asks
 returns-in_err-left-clause-asks g c =
     let e = err_from_is_err_and c.from_residual.result c.from_residual.ensures.1 in
     let number = c.args.lines.now.count in
-    rw (e.1, e.2) (first_fails g.A.Answers.may (g.A.Answers.Is c.args.asked.now) c.args.first (place_of g.R.Source g.W.Sink c.args.lines.now c.args.reader.now c.args.output.now) number (output_of g.W.Sink c.answer_question.new.output) c.in_err-left.field-0.0 (c.in_err-left.ensures.asks number))
+    rw (e.1, e.2) (first_fails g.A.Answers.may (g.A.Answers.Is c.args.asked.now) c.args.first (run_state_of g.R.Source g.W.Sink c.args.lines.now c.args.reader.now c.args.output.now) number (output_of g.W.Sink c.answer_question.new.output) c.in_err-left.field-0.0 (c.in_err-left.ensures.asks number))
 
 pub returns-then-is_some-clause-asks : goal.returns-then-is_some-clause-asks
 returns-then-is_some-clause-asks g c =
-    first_left g.A.Answers.may (g.A.Answers.Is c.args.asked.now) c.args.first (place_of g.R.Source g.W.Sink c.args.lines.now c.args.reader.now c.args.output.now) (output_of g.W.Sink c.answer_question.new.output) c.in_ok-left.left (sym c.is_some.ensures ∙ c.if-is_some.true) ((c.in_ok-left.ensures {u = tt}).asks c.args.lines.now.count)
+    first_left g.A.Answers.may (g.A.Answers.Is c.args.asked.now) c.args.first (run_state_of g.R.Source g.W.Sink c.args.lines.now c.args.reader.now c.args.output.now) (output_of g.W.Sink c.answer_question.new.output) c.in_ok-left.left (sym c.is_some.ensures ∙ c.if-is_some.true) ((c.in_ok-left.ensures {u = tt}).asks c.args.lines.now.count)
 
 pub loop-left-init : goal.loop-left-init
 loop-left-init g c =
@@ -31,8 +31,8 @@ loop-left-init g c =
       stays_ended = λ e. e;
       so_far = (
         [],
-        first_answered g.A.Answers.may (g.A.Answers.Is c.args.asked.now) c.args.first (place_of g.R.Source g.W.Sink c.args.lines.now c.args.reader.now c.args.output.now) (output_of g.W.Sink c.answer_question.new.output) c.in_ok-left.left (sym c.is_some.ensures ∙ c.if-is_some.false) (told.asks c.args.lines.now.count),
-        Reads-none _ _,
+        first_answered g.A.Answers.may (g.A.Answers.Is c.args.asked.now) c.args.first (run_state_of g.R.Source g.W.Sink c.args.lines.now c.args.reader.now c.args.output.now) (output_of g.W.Sink c.answer_question.new.output) c.in_ok-left.left (sym c.is_some.ensures ∙ c.if-is_some.false) (told.asks c.args.lines.now.count),
+        ReadsLines-none _ _,
         omega arith,
       );
     }
@@ -40,9 +40,9 @@ loop-left-init g c =
 pub returns-in_err-next_line-clause-asks : goal.returns-in_err-next_line-clause-asks
 returns-in_err-next_line-clause-asks g c =
     let e = err_from_is_err_and c.from_residual-in_err-next_line.result c.from_residual-in_err-next_line.ensures.1 in
-    let start = place_of g.R.Source g.W.Sink c.args.lines.now c.args.reader.now c.args.output.now in
-    let p = place_of g.R.Source g.W.Sink c.loop-left.lines c.loop-left.reader c.loop-left.output in
-    let q = place_of g.R.Source g.W.Sink c.next_line.new.lines c.next_line.new.reader c.next_line.new.self in
+    let start = run_state_of g.R.Source g.W.Sink c.args.lines.now c.args.reader.now c.args.output.now in
+    let p = run_state_of g.R.Source g.W.Sink c.loop-left.lines c.loop-left.reader c.loop-left.output in
+    let q = run_state_of g.R.Source g.W.Sink c.next_line.new.lines c.next_line.new.reader c.next_line.new.self in
     let all = c.loop-left.invariant.so_far in
     let stays = c.loop-left.invariant.stays_ended in
     let told = c.in_err-next_line.ensures {u = tt} in
@@ -54,9 +54,9 @@ answer_next-requires g c = (c.in_ok-next_line.ensures {u = tt}).output_failure �
 
 pub loop-left-preserved : goal.loop-left-preserved
 loop-left-preserved g c =
-    let start = place_of g.R.Source g.W.Sink c.args.lines.now c.args.reader.now c.args.output.now in
-    let p = place_of g.R.Source g.W.Sink c.loop-left.lines c.loop-left.reader c.loop-left.output in
-    let q = place_of g.R.Source g.W.Sink c.next_line.new.lines c.next_line.new.reader c.next_line.new.self in
+    let start = run_state_of g.R.Source g.W.Sink c.args.lines.now c.args.reader.now c.args.output.now in
+    let p = run_state_of g.R.Source g.W.Sink c.loop-left.lines c.loop-left.reader c.loop-left.output in
+    let q = run_state_of g.R.Source g.W.Sink c.next_line.new.lines c.next_line.new.reader c.next_line.new.self in
     let all = c.loop-left.invariant.so_far in
     let stays = c.loop-left.invariant.stays_ended in
     let Is = g.A.Answers.Is c.args.asked.now in
@@ -84,9 +84,9 @@ loop-left-preserved g c =
 pub returns-in_err-later-clause-asks : goal.returns-in_err-later-clause-asks
 returns-in_err-later-clause-asks g c =
     let e = err_from_is_err_and c.from_residual-in_err-later.result c.from_residual-in_err-later.ensures.1 in
-    let start = place_of g.R.Source g.W.Sink c.args.lines.now c.args.reader.now c.args.output.now in
-    let p = place_of g.R.Source g.W.Sink c.loop-left.lines c.loop-left.reader c.loop-left.output in
-    let q = place_of g.R.Source g.W.Sink c.next_line.new.lines c.next_line.new.reader c.next_line.new.self in
+    let start = run_state_of g.R.Source g.W.Sink c.args.lines.now c.args.reader.now c.args.output.now in
+    let p = run_state_of g.R.Source g.W.Sink c.loop-left.lines c.loop-left.reader c.loop-left.output in
+    let q = run_state_of g.R.Source g.W.Sink c.next_line.new.lines c.next_line.new.reader c.next_line.new.self in
     let all = c.loop-left.invariant.so_far in
     let stays = c.loop-left.invariant.stays_ended in
     let told = c.in_ok-next_line.ensures {u = tt} in
@@ -96,9 +96,9 @@ returns-in_err-later-clause-asks g c =
 
 pub returns-then-is_some-2-clause-asks : goal.returns-then-is_some-2-clause-asks
 returns-then-is_some-2-clause-asks g c =
-    let start = place_of g.R.Source g.W.Sink c.args.lines.now c.args.reader.now c.args.output.now in
-    let p = place_of g.R.Source g.W.Sink c.loop-left.lines c.loop-left.reader c.loop-left.output in
-    let q = place_of g.R.Source g.W.Sink c.next_line.new.lines c.next_line.new.reader c.next_line.new.self in
+    let start = run_state_of g.R.Source g.W.Sink c.args.lines.now c.args.reader.now c.args.output.now in
+    let p = run_state_of g.R.Source g.W.Sink c.loop-left.lines c.loop-left.reader c.loop-left.output in
+    let q = run_state_of g.R.Source g.W.Sink c.next_line.new.lines c.next_line.new.reader c.next_line.new.self in
     let all = c.loop-left.invariant.so_far in
     let stays = c.loop-left.invariant.stays_ended in
     let told = c.in_ok-next_line.ensures {u = tt} in
@@ -108,9 +108,9 @@ returns-then-is_some-2-clause-asks g c =
 
 pub returns-clause-asks : goal.returns-clause-asks
 returns-clause-asks g c =
-    let start = place_of g.R.Source g.W.Sink c.args.lines.now c.args.reader.now c.args.output.now in
-    let p = place_of g.R.Source g.W.Sink c.loop-left.lines c.loop-left.reader c.loop-left.output in
-    let q = place_of g.R.Source g.W.Sink c.next_line.new.lines c.next_line.new.reader c.next_line.new.self in
+    let start = run_state_of g.R.Source g.W.Sink c.args.lines.now c.args.reader.now c.args.output.now in
+    let p = run_state_of g.R.Source g.W.Sink c.loop-left.lines c.loop-left.reader c.loop-left.output in
+    let q = run_state_of g.R.Source g.W.Sink c.next_line.new.lines c.next_line.new.reader c.next_line.new.self in
     let all = c.loop-left.invariant.so_far in
     let stays = c.loop-left.invariant.stays_ended in
     let told = c.in_ok-next_line.ensures {u = tt} in

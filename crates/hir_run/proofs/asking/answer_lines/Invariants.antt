@@ -1,5 +1,5 @@
 use Rattle.std.proofs.Common.{◌≡◌, ◌+◌, ◌≤◌, length, true, false}
-use Rattle.hir_run.specs.Places.{place_of}
+use Rattle.hir_run.specs.RunStates.{run_state_of}
 use Rattle.hir_run.proofs.AskedLemmas.{SoFar}
 use Rattle.hir_run.proofs.asking.answer_lines.Given as goal
 
@@ -12,7 +12,7 @@ invariant-loop-left g l = record {
   falls : length l.lines.pending + g.R.Source.allowance l.reader + l.lines.count
       ≤ length l.fn.lines.pending + g.R.Source.allowance l.fn.reader + l.fn.lines.count;
   stays_ended : l.fn.lines.at_end ≡ true → l.lines.at_end ≡ true;
-  so_far : SoFar g.A.Answers.may (g.A.Answers.Is l.fn.asked) l.fn.first (place_of g.R.Source g.W.Sink l.fn.lines l.fn.reader l.fn.output) (place_of g.R.Source g.W.Sink l.lines l.reader l.output);
+  so_far : SoFar g.A.Answers.may (g.A.Answers.Is l.fn.asked) l.fn.first (run_state_of g.R.Source g.W.Sink l.fn.lines l.fn.reader l.fn.output) (run_state_of g.R.Source g.W.Sink l.lines l.reader l.output);
 }
 
 abbrev pub decreases-loop-left : goal.decreases-loop-left

@@ -6,9 +6,9 @@ use Rattle.hir_run.proofs.asking.asked_by.Goals as goal
 pub returns-in-Ok : goal.returns-in-Ok
 returns-in-Ok c = rw c.line.ensures at c.in-Ok.ensures.asks
 
-pub returns-in-Err-Bad : goal.returns-in-Err-Bad
-returns-in-Err-Bad c =
-    let does = rw (c.in-Err-Bad.field-0-is, c.line.ensures) at c.in-Err-Bad.ensures.asks in
+pub returns-in-Err-Syntax : goal.returns-in-Err-Syntax
+returns-in-Err-Syntax c =
+    let does = rw (c.in-Err-Syntax.field-0-is, c.line.ensures) at c.in-Err-Syntax.ensures.asks in
     (does.1.0 refl, c.count.ensures)
 
 pub returns-in-Err-Memory : goal.returns-in-Err-Memory

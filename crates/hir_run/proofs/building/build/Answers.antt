@@ -2,8 +2,8 @@ use Rattle.std.proofs.Common.{Bool, true, false, Ok, Err, ◌++◌, ◌∷◌, [
 use Rattle.std.proofs.lemmas.Result.{err_from_is_err_and}
 use Rattle.hir_io.proofs.ReadLemmas.{ReadsAll-end}
 use Rattle.hir_run.specs.Output.{Output}
-use Rattle.hir_run.specs.Parts.{Parts, parts_of}
-use Rattle.hir_run.specs.Places.{TakesNext, place_of}
+use Rattle.hir_run.specs.Parts.{Parts, builder_parts}
+use Rattle.hir_run.specs.RunStates.{TakesNext, run_state_of}
 use Rattle.hir_run.specs.Stages.{Builds, BuildsLine}
 use Rattle.hir_run.proofs.BuildingLemmas.{no_line_yet, build_fails, build_line_fails, asked_next, asked_reads_none, read_on, counted_on}
 use Rattle.hir_run.proofs.Making.{makes_line}
@@ -16,16 +16,16 @@ loop-alloc-init g c = record {
   quiet = c.requires.quiet;
   untouched = refl;
   falls = omega arith;
-  so_far = no_line_yet (place_of g.R.Source g.W.Sink c.args.lines.now c.args.reader.now c.args.output.now) (parts_of c.args.builder.now) c.requires.fresh.0 c.requires.fresh.1;
+  so_far = no_line_yet (run_state_of g.R.Source g.W.Sink c.args.lines.now c.args.reader.now c.args.output.now) (builder_parts c.args.builder.now) c.requires.fresh.0 c.requires.fresh.1;
 }
 
 pub returns-in_err-next_line-clause-builds : goal.returns-in_err-next_line-clause-builds
 returns-in_err-next_line-clause-builds g c =
     let e = err_from_is_err_and c.from_residual.result c.from_residual.ensures.1 in
     let known = g.R.Source.remaining c.args.reader.now in
-    let p = place_of g.R.Source g.W.Sink c.loop-alloc.lines c.loop-alloc.reader c.loop-alloc.output in
-    let q = place_of g.R.Source g.W.Sink c.next_line.new.lines c.next_line.new.reader c.next_line.new.self in
-    let old = parts_of c.loop-alloc.builder in
+    let p = run_state_of g.R.Source g.W.Sink c.loop-alloc.lines c.loop-alloc.reader c.loop-alloc.output in
+    let q = run_state_of g.R.Source g.W.Sink c.next_line.new.lines c.next_line.new.reader c.next_line.new.self in
+    let old = builder_parts c.loop-alloc.builder in
     let all = c.loop-alloc.invariant.so_far in
     let told = c.in_err-next_line.ensures {u = tt} in
     let quiet = told.idle c.loop-alloc.invariant.quiet in
@@ -35,11 +35,11 @@ returns-in_err-next_line-clause-builds g c =
 pub loop-alloc-preserved : goal.loop-alloc-preserved
 loop-alloc-preserved g c =
     let known = g.R.Source.remaining c.args.reader.now in
-    let p = place_of g.R.Source g.W.Sink c.loop-alloc.lines c.loop-alloc.reader c.loop-alloc.output in
-    let q = place_of g.R.Source g.W.Sink c.next_line.new.lines c.next_line.new.reader c.next_line.new.self in
-    let old = parts_of c.loop-alloc.builder in
+    let p = run_state_of g.R.Source g.W.Sink c.loop-alloc.lines c.loop-alloc.reader c.loop-alloc.output in
+    let q = run_state_of g.R.Source g.W.Sink c.next_line.new.lines c.next_line.new.reader c.next_line.new.self in
+    let old = builder_parts c.loop-alloc.builder in
     let all = c.loop-alloc.invariant.so_far in
-    let new = parts_of c.build_line.new.builder in
+    let new = builder_parts c.build_line.new.builder in
     let told = c.in_ok-next_line.ensures {u = tt} in
     let next : TakesNext p q (Ok true) = rw c.if-branch.true at told.takes in
     let fell = rw c.if-branch.true at told.falls refl in
@@ -60,25 +60,25 @@ pub returns-in_err-build_line-clause-builds : goal.returns-in_err-build_line-cla
 returns-in_err-build_line-clause-builds g c =
     let e = err_from_is_err_and c.from_residual-in_err-build_line.result c.from_residual-in_err-build_line.ensures.1 in
     let known = g.R.Source.remaining c.args.reader.now in
-    let p = place_of g.R.Source g.W.Sink c.loop-alloc.lines c.loop-alloc.reader c.loop-alloc.output in
-    let q = place_of g.R.Source g.W.Sink c.next_line.new.lines c.next_line.new.reader c.next_line.new.self in
-    let old = parts_of c.loop-alloc.builder in
+    let p = run_state_of g.R.Source g.W.Sink c.loop-alloc.lines c.loop-alloc.reader c.loop-alloc.output in
+    let q = run_state_of g.R.Source g.W.Sink c.next_line.new.lines c.next_line.new.reader c.next_line.new.self in
+    let old = builder_parts c.loop-alloc.builder in
     let all = c.loop-alloc.invariant.so_far in
     let told = c.in_ok-next_line.ensures {u = tt} in
     let next : TakesNext p q (Ok true) = rw c.if-branch.true at told.takes in
-    let new = parts_of c.build_line.new.builder in
+    let new = builder_parts c.build_line.new.builder in
     rw (e.1, e.2) (build_line_fails known p old all q next new new c.in_err-build_line.field-0.0 (c.in_err-build_line.ensures {u = tt}))
 
 pub returns-then-not-branch-clause-builds : goal.returns-then-not-branch-clause-builds
 returns-then-not-branch-clause-builds g c =
     let known = g.R.Source.remaining c.args.reader.now in
-    let p = place_of g.R.Source g.W.Sink c.loop-alloc.lines c.loop-alloc.reader c.loop-alloc.output in
-    let q = place_of g.R.Source g.W.Sink c.next_line.new.lines c.next_line.new.reader c.next_line.new.self in
-    let old = parts_of c.loop-alloc.builder in
+    let p = run_state_of g.R.Source g.W.Sink c.loop-alloc.lines c.loop-alloc.reader c.loop-alloc.output in
+    let q = run_state_of g.R.Source g.W.Sink c.next_line.new.lines c.next_line.new.reader c.next_line.new.self in
+    let old = builder_parts c.loop-alloc.builder in
     let all = c.loop-alloc.invariant.so_far in
     let told = c.in_ok-next_line.ensures {u = tt} in
     let next : TakesNext p q (Ok true) = rw c.if-branch.true at told.takes in
-    let left = subst (λ (taken : Bool). BuildsLine q.lines old (parts_of c.build_line.new.builder) (Ok taken)) c.if-not-branch.true (c.in_ok-build_line.ensures {u = tt}) in
+    let left = subst (λ (taken : Bool). BuildsLine q.lines old (builder_parts c.build_line.new.builder) (Ok taken)) c.if-not-branch.true (c.in_ok-build_line.ensures {u = tt}) in
     subst (λ (parts : Parts). Builds known q parts c.asked_by.result) (sym left.1) (asked_next known p old all q next c.asked_by.result left.0 c.asked_by.ensures)
 
 pub returns-then-not-branch-clause-failure : goal.returns-then-not-branch-clause-failure
@@ -88,8 +88,8 @@ returns-then-not-branch-clause-failure g c =
 
 pub returns-clause-builds : goal.returns-clause-builds
 returns-clause-builds g c =
-    let p = place_of g.R.Source g.W.Sink c.loop-alloc.lines c.loop-alloc.reader c.loop-alloc.output in
-    let q = place_of g.R.Source g.W.Sink c.next_line.new.lines c.next_line.new.reader c.next_line.new.self in
+    let p = run_state_of g.R.Source g.W.Sink c.loop-alloc.lines c.loop-alloc.reader c.loop-alloc.output in
+    let q = run_state_of g.R.Source g.W.Sink c.next_line.new.lines c.next_line.new.reader c.next_line.new.self in
     let all = c.loop-alloc.invariant.so_far in
     let told = c.in_ok-next_line.ensures {u = tt} in
     let next : TakesNext p q (Ok false) = rw c.if-branch.false at told.takes in

@@ -1,7 +1,7 @@
 use Rattle.std.proofs.Common.{◌≡◌, ◌+◌, ◌≤◌, [], length}
 use Rattle.hir_run.specs.Output.{output_of}
-use Rattle.hir_run.specs.Parts.{parts_of}
-use Rattle.hir_run.specs.Places.{place_of}
+use Rattle.hir_run.specs.Parts.{builder_parts}
+use Rattle.hir_run.specs.RunStates.{run_state_of}
 use Rattle.hir_run.proofs.BuildingLemmas.{SoFar}
 use Rattle.hir_run.proofs.building.build.Given as goal
 
@@ -13,7 +13,7 @@ invariant-loop-alloc g l = record {
   untouched : output_of g.W.Sink l.output ≡ output_of g.W.Sink l.fn.output;
   falls : length l.lines.pending + g.R.Source.allowance l.reader + l.lines.count
       ≤ length l.fn.lines.pending + g.R.Source.allowance l.fn.reader + l.fn.lines.count;
-  so_far : SoFar (g.R.Source.remaining l.fn.reader) (place_of g.R.Source g.W.Sink l.lines l.reader l.output) (parts_of l.builder);
+  so_far : SoFar (g.R.Source.remaining l.fn.reader) (run_state_of g.R.Source g.W.Sink l.lines l.reader l.output) (builder_parts l.builder);
 }
 
 abbrev pub decreases-loop-alloc : goal.decreases-loop-alloc

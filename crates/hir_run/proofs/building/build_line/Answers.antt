@@ -8,9 +8,9 @@ returns-in-Ok c =
     let does = rw c.line.ensures at c.in-Ok.ensures.makes in
     made_or_left (line_of c.args.lines.now.line) c.args.builder.now c.make.new.builder c.in-Ok.taken does.0 does.1
 
-pub returns-in-Err-Bad : goal.returns-in-Err-Bad
-returns-in-Err-Bad c =
-    let does = rw (c.in-Err-Bad.field-0-is, c.line.ensures) at c.in-Err-Bad.ensures.makes in
+pub returns-in-Err-Syntax : goal.returns-in-Err-Syntax
+returns-in-Err-Syntax c =
+    let does = rw (c.in-Err-Syntax.field-0-is, c.line.ensures) at c.in-Err-Syntax.ensures.makes in
     (no_line (line_of c.args.lines.now.line) c.args.builder.now does.1 (does.2.0 refl), c.count.ensures)
 
 pub returns-in-Err-Memory : goal.returns-in-Err-Memory

@@ -6,8 +6,8 @@ use Rattle.hir_run.proofs.reporting.write_id.Goals as goal
 pub returns-in_err-write_numbered-clause-text : goal.returns-in_err-write_numbered-clause-text
 returns-in_err-write_numbered-clause-text g c =
     let p = err_from_is_err_and c.from_residual.result c.from_residual.ensures.1 in
-    let front = rw c.from.ensures at c.in_err-write_numbered.ensures.text in
-    rw p.1 (text_failed _ _ (c.args.kind.now ++ decimal c.args.number) (codes ")") front)
+    let prefix = rw c.from.ensures at c.in_err-write_numbered.ensures.text in
+    rw p.1 (text_failed _ _ (c.args.kind.now ++ decimal c.args.number) (codes ")") prefix)
 
 pub returns-clause-text : goal.returns-clause-text
 returns-clause-text g c =

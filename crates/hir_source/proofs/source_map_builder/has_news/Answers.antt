@@ -5,5 +5,5 @@ use Rattle.hir_source.proofs.source_map_builder.has_news.Goals as goal
 
 pub returns-in-None : goal.returns-in-None
 returns-in-None c =
-    let blank : no_expr_sources ≡ c.args.exprs.now = rw c.in-None.is at c.get.ensures in
-    sym no_news ∙ ap has_news blank
+    let empty_value : no_expr_sources ≡ c.args.exprs.now = rw c.in-None.is at c.get.ensures in
+    sym no_news ∙ ap has_news empty_value

@@ -6,6 +6,6 @@ use Rattle.hir_expr_store.proofs.store.ExpressionStore.binding_owner.Goals as go
 
 pub returns-in_err-get : goal.returns-in_err-get
 returns-in_err-get c =
-    let blank : map.empty ≡ c.side_tables.result.now.owners = rw c.in_err-get.was at c.get.ensures in
-    let owners = blank ∙ ap (λ (t : SideTables). t.owners) c.side_tables.ensures in
+    let empty_value : map.empty ≡ c.side_tables.result.now.owners = rw c.in_err-get.was at c.get.ensures in
+    let owners = empty_value ∙ ap (λ (t : SideTables). t.owners) c.side_tables.ensures in
     c.from_residual.ensures ∙ sym (map.get-empty _ (id_key c.args.id)) ∙ ap (λ m. map.get m (id_key c.args.id)) owners

@@ -7,6 +7,6 @@ use Rattle.hir_expr_store.proofs.store.ExpressionStore.expr_or_pat_path_hygiene.
 
 pub returns-in_default : goal.returns-in_default
 returns-in_default c =
-    let blank : map.empty ≡ c.side_tables.result.now.hygiene = rw c.in_default.is at c.get.ensures in
-    let table = blank ∙ ap (λ (t : SideTables). t.hygiene) c.side_tables.ensures in
+    let empty_value : map.empty ≡ c.side_tables.result.now.hygiene = rw c.in_default.is at c.get.ensures in
+    let table = empty_value ∙ ap (λ (t : SideTables). t.hygiene) c.side_tables.ensures in
     ap or_root (sym (map.get-empty _ (expr_or_pat_code c.args.id)) ∙ ap (λ m. map.get m (expr_or_pat_code c.args.id)) table)

@@ -3,19 +3,19 @@ use Rattle.std.specs.Option.{option_map, option_and_then}
 use Rattle.std.specs.List.{join_with_byte}
 use Rattle.std.proofs.lemmas.List.Splits.{join_with_byte-slice_split}
 use Rattle.std.proofs.lemmas.Result.{err_from_is_err_and}
-use Rattle.hir_lines.specs.declared.stop.Stop.{Stop}
-use Rattle.hir_lines.specs.Readings.{ReadsAll, SaysOrStops, alone, parts_of, whole}
+use Rattle.hir_lines.specs.declared.line_error.LineError.{LineError}
+use Rattle.hir_lines.specs.Readings.{ReadsAll, SaysOrStops, alone, split_parts, whole}
 use Rattle.hir_lines.specs.Words.{list, list_of}
-use Rattle.hir_lines.proofs.Separators.{parts_of-join}
+use Rattle.hir_lines.proofs.Separators.{split_parts-join}
 use Rattle.hir_lines.proofs.Spaces.{numbers_lack}
 use Rattle.hir_lines.proofs.Spellings.{list_spells}
 use Rattle.hir_lines.proofs.Splits.{rest_words, words_past}
 use Rattle.hir_lines.proofs.words.Words+32.list.Goals as goal
 
 -- no list has a space: a text that is one is one word
-list_found : (text ns : List ℕ) → list_of text ≡ Some ns → list (parts_of 32 text) ≡ Some (ns, [])
+list_found : (text ns : List ℕ) → list_of text ≡ Some ns → list (split_parts 32 text) ≡ Some (ns, [])
 list_found text ns e =
-    ap list (parts_of-join 32 text [] (numbers_lack ns text (list_spells ns text e), tt))
+    ap list (split_parts-join 32 text [] (numbers_lack ns text (list_spells ns text e), tt))
     ∙ ap (option_map {U = List ℕ × List (List ℕ)} (λ (xs : List ℕ). (xs, []))) e
 
 none_found : (words : List (List ℕ)) (text : List ℕ) → text ≡ join_with_byte 32 words → list_of text ≡ None → whole list words ≡ None
@@ -27,13 +27,13 @@ none_found (word ∷ other ∷ words) text joined none = by_found (list_of word)
   by_found None = refl
   by_found (Some xs) = refl
 
-list_alone : (text : List ℕ) → whole list (parts_of 32 text) ≡ list_of text
+list_alone : (text : List ℕ) → whole list (split_parts 32 text) ≡ list_of text
 list_alone text = by_found (list_of text) refl where
-  by_found : (found : Option (List ℕ)) → list_of text ≡ found → whole list (parts_of 32 text) ≡ found
-  by_found None e = none_found (parts_of 32 text) text (sym (join_with_byte-slice_split 32 text)) e
+  by_found : (found : Option (List ℕ)) → list_of text ≡ found → whole list (split_parts 32 text) ≡ found
+  by_found None e = none_found (split_parts 32 text) text (sym (join_with_byte-slice_split 32 text)) e
   by_found (Some ns) e = ap (λ found. option_and_then (λ (f : List ℕ × List (List ℕ)). alone f.0 f.1) found) (list_found text ns e)
 
-list_says : (words : List (List ℕ)) (text : List ℕ) (result : Result (List ℕ) Stop) → words ≡ parts_of 32 text → SaysOrStops list_of text result → ReadsAll list words result
+list_says : (words : List (List ℕ)) (text : List ℕ) (result : Result (List ℕ) LineError) → words ≡ split_parts 32 text → SaysOrStops list_of text result → ReadsAll list words result
 list_says words text (Ok ns) e says = ap list e ∙ list_found text ns says
 list_says words text (Err why) e says =
     let same : whole list words ≡ list_of text = ap (whole list) e ∙ list_alone text in

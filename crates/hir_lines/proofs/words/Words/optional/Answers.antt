@@ -4,10 +4,10 @@ use Rattle.std.specs.Option.{option_map}
 use Rattle.std.specs.Str.{bytes_eq}
 use Rattle.std.proofs.lemmas.Result.{err_from_is_err_and}
 use Rattle.hir_lines.specs.Numerals.{number_of}
-use Rattle.hir_lines.specs.Readings.{StartsOtherwise, parts_of}
+use Rattle.hir_lines.specs.Readings.{StartsOtherwise, split_parts}
 use Rattle.hir_lines.specs.Words.{number, optional, optional_of}
 use Rattle.hir_lines.proofs.Forms.{same_bytes}
-use Rattle.hir_lines.proofs.Fronts.{Begins, begins_with}
+use Rattle.hir_lines.proofs.Prefixes.{Begins, begins_with}
 use Rattle.hir_lines.proofs.Splits.{rest_further, rest_words, words_past}
 use Rattle.hir_lines.proofs.words.Words.optional.Goals.{then-this-eq45-via-then-this-eq45, then-this-eq45-via-else-this-eq45+then-not-begins_with}
 use Rattle.hir_lines.proofs.words.Words.optional.Goals as goal
@@ -35,12 +35,12 @@ unfolding optional_of
 dash_read words = refl
 
 -- no dash is a word where dashes separate
-no_dash : (separator : ℕ) → separator ≡ 45 → (text : List ℕ) → StartsOtherwise (codes "-") (parts_of separator text)
+no_dash : (separator : ℕ) → separator ≡ 45 → (text : List ℕ) → StartsOtherwise (codes "-") (split_parts separator text)
 no_dash separator is text = λ others e.
-    let parts : parts_of 45 text ≡ codes "-" ∷ others = ap (λ c. parts_of c text) (sym is) ∙ e in
-    let front : Begins text (codes "-") = begins_with 45 text (codes "-") others parts in
-    let empty : parts_of 45 text ≡ [] ∷ parts_of 45 front.0 = ap (parts_of 45) front.1 in
-    let wrong : codes "-" ∷ others ≡ [] ∷ parts_of 45 front.0 = sym parts ∙ empty in
+    let parts : split_parts 45 text ≡ codes "-" ∷ others = ap (λ c. split_parts c text) (sym is) ∙ e in
+    let prefix : Begins text (codes "-") = begins_with 45 text (codes "-") others parts in
+    let empty : split_parts 45 text ≡ [] ∷ split_parts 45 prefix.0 = ap (split_parts 45) prefix.1 in
+    let wrong : codes "-" ∷ others ≡ [] ∷ split_parts 45 prefix.0 = sym parts ∙ empty in
     cc
 
 -- a number is read where no dash comes first
@@ -57,7 +57,7 @@ returns-in_err-text g c =
 pub returns-in_err-number : goal.returns-in_err-number
 returns-in_err-number g c =
     let p = err_from_is_err_and c.from_residual-in_err-number.result c.from_residual-in_err-number.ensures.1 in
-    let other : StartsOtherwise (codes "-") (parts_of g.row.SEPARATOR c.in_ok-text.text.now) = elim c.then-this-eq45.branch [
+    let other : StartsOtherwise (codes "-") (split_parts g.row.SEPARATOR c.in_ok-text.text.now) = elim c.then-this-eq45.branch [
       | then-this-eq45-via-then-this-eq45 w ↦ no_dash g.row.SEPARATOR w.if-this-eq45.true c.in_ok-text.text.now
       | then-this-eq45-via-else-this-eq45+then-not-begins_with w ↦ w.begins_with.ensures.no w.if-not-begins_with.true
     ] in
@@ -65,7 +65,7 @@ returns-in_err-number g c =
 
 pub returns-then-this-eq45 : goal.returns-then-this-eq45
 returns-then-this-eq45 g c =
-    let other : StartsOtherwise (codes "-") (parts_of g.row.SEPARATOR c.in_ok-text.text.now) = elim c.then-this-eq45.branch [
+    let other : StartsOtherwise (codes "-") (split_parts g.row.SEPARATOR c.in_ok-text.text.now) = elim c.then-this-eq45.branch [
       | then-this-eq45-via-then-this-eq45 w ↦ no_dash g.row.SEPARATOR w.if-this-eq45.true c.in_ok-text.text.now
       | then-this-eq45-via-else-this-eq45+then-not-begins_with w ↦ w.begins_with.ensures.no w.if-not-begins_with.true
     ] in

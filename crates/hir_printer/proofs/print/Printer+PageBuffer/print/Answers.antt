@@ -4,7 +4,7 @@ use Rattle.hir_printer.proofs.print.Printer+PageBuffer.print.Goals as goal
 pub returns-in_err-page : goal.returns-in_err-page
 returns-in_err-page c =
     let p = err_from_is_err_and c.from_residual.result c.from_residual.ensures.1 in
-    λ items a. rw (p.1, p.2) (prints_fault _ (c.in_err-page.ensures _ items a))
+    λ docs a. rw (p.1, p.2) (prints_fault _ (c.in_err-page.ensures _ docs a))
 
 pub returns : goal.returns
-returns c = λ items a. prints_text c.into_text.result (c.in_ok-page.ensures _ items a) c.into_text.ensures
+returns c = λ docs a. prints_text c.into_text.result (c.in_ok-page.ensures _ docs a) c.into_text.ensures

@@ -1,15 +1,15 @@
-use Rattle.hir_printer.proofs.Common.{refl, ap, ◌∙◌, items_of_works, adds_none, adds_then, adds_as, stood_is, meant_more}
+use Rattle.hir_printer.proofs.Common.{refl, ap, ◌∙◌, docs_of_tokens, adds_none, adds_then, adds_as, stood_is, meant_more}
 use Rattle.std.proofs.lemmas.List.{take_all}
 use Rattle.hir_printer.proofs.printer.Printer.add.Goals as goal
 
-pub loop-work-init : goal.loop-work-init
-loop-work-init g c = adds_none (λ s. refl)
+pub loop-token-init : goal.loop-token-init
+loop-token-init g c = adds_none (λ s. refl)
 
-pub loop-work-preserved : goal.loop-work-preserved
-loop-work-preserved g c =
-    adds_as (adds_then c.loop-work.invariant c.in_ok-add_work.ensures) (λ s. meant_more s c.args.works.now c.loop-work.work-index c.work-item.result c.loop-work-test.true c.work-item.is)
+pub loop-token-preserved : goal.loop-token-preserved
+loop-token-preserved g c =
+    adds_as (adds_then c.loop-token.invariant c.in_ok-add_token.ensures) (λ s. meant_more s c.args.tokens.now c.loop-token.token-index c.token-item.result c.loop-token-test.true c.token-item.is)
 
 pub returns : goal.returns
 returns g c = record {
-  adds = adds_as c.loop-work.invariant (λ s. ap (items_of_works s) (take_all c.loop-work.work-index c.args.works.now c.loop-work-test.false) ∙ stood_is s c.args.works.now);
+  adds = adds_as c.loop-token.invariant (λ s. ap (docs_of_tokens s) (take_all c.loop-token.token-index c.args.tokens.now c.loop-token-test.false) ∙ stood_is s c.args.tokens.now);
 }

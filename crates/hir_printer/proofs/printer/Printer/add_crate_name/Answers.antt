@@ -1,4 +1,4 @@
-use Rattle.hir_printer.proofs.Common.{◌∷◌, [], codes, refl, sym, ap, ◌∙◌, on_ok_weaker, Lacks, found_or, found_name, adds, adds_here}
+use Rattle.hir_printer.proofs.Common.{◌∷◌, [], codes, refl, sym, ap, ◌∙◌, on_ok_weaker, MissingDoc, found_or, found_name, adds, adds_here}
 use Rattle.hir_expr_store.specs.declared.missing.Missing.TheVariants as missing
 use Rattle.hir_printer.proofs.printer.Printer.add_crate_name.Goals as goal
 
@@ -8,5 +8,5 @@ returns-in-Ok g c = on_ok_weaker c.add_found.result
 
 pub returns-in-Err : goal.returns-in-Err
 returns-in-Err g c = on_ok_weaker c.add.result
-    (λ a. adds_here (adds {is = λ s. Lacks c.in-Err.missing ∷ []} a (λ s. refl))
-    (ap (λ m. Lacks m ∷ []) c.in-Err.ensures.absent.0 ∙ sym (ap (λ found. found_name (codes "$crate") (found_or (missing.Crate c.args.id) found)) c.in-Err.ensures.absent.1))) c.add.ensures
+    (λ a. adds_here (adds {is = λ s. MissingDoc c.in-Err.missing ∷ []} a (λ s. refl))
+    (ap (λ m. MissingDoc m ∷ []) c.in-Err.ensures.absent.0 ∙ sym (ap (λ found. found_name (codes "$crate") (found_or (missing.Crate c.args.id) found)) c.in-Err.ensures.absent.1))) c.add.ensures

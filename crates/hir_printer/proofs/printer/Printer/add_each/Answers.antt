@@ -7,8 +7,8 @@ loop-member-init g c = left_begins_at c.in_ok-reserve.ensures (λ s. refl)
 pub loop-member-preserved : goal.loop-member-preserved
 loop-member-preserved g c =
     left_goes_on c.loop-member.invariant (adds_more c.in_ok-add_to.ensures c.in_ok-add.ensures)
-    (λ s. each_step (λ x. stood_after s (g.T.Part.items s x) c.args.behind.now) c.args.members.now c.loop-member.member-index c.member-item.result c.loop-member-test.true c.member-item.is)
+    (λ s. each_step (λ x. stood_after s (g.T.Part.docs s x) c.args.trailer.now) c.args.members.now c.loop-member.member-index c.member-item.result c.loop-member-test.true c.member-item.is)
 
 pub returns : goal.returns
 returns g c = left_ends c.loop-member.invariant
-    (λ s. each_ends (λ x. stood_after s (g.T.Part.items s x) c.args.behind.now) c.args.members.now c.loop-member.member-index c.loop-member-test.false)
+    (λ s. each_ends (λ x. stood_after s (g.T.Part.docs s x) c.args.trailer.now) c.args.members.now c.loop-member.member-index c.loop-member-test.false)

@@ -3,5 +3,5 @@ use Rattle.hir_printer.proofs.printer.Printer.add_each.Given as goal
 
 abbrev pub invariant-loop-member : goal.invariant-loop-member
 invariant-loop-member g l =
-    AddsRest (printing_of g.W.PieceWriter.step l.fn.self) (λ s. flat_map (λ x. stood_after s (g.T.Part.items s x) l.behind) l.members) (printing_of g.W.PieceWriter.step l.self)
-    (λ s. flat_map (λ x. stood_after s (g.T.Part.items s x) l.behind) (drop l.member-index l.members))
+    AddsRest (printing_of g.W.PieceWriter.step l.fn.self) (λ s. flat_map (λ x. stood_after s (g.T.Part.docs s x) l.trailer) l.members) (printing_of g.W.PieceWriter.step l.self)
+    (λ s. flat_map (λ x. stood_after s (g.T.Part.docs s x) l.trailer) (drop l.member-index l.members))

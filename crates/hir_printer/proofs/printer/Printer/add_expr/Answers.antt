@@ -1,4 +1,4 @@
-use Rattle.hir_printer.proofs.Common.{◌≡◌, ◌++◌, refl, ap, ap₂, ◌∙◌, on_ok_weaker, text, sp, under, label_before, unsafe_items, inside_block, adds, adds_then, adds_more, adds_as, braces_behind}
+use Rattle.hir_printer.proofs.Common.{◌≡◌, ◌++◌, refl, ap, ap₂, ◌∙◌, on_ok_weaker, text, sp, under, label_before, unsafe_docs, inside_block, adds, adds_then, adds_more, adds_as, braces_after}
 use Rattle.hir_node.specs.Precedence.{precedence, of_operator}
 use Rattle.hir_printer.proofs.printer.Printer.add_expr.Goals as goal
 
@@ -59,7 +59,7 @@ returns-in_ok-add_numbered-in-Const g c = rw c.in-Const.is (on_ok_weaker c.add-i
 pub returns-in_ok-add_unsafe-in-Block : goal.returns-in_ok-add_unsafe-in-Block
 returns-in_ok-add_unsafe-in-Block g c = rw c.in-Block.is (on_ok_weaker c.add_braces.result
     (λ a. adds_as (adds_then (adds_then (adds_then (adds c.in_ok-add-in-Block.ensures (λ s. refl)) c.in_ok-add_before-in-Block.ensures) c.in_ok-add_unsafe-in-Block.ensures) a)
-    (λ s. braces_behind (sp ++ label_before s c.in-Block.label ++ unsafe_items c.in-Block.unsafe_) (inside_block c.in-Block.statements c.in-Block.tail)))
+    (λ s. braces_after (sp ++ label_before s c.in-Block.label ++ unsafe_docs c.in-Block.unsafe_) (inside_block c.in-Block.statements c.in-Block.tail)))
     (rw c.as_slice-in-Block.ensures at c.add_braces.ensures))
 
 pub returns-in-Closure : goal.returns-in-Closure

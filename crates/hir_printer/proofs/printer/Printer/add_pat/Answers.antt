@@ -1,4 +1,4 @@
-use Rattle.hir_printer.proofs.Common.{refl, sym, append-nil, on_ok_weaker, adds, adds_then, adds_more, adds_as, binding_items, bound_to}
+use Rattle.hir_printer.proofs.Common.{refl, sym, append-nil, on_ok_weaker, adds, adds_then, adds_more, adds_as, binding_docs, bound_to}
 use Rattle.hir_printer.proofs.printer.Printer.add_pat.Goals as goal
 
 pub returns-in_ok-add_joined-in-Or : goal.returns-in_ok-add_joined-in-Or
@@ -12,11 +12,11 @@ returns-in_ok-add-in-Range g c = rw c.in-Range.is (on_ok_weaker c.add_in_pat-in-
     c.add_in_pat-in-Range.ensures)
 
 pub returns-in-None : goal.returns-in-None
-returns-in-None g c = rw (c.in-Bind.is, c.in-None.is) (adds_as c.in_ok-add_binding-in-Bind.ensures (λ s. sym (append-nil (binding_items s c.in-Bind.id))))
+returns-in-None g c = rw (c.in-Bind.is, c.in-None.is) (adds_as c.in_ok-add_binding-in-Bind.ensures (λ s. sym (append-nil (binding_docs s c.in-Bind.id))))
 
 pub returns-in-Some : goal.returns-in-Some
 returns-in-Some g c = rw (c.in-Bind.is, c.in-Some.is) (on_ok_weaker c.add-in-Some.result
-    (λ a. adds_as (adds_more c.in_ok-add_binding-in-Bind.ensures a) (λ s. bound_to (binding_items s c.in-Bind.id) c.in-Some.subpat)) c.add-in-Some.ensures)
+    (λ a. adds_as (adds_more c.in_ok-add_binding-in-Bind.ensures a) (λ s. bound_to (binding_docs s c.in-Bind.id) c.in-Some.subpat)) c.add-in-Some.ensures)
 
 pub returns-in_ok-add_path-in-TupleStruct : goal.returns-in_ok-add_path-in-TupleStruct
 returns-in_ok-add_path-in-TupleStruct g c = rw c.in-TupleStruct.is (on_ok_weaker c.add_in_parentheses-in-TupleStruct.result

@@ -5,5 +5,5 @@ use Rattle.hir_source.proofs.source_map.ExpressionStoreSourceMap.exprs.Goals as 
 
 pub returns-in-Some-clause-none : goal.returns-in-Some-clause-none
 returns-in-Some-clause-none c = λ none.
-    let blank : no_expr_sources ≡ c.in-Some.exprs = rw none at c.get.ensures in
-    nothing_there c.args.self.now (rw c.in-Some.is (sym blank))
+    let empty_value : no_expr_sources ≡ c.in-Some.exprs = rw none at c.get.ensures in
+    nothing_there c.args.self.now (rw c.in-Some.is (sym empty_value))

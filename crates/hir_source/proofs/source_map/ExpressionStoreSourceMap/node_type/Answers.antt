@@ -5,5 +5,5 @@ use Rattle.hir_source.proofs.source_map.ExpressionStoreSourceMap.node_type.Goals
 
 pub returns-in_err-get : goal.returns-in_err-get
 returns-in_err-get c =
-    let blank : no_type_sources ≡ c.args.self.now.types = rw c.in_err-get.was at c.get.ensures in
-    c.from_residual.ensures ∙ sym (map.get-empty _ (source_key c.args.node)) ∙ ap (λ t. map.get t.type_map (source_key c.args.node)) blank
+    let empty_value : no_type_sources ≡ c.args.self.now.types = rw c.in_err-get.was at c.get.ensures in
+    c.from_residual.ensures ∙ sym (map.get-empty _ (source_key c.args.node)) ∙ ap (λ t. map.get t.type_map (source_key c.args.node)) empty_value
