@@ -1,4 +1,4 @@
-//! Each row of `crates/hir_rows/data`, asked over the C call.
+//! Each row of `crates/hir_golden/data`, asked over the C call.
 
 mod common;
 

@@ -1,7 +1,7 @@
 //! A tour: a body is built by calls, finished, printed, walked and searched, and the name `x` is resolved at each expression.
 ghost use Rattle.std.specs.Prelude.{◌≡◌, ◌<◌, length, option_map};
 ghost use Rattle.std.specs.FinMap as map;
-ghost use Rattle.hir_expr_store.specs.RootSearch.{root_for_expr};
+ghost use Rattle.hir_store_core.specs.RootSearch.{root_for_expr};
 ghost use Rattle.hir_scope.specs.Paths.{chain};
 ghost use Rattle.hir_scope.specs.Resolution.{resolve};
 

@@ -53,39 +53,39 @@ pub use Rattle.hir_node.specs.declared.pat.RecordFieldPat
 pub use Rattle.hir_node.specs.declared.type_ref.Rawness
 pub use Rattle.hir_node.specs.declared.type_ref.TypeRef
 -- source maps
-pub use Rattle.hir_source.specs.Additions
-pub use Rattle.hir_source.specs.ComparedPart
-pub use Rattle.hir_source.specs.Lookups
-pub use Rattle.hir_source.specs.Sources
-pub use Rattle.hir_source.specs.declared.source_map.ExpressionStoreSourceMap
-pub use Rattle.hir_source.specs.declared.source_map_builder.SourceMapBuilder
+pub use Rattle.hir_source_map.specs.Additions
+pub use Rattle.hir_source_map.specs.ComparedPart
+pub use Rattle.hir_source_map.specs.Lookups
+pub use Rattle.hir_source_map.specs.Sources
+pub use Rattle.hir_source_map.specs.declared.source_map.ExpressionStoreSourceMap
+pub use Rattle.hir_source_map.specs.declared.source_map_builder.SourceMapBuilder
 -- forests
 pub use Rattle.hir_forest.specs.Faults
 pub use Rattle.hir_forest.specs.Forest
 pub use Rattle.hir_forest.specs.declared.roots.Root
 -- faults of nodes
-pub use Rattle.hir_faults.specs.Recursion
-pub use Rattle.hir_faults.specs.Faults as NodeFaults
-pub use Rattle.hir_faults.specs.Fits
-pub use Rattle.hir_faults.specs.TypeParts
-pub use Rattle.hir_faults.specs.Nodes
-pub use Rattle.hir_faults.specs.Sizes
-pub use Rattle.hir_faults.specs.Sound
-pub use Rattle.hir_faults.specs.TestedParts
-pub use Rattle.hir_faults.specs.declared.fault.FinishFault
+pub use Rattle.hir_validate.specs.Recursion
+pub use Rattle.hir_validate.specs.Faults as NodeFaults
+pub use Rattle.hir_validate.specs.Fits
+pub use Rattle.hir_validate.specs.TypeParts
+pub use Rattle.hir_validate.specs.Nodes
+pub use Rattle.hir_validate.specs.Sizes
+pub use Rattle.hir_validate.specs.Sound
+pub use Rattle.hir_validate.specs.TestedParts
+pub use Rattle.hir_validate.specs.declared.fault.FinishFault
 -- the store
-pub use Rattle.hir_expr_store.specs.Blocks
-pub use Rattle.hir_expr_store.specs.Bounds
-pub use Rattle.hir_expr_store.specs.Contents
-pub use Rattle.hir_expr_store.specs.NodeSets
-pub use Rattle.hir_expr_store.specs.PatLinks
-pub use Rattle.hir_expr_store.specs.PatLists
-pub use Rattle.hir_expr_store.specs.RootSearch
-pub use Rattle.hir_expr_store.specs.SideTables
-pub use Rattle.hir_expr_store.specs.StoreParts
-pub use Rattle.hir_expr_store.specs.Tries
-pub use Rattle.hir_expr_store.specs.Under
-pub use Rattle.hir_expr_store.specs.declared.missing.Missing
+pub use Rattle.hir_store_core.specs.Blocks
+pub use Rattle.hir_store_core.specs.Bounds
+pub use Rattle.hir_store_core.specs.Contents
+pub use Rattle.hir_store_core.specs.NodeSets
+pub use Rattle.hir_store_core.specs.PatLinks
+pub use Rattle.hir_store_core.specs.PatLists
+pub use Rattle.hir_store_core.specs.RootSearch
+pub use Rattle.hir_store_core.specs.SideTables
+pub use Rattle.hir_store_core.specs.StoreParts
+pub use Rattle.hir_store_core.specs.Tries
+pub use Rattle.hir_store_core.specs.Under
+pub use Rattle.hir_store_core.specs.declared.missing.Missing
 -- the builder
 pub use Rattle.hir_store.specs.Building
 -- generic parameters
@@ -127,7 +127,7 @@ pub use Rattle.hir_scope.specs.declared.macros.Expansion
 pub use Rattle.hir_captures.specs.Captures
 pub use Rattle.hir_captures.specs.Uses
 -- what nodes are printed as
-pub use Rattle.hir_printer.specs.Prelude
+pub use Rattle.hir_pretty_nodes.specs.Prelude
 -- what bodies and signatures are printed as
 pub use Rattle.hir_pretty.specs.Bodies as PrintedBodies
 pub use Rattle.hir_pretty.specs.FoundParts

@@ -4,8 +4,8 @@ use Rattle.std.proofs.Math.Seq.{take-append-add}
 use Rattle.std.proofs.lemmas.{List.take-append-drop, List.take-append-le, List.Concat.flat_map-append}
 use Rattle.std.specs.{List.slice_get, List.flat_map, List.AllByRecursion, Option.option_or}
 use Rattle.hir_base.specs.declared.hygiene.SyntaxContext.{SyntaxContext}
-use Rattle.hir_faults.specs.TestedParts.{all_of}
-use Rattle.hir_faults.proofs.SoundLemmas.{item_at}
+use Rattle.hir_validate.specs.TestedParts.{all_of}
+use Rattle.hir_validate.proofs.SoundLemmas.{item_at}
 use Rattle.hir_scope.specs.{Frames.Frame, Frames.Chain, Paths.path, Paths.frame_at, Paths.chain}
 use Rattle.hir_scope.specs.Resolution.{resolve, IsFound}
 use Rattle.hir_scope.specs.Scopes.{Scope, ParentsStandEarlier, frame_of}

@@ -3,7 +3,7 @@ use Rattle.std.specs.{List.list_any, Option.option_map}
 use Rattle.std.specs.Prelude.{◌≡◌, ℕ, ◌-◌, ⊤, List, [], ◌∷◌, ◌++◌, Option, Some, None, if◌then◌else◌, fold, take, length, filter_map, slice_get, ◌==◌}
 use Rattle.hir_base.specs.declared.hygiene.SyntaxContext.{SyntaxContext}
 use Rattle.hir_node.specs.declared.{expr.Expr.Expr, node_id.NodeId.NodeId}
-use Rattle.hir_expr_store.specs.Contents.{Contents}
+use Rattle.hir_store_core.specs.Contents.{Contents}
 use Rattle.hir_items.specs.Bodies.{BodyContents, BodyReaches}
 use Rattle.hir_scope.specs.{BodyScopes.entry_nodes_of_body, Chains.HasChain, Frames.Chain, Resolution.resolve}
 use Rattle.hir_scope.specs.declared.scope.ScopeEntry.{ScopeEntry}

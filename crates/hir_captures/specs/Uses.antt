@@ -4,8 +4,8 @@ use Rattle.std.specs.Prelude.{ℕ, List, [], ◌∷◌, Option, Some, None, slic
 use Rattle.hir_base.specs.declared.hygiene.SyntaxContext.{SyntaxContext}
 use Rattle.hir_path.specs.declared.ids.ExprOrPatId.TheVariants.{ExprId, PatId}
 use Rattle.hir_node.specs.declared.{expr.Expr.Expr, node_id.NodeId.NodeId, pat.Pat.Pat}
-use Rattle.hir_faults.specs.{Recursion.fold_down, Nodes.Nodes}
-use Rattle.hir_expr_store.specs.{Contents.Contents, SideTables.hygiene_of}
+use Rattle.hir_validate.specs.{Recursion.fold_down, Nodes.Nodes}
+use Rattle.hir_store_core.specs.{Contents.Contents, SideTables.hygiene_of}
 use Rattle.hir_scope.specs.{PathResolution.local_name, ChildContexts.Base, ChildContexts.Scope, ChildContexts.ConstScope, ChildContexts.ChildContext, ChildContexts.child_contexts}
 
 -- 1. The code of a closure

@@ -11,7 +11,7 @@ use crate::binding_list::BindingList;
 use crate::code::Code;
 use crate::fault::CapturesFault;
 use crate::tasks::{Task, Tasks};
-use hir_expr_store::ExpressionStore;
+use hir_store_core::ExpressionStore;
 use hir_items::Body;
 use hir_node::{BindingId, Expr, ExprId};
 use hir_scope::{ExprScopes, ScopeId};

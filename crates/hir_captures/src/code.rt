@@ -13,8 +13,8 @@ use crate::binding_list::BindingList;
 use crate::fault::CapturesFault;
 use crate::tasks::{Task, Tasks};
 use hir_base::HygieneId;
-use hir_expr_store::ExpressionStore;
-use hir_expr_store::laws::rank_decreases;
+use hir_store_core::ExpressionStore;
+use hir_store_core::laws::rank_decreases;
 use hir_node::{Expr, ExprId, Pat, PatId, Path};
 use hir_scope::{ExprScopes, local_name};
 

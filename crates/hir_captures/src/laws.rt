@@ -2,13 +2,13 @@
 ghost use Rattle.std.specs.Prelude.{◌≡◌, ℕ, List, None, Option};
 ghost use Rattle.std.specs.List.{All};
 ghost use Rattle.hir_node.specs.declared.node_id.NodeId.{NodeId};
-ghost use Rattle.hir_expr_store.specs.Contents.{Contents, contents_fault};
+ghost use Rattle.hir_store_core.specs.Contents.{Contents, contents_fault};
 ghost use Rattle.hir_items.specs.Bodies.{BodyContents, body_fault};
 ghost use Rattle.hir_scope.specs.Frames.{Chain};
 ghost use Rattle.hir_captures.specs.Captures.{AreCaptures, AreChains, IsOn, IsReachedClosure};
 ghost use Rattle.hir_captures.specs.Uses.{code_step, code_under, uses_in};
 
-use hir_expr_store::laws::{rank_decreases, children_of_reached_are_reached};
+use hir_store_core::laws::{rank_decreases, children_of_reached_are_reached};
 use hir_scope::laws::a_reached_node_has_one_chain;
 
 /// The code under a node is the node, and then the code under its children, in the order in which scopes are made.

@@ -12,10 +12,10 @@ use Rattle.hir_base.specs.declared.defs.GenericDefId.TheVariants as generic
 use Rattle.hir_base.specs.declared.defs.DefWithBodyId.{DefWithBodyId}
 use Rattle.hir_base.specs.declared.defs.ExpressionStoreOwnerId.{ExpressionStoreOwnerId}
 use Rattle.hir_base.specs.declared.defs.ExpressionStoreOwnerId.TheVariants as owner
-use Rattle.hir_source.specs.declared.source_map.ExpressionStoreSourceMap.{ExpressionStoreSourceMap}
-use Rattle.hir_expr_store.specs.Contents.{Contents}
-use Rattle.hir_expr_store.specs.declared.missing.Missing.{Missing}
-use Rattle.hir_expr_store.specs.declared.missing.Missing.TheVariants as missing
+use Rattle.hir_source_map.specs.declared.source_map.ExpressionStoreSourceMap.{ExpressionStoreSourceMap}
+use Rattle.hir_store_core.specs.Contents.{Contents}
+use Rattle.hir_store_core.specs.declared.missing.Missing.{Missing}
+use Rattle.hir_store_core.specs.declared.missing.Missing.TheVariants as missing
 use Rattle.hir_items.specs.Bodies.{BodyContents}
 use Rattle.hir_items.specs.Generics.{empty}
 use Rattle.hir_items.specs.Lookups.{SignatureAndSources, BodyAndSources}

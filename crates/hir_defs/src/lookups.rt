@@ -8,8 +8,8 @@ ghost use Rattle.std.specs.FinMap as map;
 ghost use Rattle.hir_base.specs.declared.defs.AdtId.TheVariants as adt;
 ghost use Rattle.hir_base.specs.declared.defs.GenericDefId.TheVariants as generic;
 ghost use Rattle.hir_base.specs.declared.defs.ExpressionStoreOwnerId.{ExpressionStoreOwnerId};
-ghost use Rattle.hir_expr_store.specs.declared.missing.Missing.TheVariants as missing;
-ghost use Rattle.hir_source.specs.declared.source_map.ExpressionStoreSourceMap.{ExpressionStoreSourceMap};
+ghost use Rattle.hir_store_core.specs.declared.missing.Missing.TheVariants as missing;
+ghost use Rattle.hir_source_map.specs.declared.source_map.ExpressionStoreSourceMap.{ExpressionStoreSourceMap};
 ghost use Rattle.hir_defs.specs.Tables.{plain_code, generic_def};
 ghost use Rattle.hir_defs.specs.Lookups.{Tables, function_entry, struct_entry, plain_entry, value_entry, of_adt, owner_entry, missing_owner};
 
@@ -19,12 +19,12 @@ use crate::tables::{Tables, entry};
 use hir_base::{
     AdtId, DefWithBodyId, ExpressionStoreOwnerId, FunctionId, GenericDefId, StructId, Table,
 };
-use hir_expr_store::{ExpressionStore, Missing};
+use hir_store_core::{ExpressionStore, Missing};
 use hir_items::{
     Bodies, BodyEntry, FunctionSignature, PlainSignature, SignatureEntry, Signatures,
     StructSignature,
 };
-use hir_source::ExpressionStoreSourceMap;
+use hir_source_map::ExpressionStoreSourceMap;
 
 fn of_function<'a>(
     functions: &'a Table<FunctionId, (FunctionSignature, ExpressionStoreSourceMap)>,

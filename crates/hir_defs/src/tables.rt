@@ -7,7 +7,7 @@ ghost use Rattle.hir_base.specs.Keys.{named_code, fields_code, body_code};
 ghost use Rattle.hir_base.specs.RawWords.{words_of, with_words};
 ghost use Rattle.hir_base.specs.declared.defs.GenericDefId.TheVariants as generic;
 ghost use Rattle.hir_base.specs.declared.defs.AdtId.TheVariants as adt;
-ghost use Rattle.hir_expr_store.specs.declared.missing.Missing.TheVariants as missing;
+ghost use Rattle.hir_store_core.specs.declared.missing.Missing.TheVariants as missing;
 ghost use Rattle.hir_defs.specs.Tables.{plain_code, generic_def};
 ghost use Rattle.hir_defs.specs.NoTables.{no_tables};
 
@@ -17,11 +17,11 @@ use hir_base::{
     AdtId, CrateId, DefWithBodyId, Edition, EnumId, EnumVariantId, FunctionId, GenericDefId,
     HasCode, NamedDef, RawWords, Seq, StructId, Table, Text, VariantId,
 };
-use hir_expr_store::Missing;
+use hir_store_core::Missing;
 use hir_items::{
     Body, BodySourceMap, FunctionSignature, PlainSignature, StructSignature, VariantFields,
 };
-use hir_source::ExpressionStoreSourceMap;
+use hir_source_map::ExpressionStoreSourceMap;
 use std::alloc::{AllocFailed, Global};
 
 /// What is known of the definitions outside. A later entry replaces an earlier one.

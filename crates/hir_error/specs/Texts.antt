@@ -2,13 +2,13 @@
 use Rattle.std.specs.Prelude.{List, ℕ, Option, Some, ◌++◌, codes}
 use Rattle.hir_base.specs.IdTexts.{id_text, generic_text, body_text, fields_text, named_text, type_or_const_param_text, lifetime_param_text}
 use Rattle.hir_base.specs.contracts.arena.ArenaFaultDisplay.TheImpl as arena
-use Rattle.hir_expr_store.specs.declared.missing.Missing.{Missing}
-use Rattle.hir_expr_store.specs.declared.missing.Missing.TheVariants.{Name, Variant, Crate, Signature, Body, Fields, TypeParam, LifetimeParam, DefMap}
-use Rattle.hir_faults.specs.contracts.fault.FinishFaultDisplay.TheImpl as finish
+use Rattle.hir_store_core.specs.declared.missing.Missing.{Missing}
+use Rattle.hir_store_core.specs.declared.missing.Missing.TheVariants.{Name, Variant, Crate, Signature, Body, Fields, TypeParam, LifetimeParam, DefMap}
+use Rattle.hir_validate.specs.contracts.fault.FinishFaultDisplay.TheImpl as finish
 use Rattle.hir_items.specs.FaultTexts.{body_fault_text, signature_fault_text}
 use Rattle.hir_scope.specs.contracts.fault.ScopesFaultDisplay.TheImpl as scopes
-use Rattle.hir_printer.specs.contracts.fault.PrintFaultDisplay.TheImpl as print
-use Rattle.hir_printer.specs.declared.fault.PrintFault.TheVariants as prints
+use Rattle.hir_pretty_nodes.specs.contracts.fault.PrintFaultDisplay.TheImpl as print
+use Rattle.hir_pretty_nodes.specs.declared.fault.PrintFault.TheVariants as prints
 use Rattle.hir_captures.specs.contracts.fault.CapturesFaultDisplay.TheImpl as captures
 use Rattle.hir_error.specs.declared.error.HirError.{HirError}
 use Rattle.hir_error.specs.declared.error.HirError.TheVariants as error

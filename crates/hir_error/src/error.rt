@@ -6,15 +6,15 @@ ghost use Rattle.hir_error.specs.OutOfMemory.{IsOutOfMemory};
 use crate::missing_text::MissingText;
 use hir_base::{ArenaFault, ExactEq};
 use hir_captures::CapturesFault;
-use hir_expr_store::Missing;
+use hir_store_core::Missing;
 use hir_items::{BodyFault, SignatureFault};
 use hir_pretty::PrintFault;
 use hir_scope::ScopesFault;
 use hir_store::FinishFault;
 use std::fmt::{self, Display};
 
-/// The refusal of a call of the crates of the store, of definitions, scopes, captures and printing (not of `hir_io`, `hir_lines` and
-/// `hir_run`). Its text is that of the refusal; of a definition that is missing it says what is missing, as
+/// The refusal of a call of the crates of the store, of definitions, scopes, captures and printing (not of `hir_show_io`, `hir_show_grammar` and
+/// `hir_show_run`). Its text is that of the refusal; of a definition that is missing it says what is missing, as
 /// `no signature of FunctionId(7)`.
 ///
 /// A refusal that hands something back (a builder, the parts of a body, an item) drops it when it turns into this error.

@@ -7,7 +7,7 @@ ghost use Rattle.hir_error.specs.declared.error.HirError.TheVariants as error;
 use crate::HirError;
 use hir_base::ArenaFault;
 use hir_captures::CapturesFault;
-use hir_expr_store::Missing;
+use hir_store_core::Missing;
 use hir_items::{BodyFault, RefusedBody, RefusedSignature, SignatureFault};
 use hir_pretty::PrintFault;
 use hir_scope::ScopesFault;

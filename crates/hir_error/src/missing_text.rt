@@ -1,6 +1,6 @@
 //! What the text of an error says of a definition that is missing.
 
-use hir_expr_store::Missing;
+use hir_store_core::Missing;
 use std::fmt::{self, Display};
 
 /// What is missing, in words: what of the definition, and which definition.

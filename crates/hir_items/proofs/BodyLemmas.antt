@@ -7,8 +7,8 @@ use Rattle.hir_forest.proofs.VerdictLemmas.{IsOne, unless-one, before-one, first
 use Rattle.hir_node.specs.declared.node_id.NodeId.{NodeId}
 use Rattle.hir_node.specs.declared.node_id.NodeId.TheVariants as node
 use Rattle.hir_path.specs.Lists.{last_of}
-use Rattle.hir_faults.specs.Sizes.{HasNode}
-use Rattle.hir_expr_store.specs.NodeSets.{MarkedNodes, IsIn, Gains}
+use Rattle.hir_validate.specs.Sizes.{HasNode}
+use Rattle.hir_store_core.specs.NodeSets.{MarkedNodes, IsIn, Gains}
 use Rattle.hir_items.specs.declared.formals.Param.{Param}
 use Rattle.hir_items.specs.declared.body_fault.BodyFault.{BodyFault}
 use Rattle.hir_items.specs.declared.body_fault.BodyFault.TheVariants.{NoRoot, SelfOutOfRange, ParamOutOfRange, ParamRepeated, ParamUnder, RootInParam}

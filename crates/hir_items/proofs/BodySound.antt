@@ -9,13 +9,13 @@ use Rattle.hir_forest.specs.Faults.{root_nodes}
 use Rattle.hir_forest.proofs.VerdictLemmas.{unless-same, first_below-same}
 use Rattle.hir_node.specs.declared.node_id.NodeId.{NodeId}
 use Rattle.hir_node.specs.declared.node_id.NodeId.TheVariants as node
-use Rattle.hir_faults.specs.Sizes.{HasNode}
-use Rattle.hir_faults.specs.Nodes.{Nodes, Has, sizes_of, children_of}
-use Rattle.hir_faults.specs.Recursion.{RankDecreases}
-use Rattle.hir_expr_store.specs.Contents.{Contents, rooted_of, contents_fault}
-use Rattle.hir_expr_store.specs.Under.{Under, itself, below, LiesUnderOther, AreDisjoint}
-use Rattle.hir_expr_store.specs.NodeSets.{MarkedNodes, IsIn, Gains, NoChildIn}
-use Rattle.hir_faults.specs.Sound.{RootsStandApart}
+use Rattle.hir_validate.specs.Sizes.{HasNode}
+use Rattle.hir_validate.specs.Nodes.{Nodes, Has, sizes_of, children_of}
+use Rattle.hir_validate.specs.Recursion.{RankDecreases}
+use Rattle.hir_store_core.specs.Contents.{Contents, rooted_of, contents_fault}
+use Rattle.hir_store_core.specs.Under.{Under, itself, below, LiesUnderOther, AreDisjoint}
+use Rattle.hir_store_core.specs.NodeSets.{MarkedNodes, IsIn, Gains, NoChildIn}
+use Rattle.hir_validate.specs.Sound.{RootsStandApart}
 use Rattle.hir_items.specs.declared.formals.Param.{Param}
 use Rattle.hir_items.specs.declared.body_fault.BodyFault.{BodyFault}
 use Rattle.hir_items.specs.declared.body_fault.BodyFault.TheVariants.{NoRoot, SelfOutOfRange, ParamOutOfRange, ParamRepeated, ParamUnder, RootInParam}

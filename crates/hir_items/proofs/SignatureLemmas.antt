@@ -10,8 +10,8 @@ use Rattle.hir_generics.specs.declared.param.TypeOrConstParamData.{TypeOrConstPa
 use Rattle.hir_generics.specs.declared.param.TypeOrConstParamData.TheVariants as either
 use Rattle.hir_generics.specs.declared.predicate.WherePredicate.{WherePredicate}
 use Rattle.hir_generics.specs.declared.predicate.WherePredicate.TheVariants as predicate
-use Rattle.hir_faults.specs.TestedParts.{is_path_at}
-use Rattle.hir_faults.specs.Nodes.{Nodes}
+use Rattle.hir_validate.specs.TestedParts.{is_path_at}
+use Rattle.hir_validate.specs.Nodes.{Nodes}
 use Rattle.hir_items.specs.Generics.{Generics}
 use Rattle.hir_items.specs.declared.signature_fault.SignatureFault.TheVariants.{IdOutOfRange, NotAPath}
 use Rattle.hir_items.specs.declared.signatures.FieldData.{FieldData}

@@ -6,11 +6,11 @@ use Rattle.hir_forest.specs.Faults.{root_nodes}
 use Rattle.hir_path.specs.Lists.{last_of}
 use Rattle.hir_node.specs.declared.node_id.NodeId.{NodeId}
 use Rattle.hir_node.specs.declared.node_id.NodeId.TheVariants as node
-use Rattle.hir_faults.specs.Sizes.{HasNode}
-use Rattle.hir_faults.specs.Nodes.{Nodes}
-use Rattle.hir_expr_store.specs.Contents.{Contents}
-use Rattle.hir_expr_store.specs.Under.{LiesUnderOther, IsReached, reached_nodes}
-use Rattle.hir_expr_store.specs.NodeSets.{MarkedNodes, IsIn}
+use Rattle.hir_validate.specs.Sizes.{HasNode}
+use Rattle.hir_validate.specs.Nodes.{Nodes}
+use Rattle.hir_store_core.specs.Contents.{Contents}
+use Rattle.hir_store_core.specs.Under.{LiesUnderOther, IsReached, reached_nodes}
+use Rattle.hir_store_core.specs.NodeSets.{MarkedNodes, IsIn}
 use Rattle.hir_items.specs.declared.formals.Param.{Param}
 use Rattle.hir_items.specs.declared.body_fault.BodyFault.{BodyFault}
 use Rattle.hir_items.specs.declared.body_fault.BodyFault.TheVariants.{NoRoot, SelfOutOfRange, ParamOutOfRange, ParamRepeated, ParamUnder, RootInParam}

@@ -1,6 +1,6 @@
 -- What a refused body hands back.
 use Rattle.std.specs.Prelude.{ℕ, List, Option}
-use Rattle.hir_expr_store.specs.Contents.{Contents}
+use Rattle.hir_store_core.specs.Contents.{Contents}
 use Rattle.hir_items.specs.declared.body.RefusedBody.{RefusedBody}
 use Rattle.hir_items.specs.declared.body_fault.BodyFault.{BodyFault}
 use Rattle.hir_items.specs.declared.formals.Param.{Param}

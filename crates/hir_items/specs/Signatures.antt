@@ -10,12 +10,12 @@ use Rattle.hir_generics.specs.declared.param.TypeOrConstParamData.{TypeOrConstPa
 use Rattle.hir_generics.specs.declared.param.TypeOrConstParamData.TheVariants as either
 use Rattle.hir_generics.specs.declared.predicate.WherePredicate.{WherePredicate}
 use Rattle.hir_generics.specs.declared.predicate.WherePredicate.TheVariants as predicate
-use Rattle.hir_faults.specs.Sizes.{is_in_range}
-use Rattle.hir_faults.specs.TestedParts.{is_path_at, bound_paths}
-use Rattle.hir_faults.specs.Fits.{bound_fits}
-use Rattle.hir_faults.specs.Nodes.{Nodes, sizes_of}
-use Rattle.hir_expr_store.specs.Contents.{Contents}
-use Rattle.hir_expr_store.specs.Under.{IsReached, reached_nodes}
+use Rattle.hir_validate.specs.Sizes.{is_in_range}
+use Rattle.hir_validate.specs.TestedParts.{is_path_at, bound_paths}
+use Rattle.hir_validate.specs.Fits.{bound_fits}
+use Rattle.hir_validate.specs.Nodes.{Nodes, sizes_of}
+use Rattle.hir_store_core.specs.Contents.{Contents}
+use Rattle.hir_store_core.specs.Under.{IsReached, reached_nodes}
 use Rattle.hir_items.specs.Generics.{Generics}
 use Rattle.hir_items.specs.declared.signature_fault.SignatureFault.{SignatureFault}
 use Rattle.hir_items.specs.declared.signature_fault.SignatureFault.TheVariants.{IdOutOfRange, NotAPath}

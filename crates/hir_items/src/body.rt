@@ -6,8 +6,8 @@ ghost use Rattle.hir_items.specs.Bodies.{body_of, body_fault, last_root, AreBelo
 use crate::body_fault::{BodyFault, first_fault, last_root};
 use crate::formals::Param;
 use hir_base::{ExactEq, Seq};
-use hir_expr_store::ExpressionStore;
-use hir_expr_store::laws::roots_stand_apart;
+use hir_store_core::ExpressionStore;
+use hir_store_core::laws::roots_stand_apart;
 use hir_node::{BindingId, ExprId, PatId};
 use std::alloc::{AllocError, Global};
 use std::fmt::{self, Display};
@@ -45,7 +45,7 @@ impl Model for Body {
     ghost Value = { BodyContents };
 
     ghost use Rattle.std.specs.Coded.{codes};
-    ghost use Rattle.hir_expr_store.specs.contracts.store.ExpressionStore as stored;
+    ghost use Rattle.hir_store_core.specs.contracts.store.ExpressionStore as stored;
 
     ghost coded = { Prim.hlevel (codes, stored.the_row.coded) };
 

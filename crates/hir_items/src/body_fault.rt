@@ -5,8 +5,8 @@ ghost use Rattle.hir_items.specs.Bodies.{body_of, last_root, apart_fault, body_f
 
 use crate::formals::{Param, add_formals, first_out_of_range, first_under, self_is_in_range};
 use hir_base::ExactEq;
-use hir_expr_store::ExpressionStore;
-use hir_expr_store::laws::{rank_decreases, roots_stand_apart};
+use hir_store_core::ExpressionStore;
+use hir_store_core::laws::{rank_decreases, roots_stand_apart};
 use hir_node::{BindingId, ExprId, PatId};
 use std::alloc::{AllocError, Global};
 use std::fmt::{self, Display};

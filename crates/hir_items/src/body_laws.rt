@@ -5,17 +5,17 @@
 ghost use Rattle.std.specs.Prelude.{◌≡◌, ◌≢◌, ◌⊎◌, ◌↔◌, Option, None, Contains};
 ghost use Rattle.std.specs.Bool.{Decides};
 ghost use Rattle.std.specs.List.{AllPairs};
-ghost use Rattle.hir_source.specs.ComparedPart.{compared_part};
-ghost use Rattle.hir_expr_store.specs.Contents.{contents_fault};
-ghost use Rattle.hir_faults.specs.Nodes.{Has};
+ghost use Rattle.hir_source_map.specs.ComparedPart.{compared_part};
+ghost use Rattle.hir_store_core.specs.Contents.{contents_fault};
+ghost use Rattle.hir_validate.specs.Nodes.{Has};
 ghost use Rattle.hir_node.specs.declared.node_id.NodeId.{NodeId};
 ghost use Rattle.hir_items.specs.declared.body_fault.BodyFault.{BodyFault};
 ghost use Rattle.hir_items.specs.declared.body_source_map.BodySourceMap.{BodySourceMap};
 ghost use Rattle.hir_items.specs.Bodies.{BodyContents, body_fault, entry_nodes, BodyReaches, body_nodes};
-ghost use Rattle.hir_expr_store.specs.Under.{AreDisjoint};
+ghost use Rattle.hir_store_core.specs.Under.{AreDisjoint};
 
 use crate::body_source_map::BodySourceMap;
-use hir_expr_store::laws::{
+use hir_store_core::laws::{
     reached_is_decided, reached_is_listed, reached_is_listed_once, roots_stand_apart,
     under_two_is_under_one, reached_nodes_are_in_range,
 };

@@ -3,7 +3,7 @@
 ghost use Rattle.std.specs.Prelude.{◌≡◌};
 
 use hir_base::{InFile, SelfParamPtr};
-use hir_source::ExpressionStoreSourceMap;
+use hir_source_map::ExpressionStoreSourceMap;
 
 /// Where a body comes from: the source map of its store, and the source of its `self`.
 #[derive(PartialEq, Eq)]

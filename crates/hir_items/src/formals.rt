@@ -5,12 +5,12 @@ ghost use Rattle.hir_base.specs.Exact.{exact};
 ghost use Rattle.hir_forest.specs.Verdict.{first_below};
 ghost use Rattle.hir_node.specs.declared.node_id.NodeId.{NodeId};
 ghost use Rattle.hir_node.specs.declared.node_id.NodeId.TheVariants as node;
-ghost use Rattle.hir_expr_store.specs.NodeSets.{IsIn};
+ghost use Rattle.hir_store_core.specs.NodeSets.{IsIn};
 ghost use Rattle.hir_items.specs.Bodies.{AreBelow, formals_of, range_fault, repeated_fault, under_fault, GainsAll};
 
 use crate::body_fault::BodyFault;
 use hir_base::{ExactEq, TryClone};
-use hir_expr_store::{ExpressionStore, NodeSet};
+use hir_store_core::{ExpressionStore, NodeSet};
 use hir_node::{BindingId, PatId};
 
 /// A parameter as the body has it, and as the user wrote it.

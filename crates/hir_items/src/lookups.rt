@@ -4,15 +4,15 @@ ghost use Rattle.std.specs.Prelude.{◌≡◌, Option, None, Some, IfOk, IfErr};
 ghost use Rattle.std.specs.Option.{option_map};
 ghost use Rattle.hir_base.specs.declared.defs.GenericDefId.{GenericDefId};
 ghost use Rattle.hir_base.specs.declared.defs.DefWithBodyId.{DefWithBodyId};
-ghost use Rattle.hir_expr_store.specs.declared.missing.Missing.TheVariants as missing;
+ghost use Rattle.hir_store_core.specs.declared.missing.Missing.TheVariants as missing;
 ghost use Rattle.hir_items.specs.Lookups.{SignatureAndSources, BodyAndSources, without_source_map};
 
 use crate::body::Body;
 use crate::body_source_map::BodySourceMap;
 use crate::generic_params::GenericParams;
 use hir_base::{DefWithBodyId, GenericDefId};
-use hir_expr_store::{ExpressionStore, Missing};
-use hir_source::ExpressionStoreSourceMap;
+use hir_store_core::{ExpressionStore, Missing};
+use hir_source_map::ExpressionStoreSourceMap;
 
 /// The generic parameters of a definition, the store that they name, and where that comes from.
 pub type SignatureEntry<'a> = (

@@ -3,12 +3,12 @@
 ghost use Rattle.std.specs.Prelude.{◌≡◌, nat_lt, length};
 ghost use Rattle.std.specs.List.{list_all};
 ghost use Rattle.hir_node.specs.ChildCalls.{a, l, t, opt};
-ghost use Rattle.hir_faults.specs.TestedParts.{is_path_at};
+ghost use Rattle.hir_validate.specs.TestedParts.{is_path_at};
 ghost use Rattle.hir_items.specs.Signatures.{param_calls, predicate_calls, predicate_paths, field_calls, all_in_range, generics_in_range, generics_name_paths, types_in_range};
 
 use crate::generic_params::GenericParams;
 use crate::signatures::FieldData;
-use hir_expr_store::ExpressionStore;
+use hir_store_core::ExpressionStore;
 use hir_generics::{TypeOrConstParamData, WherePredicate};
 use hir_node::{ExprId, LifetimeRefId, TypeRefId};
 

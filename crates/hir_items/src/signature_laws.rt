@@ -4,10 +4,10 @@
 ghost use Rattle.std.specs.Prelude.{◌≢◌, ◌⊎◌, ◌↔◌, None, Contains};
 ghost use Rattle.std.specs.List.{AllPairs};
 ghost use Rattle.hir_node.specs.declared.node_id.NodeId.{NodeId};
-ghost use Rattle.hir_expr_store.specs.Contents.{Contents, contents_fault};
+ghost use Rattle.hir_store_core.specs.Contents.{Contents, contents_fault};
 ghost use Rattle.hir_items.specs.Signatures.{SignatureReaches, signature_nodes};
 
-use hir_expr_store::laws::{
+use hir_store_core::laws::{
     reached_is_decided, reached_is_listed, reached_is_listed_once, roots_are_disjoint,
 };
 

@@ -2,14 +2,14 @@
 
 ghost use Rattle.std.specs.Prelude.{◌≡◌, ◌<◌, All, None, Some, IfOk, IfErr, IfSome, length};
 ghost use Rattle.std.specs.Option.{option_map};
-ghost use Rattle.hir_expr_store.specs.Contents.{contents_fault};
+ghost use Rattle.hir_store_core.specs.Contents.{contents_fault};
 ghost use Rattle.hir_items.specs.Signatures.{function_fault, struct_fault, fields_fault, plain_fault, GenericsFit, FieldFits};
 
 use crate::generic_params::GenericParams;
 use crate::named_ids::{generics_name_paths, has_fields, has_generics, has_type_opt, has_types};
 use crate::signature_fault::{RefusedSignature, SignatureFault, ids_fault};
 use hir_base::{ExactEq, ExternAbi, ModPath, Name, Seq};
-use hir_expr_store::ExpressionStore;
+use hir_store_core::ExpressionStore;
 use hir_node::{ExprId, TypeRefId};
 use std::marker::Model;
 
@@ -138,7 +138,7 @@ impl Model for FunctionSignature {
     ghost Value = { FunctionParts };
 
     ghost use Rattle.std.specs.Coded.{codes};
-    ghost use Rattle.hir_expr_store.specs.contracts.store.ExpressionStore as stored;
+    ghost use Rattle.hir_store_core.specs.contracts.store.ExpressionStore as stored;
 
     ghost coded = { Prim.hlevel (codes, stored.the_row.coded) };
 
@@ -313,7 +313,7 @@ impl Model for StructSignature {
     ghost Value = { StructParts };
 
     ghost use Rattle.std.specs.Coded.{codes};
-    ghost use Rattle.hir_expr_store.specs.contracts.store.ExpressionStore as stored;
+    ghost use Rattle.hir_store_core.specs.contracts.store.ExpressionStore as stored;
 
     ghost coded = { Prim.hlevel (codes, stored.the_row.coded) };
 
@@ -436,7 +436,7 @@ impl Model for VariantFields {
     ghost Value = { VariantParts };
 
     ghost use Rattle.std.specs.Coded.{codes};
-    ghost use Rattle.hir_expr_store.specs.contracts.store.ExpressionStore as stored;
+    ghost use Rattle.hir_store_core.specs.contracts.store.ExpressionStore as stored;
 
     ghost coded = { Prim.hlevel (codes, stored.the_row.coded) };
 
@@ -546,7 +546,7 @@ impl Model for PlainSignature {
     ghost Value = { PlainParts };
 
     ghost use Rattle.std.specs.Coded.{codes};
-    ghost use Rattle.hir_expr_store.specs.contracts.store.ExpressionStore as stored;
+    ghost use Rattle.hir_store_core.specs.contracts.store.ExpressionStore as stored;
 
     ghost coded = { Prim.hlevel (codes, stored.the_row.coded) };
 

@@ -6,7 +6,7 @@ use Rattle.hir_node.specs.declared.expr.Expr.{Expr}
 use Rattle.hir_node.specs.declared.pat.Pat.{Pat}
 use Rattle.hir_node.specs.declared.binding.Binding.{Binding}
 use Rattle.hir_node.specs.declared.type_ref.TypeRef.{TypeRef}
-use Rattle.hir_faults.specs.declared.fault.FinishFault.TheVariants as finish
+use Rattle.hir_validate.specs.declared.fault.FinishFault.TheVariants as finish
 use Rattle.hir_items.specs.Bodies.{BodyContents, body_fault}
 use Rattle.hir_items.specs.declared.body_fault.BodyFault.TheVariants as body
 use Rattle.hir_store.specs.Building.{building_of, finish_fault}

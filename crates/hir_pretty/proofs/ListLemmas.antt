@@ -8,9 +8,9 @@ use Rattle.hir_base.specs.declared.mod_path.PathKind.TheVariants.{Plain}
 use Rattle.hir_generics.specs.declared.{data.LifetimeParamData.LifetimeParamData, predicate.WherePredicate.WherePredicate, param.TypeOrConstParamData.TypeOrConstParamData}
 use Rattle.hir_items.specs.Bodies.{formals_of}
 use Rattle.hir_items.specs.declared.{formals.Param.Param, signatures.FunctionParts.FunctionParts}
-use Rattle.hir_printer.specs.Prelude.{PrintEnv, Doc, text, br, into, out, t, p, opt, when, join, comma_joined, binding_docs, colons_first, type_param_docs, following}
-use Rattle.hir_printer.proofs.ListLemmas.{drop_item, is_cons, following_append, following_joined}
-use Rattle.hir_printer.proofs.OrderLemmas.{cons_length}
+use Rattle.hir_pretty_nodes.specs.Prelude.{PrintEnv, Doc, text, br, into, out, t, p, opt, when, join, comma_joined, binding_docs, colons_first, type_param_docs, following}
+use Rattle.hir_pretty_nodes.proofs.ListLemmas.{drop_item, is_cons, following_append, following_joined}
+use Rattle.hir_pretty_nodes.proofs.OrderLemmas.{cons_length}
 use Rattle.hir_pretty.specs.AddedDocs.{marked_docs}
 use Rattle.hir_pretty.specs.Bodies.{formal_params}
 use Rattle.hir_pretty.specs.Signatures.{type_name, argument_docs, arguments, function_types, each_lifetime, each_type_or_const, in_angles, each_predicate, where_docs}

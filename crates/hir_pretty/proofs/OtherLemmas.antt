@@ -1,10 +1,10 @@
 -- What printings answer, and what is missing first.
 use Rattle.std.proofs.Common.{◌≡◌, List, [], ◌∷◌, ◌++◌, Option, Some, None, Result, Err, IfOk, refl, sym, ap, subst, ◌∙◌, String, string_bytes}
 use Rattle.std.proofs.lemmas.List.Concat.{flat_map-append}
-use Rattle.hir_page.specs.Page.{rendering}
-use Rattle.hir_printer.specs.declared.fault.PrintFault.{PrintFault}
-use Rattle.hir_printer.specs.declared.fault.PrintFault.TheVariants as fault
-use Rattle.hir_printer.specs.Prelude.{Missing, PrintEnv, Doc, MissingDoc, DocPiece, Present, Absent, first_missing, layout, doc_pieces, pieces, format_of, PrintsPieces, doc_list_pieces}
+use Rattle.hir_pretty_layout.specs.Page.{rendering}
+use Rattle.hir_pretty_nodes.specs.declared.fault.PrintFault.{PrintFault}
+use Rattle.hir_pretty_nodes.specs.declared.fault.PrintFault.TheVariants as fault
+use Rattle.hir_pretty_nodes.specs.Prelude.{Missing, PrintEnv, Doc, MissingDoc, DocPiece, Present, Absent, first_missing, layout, doc_pieces, pieces, format_of, PrintsPieces, doc_list_pieces}
 
 -- the first that is missing, or another
 abbrev pub missing_or : Option Missing → Missing → Missing

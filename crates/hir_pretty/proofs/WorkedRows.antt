@@ -27,10 +27,10 @@ use Rattle.hir_generics.specs.declared.data.TypeParamProvenance.TheVariants as p
 use Rattle.hir_generics.specs.declared.param.TypeOrConstParamData.{TypeOrConstParamData}
 use Rattle.hir_generics.specs.declared.param.TypeOrConstParamData.TheVariants as param
 use Rattle.hir_generics.specs.declared.predicate.WherePredicate.TheVariants as predicate
-use Rattle.hir_faults.specs.Recursion.{fold_down, rank}
-use Rattle.hir_expr_store.specs.{Contents.Contents, SideTables.no_side_tables}
-use Rattle.hir_printer.specs.Prelude.{Missing, NameLookups, PrintEnv, Doc, pieces, first_missing, text_of, doc_list_pieces}
-use Rattle.hir_expr_store.specs.declared.missing.Missing.TheVariants as missing
+use Rattle.hir_validate.specs.Recursion.{fold_down, rank}
+use Rattle.hir_store_core.specs.{Contents.Contents, SideTables.no_side_tables}
+use Rattle.hir_pretty_nodes.specs.Prelude.{Missing, NameLookups, PrintEnv, Doc, pieces, first_missing, text_of, doc_list_pieces}
+use Rattle.hir_store_core.specs.declared.missing.Missing.TheVariants as missing
 use Rattle.hir_items.specs.declared.signatures.FieldsShape.TheVariants as shape
 use Rattle.hir_items.specs.declared.signatures.RawVisibility.TheVariants as visibility
 use Rattle.hir_items.specs.Bodies.{BodyContents}

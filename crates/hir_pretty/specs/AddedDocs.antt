@@ -1,6 +1,6 @@
 -- Words of what is added beside the items of definitions.
 use Rattle.std.specs.Prelude.{ℕ, Bool, false, List, ◌++◌, get_or, codes, Option, Some, None, Result, Ok, Err}
-use Rattle.hir_printer.specs.Prelude.{Doc, text, t, when}
+use Rattle.hir_pretty_nodes.specs.Prelude.{Doc, text, t, when}
 
 -- what the type of an argument is printed as where its place is marked
 abbrev pub marked_docs : List Bool → ℕ × ℕ → List Doc

@@ -3,7 +3,7 @@ use Rattle.std.specs.Prelude.{ℕ, List, [], ◌∷◌, ◌++◌, map, Option, R
 use Rattle.hir_base.specs.declared.defs.DefWithBodyId.{DefWithBodyId}
 use Rattle.hir_base.specs.declared.defs.DefWithBodyId.TheVariants as body
 use Rattle.hir_base.specs.declared.defs.NamedDef.TheVariants as named
-use Rattle.hir_printer.specs.Prelude.{Missing, PrintEnv, Doc, MissingDoc, text, e, p, opt, comma_joined, binding_docs, found_name}
+use Rattle.hir_pretty_nodes.specs.Prelude.{Missing, PrintEnv, Doc, MissingDoc, text, e, p, opt, comma_joined, binding_docs, found_name}
 use Rattle.hir_items.specs.declared.formals.Param.{Param}
 use Rattle.hir_items.specs.Bodies.{BodyContents, formals_of, last_root}
 

@@ -4,12 +4,12 @@ use Rattle.std.specs.FinMap as map
 use Rattle.hir_base.specs.declared.{defs.AdtId.AdtId, defs.GenericDefId.GenericDefId}
 use Rattle.hir_base.specs.declared.defs.AdtId.TheVariants as adt
 use Rattle.hir_base.specs.declared.defs.GenericDefId.TheVariants as generic
-use Rattle.hir_expr_store.specs.declared.missing.Missing.TheVariants as missing
+use Rattle.hir_store_core.specs.declared.missing.Missing.TheVariants as missing
 use Rattle.hir_items.specs.declared.{signatures.FunctionParts.FunctionParts, signatures.StructParts.StructParts}
 use Rattle.hir_defs.specs.Lookups.{Tables}
-use Rattle.hir_printer.specs.declared.fault.PrintFault.{PrintFault}
-use Rattle.hir_printer.specs.declared.fault.PrintFault.TheVariants as fault
-use Rattle.hir_printer.specs.Prelude.{PrintEnv, print_env, lookups_of, PrintsPieces, doc_list_pieces}
+use Rattle.hir_pretty_nodes.specs.declared.fault.PrintFault.{PrintFault}
+use Rattle.hir_pretty_nodes.specs.declared.fault.PrintFault.TheVariants as fault
+use Rattle.hir_pretty_nodes.specs.Prelude.{PrintEnv, print_env, lookups_of, PrintsPieces, doc_list_pieces}
 use Rattle.hir_pretty.specs.FoundParts.{function_found, struct_found}
 use Rattle.hir_pretty.specs.Signatures.{function_docs, struct_docs, unimplemented_docs}
 

@@ -11,7 +11,7 @@ use Rattle.hir_items.specs.Generics.{Generics}
 use Rattle.hir_items.specs.declared.{signatures.FieldsShape.FieldsShape, signatures.FunctionParts.FunctionParts, signatures.StructParts.StructParts}
 use Rattle.hir_items.specs.declared.signatures.FieldsShape.TheVariants as shape
 use Rattle.hir_defs.specs.declared.plain_def.Repr.{Repr}
-use Rattle.hir_printer.specs.Prelude.{PrintEnv, Doc, text, br, into, out, e, t, opt, when, join, comma_joined, with_number, name_docs, l, bound_docs, for_names}
+use Rattle.hir_pretty_nodes.specs.Prelude.{PrintEnv, Doc, text, br, into, out, e, t, opt, when, join, comma_joined, with_number, name_docs, l, bound_docs, for_names}
 
 -- 1. Generic parameters
 

@@ -5,9 +5,9 @@ use Rattle.hir_base.specs.declared.{defs.VariantId.VariantId, mod_path.PathKind.
 use Rattle.hir_base.specs.declared.defs.NamedDef.TheVariants as named
 use Rattle.hir_base.specs.declared.defs.VariantId.TheVariants as variant
 use Rattle.hir_base.specs.declared.mod_path.PathKind.TheVariants.{Plain, Super, Crate, Abs, DollarCrate}
-use Rattle.hir_expr_store.specs.Contents.{Contents}
-use Rattle.hir_printer.specs.Prelude.{Missing, NameLookups, PrintEnv, print_env, first_missing, doc_list_pieces, Doc, MissingDoc, text, br, t, when, join, name_docs, found_name, supers}
-use Rattle.hir_expr_store.specs.declared.missing.Missing.TheVariants as missing
+use Rattle.hir_store_core.specs.Contents.{Contents}
+use Rattle.hir_pretty_nodes.specs.Prelude.{Missing, NameLookups, PrintEnv, print_env, first_missing, doc_list_pieces, Doc, MissingDoc, text, br, t, when, join, name_docs, found_name, supers}
+use Rattle.hir_store_core.specs.declared.missing.Missing.TheVariants as missing
 use Rattle.hir_items.specs.declared.{signatures.FieldData.FieldData, signatures.FieldsShape.FieldsShape, signatures.RawVisibility.RawVisibility, signatures.VariantParts.VariantParts}
 use Rattle.hir_items.specs.declared.signatures.FieldsShape.TheVariants as shape
 use Rattle.hir_items.specs.declared.signatures.RawVisibility.TheVariants as visibility

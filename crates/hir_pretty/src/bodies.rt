@@ -1,8 +1,8 @@
 //! Bodies as text.
-#![tactic(auto, using(hir_printer::proofs::AddLemmas::adding))]
+#![tactic(auto, using(hir_pretty_nodes::proofs::AddLemmas::adding))]
 
 ghost use Rattle.std.specs.Prelude.{◌≡◌, OnOk, false};
-ghost use Rattle.hir_printer.specs.Prelude.{words_of, print_env, opt, comma_joined, binding_docs, lookups_of, PrintsPieces, doc_list_pieces, Adds};
+ghost use Rattle.hir_pretty_nodes.specs.Prelude.{words_of, print_env, opt, comma_joined, binding_docs, lookups_of, PrintsPieces, doc_list_pieces, Adds};
 ghost use Rattle.hir_items.specs.Bodies.{formals_of};
 ghost use Rattle.hir_pretty.specs.Bodies.{formal_self, formal_params, body_params, body_end, body_docs};
 ghost use Rattle.hir_pretty.specs.FoundParts.{parents};
@@ -11,8 +11,8 @@ use crate::body_heads::add_body_head;
 use hir_base::{DefWithBodyId, Edition};
 use hir_defs::{Body, Param, Tables};
 use hir_node::{BindingId, PatId};
-use hir_page::PieceWriter;
-use hir_printer::{PrintFault, Printer, Token};
+use hir_pretty_layout::PieceWriter;
+use hir_pretty_nodes::{PrintFault, Printer, Token};
 use std::alloc::{AllocError, Global};
 
 /// Adds the binding of `self`, where there is one.

@@ -1,9 +1,9 @@
 //! What bodies and variants begin with: a keyword and names of the tables.
-#![tactic(auto, using(hir_printer::proofs::AddLemmas::adding))]
+#![tactic(auto, using(hir_pretty_nodes::proofs::AddLemmas::adding))]
 
 ghost use Rattle.std.specs.Prelude.{◌≡◌, ◌++◌, OnOk, Ok, codes, Bool, List, ℕ};
-ghost use Rattle.hir_printer.specs.Prelude.{text, found_name, lookups_of, print_env, doc_list_pieces, first_missing, Adds};
-ghost use Rattle.hir_expr_store.specs.Contents.{Contents};
+ghost use Rattle.hir_pretty_nodes.specs.Prelude.{text, found_name, lookups_of, print_env, doc_list_pieces, first_missing, Adds};
+ghost use Rattle.hir_store_core.specs.Contents.{Contents};
 ghost use Rattle.hir_pretty.specs.AddedDocs.{error_of};
 ghost use Rattle.hir_pretty.specs.Bodies.{variant_name, body_head, of_enum};
 ghost use Rattle.hir_pretty.specs.Variants.{variant_head};
@@ -11,9 +11,9 @@ ghost use Rattle.hir_pretty.specs.FoundParts.{parents};
 
 use hir_base::{DefWithBodyId, EnumId, EnumVariantId, NamedDef, VariantId};
 use hir_defs::Tables;
-use hir_expr_store::Missing;
-use hir_page::PieceWriter;
-use hir_printer::{Printer, Token};
+use hir_store_core::Missing;
+use hir_pretty_layout::PieceWriter;
+use hir_pretty_nodes::{Printer, Token};
 use std::alloc::AllocError;
 
 fn add_enum<W: PieceWriter>(

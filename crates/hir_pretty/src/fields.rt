@@ -1,18 +1,18 @@
 //! Structs, unions and variants of enums as text, with their fields.
-#![tactic(auto, using(hir_printer::proofs::AddLemmas::adding))]
+#![tactic(auto, using(hir_pretty_nodes::proofs::AddLemmas::adding))]
 
 ghost use Rattle.std.specs.Prelude.{◌≡◌, OnOk, codes, false, IfSome, IfOk, IfErr, Some, None};
-ghost use Rattle.hir_printer.specs.Prelude.{words_of, print_env, text, join, lookups_of, PrintsPieces, doc_list_pieces, Adds};
-ghost use Rattle.hir_expr_store.specs.Contents.{Contents};
+ghost use Rattle.hir_pretty_nodes.specs.Prelude.{words_of, print_env, text, join, lookups_of, PrintsPieces, doc_list_pieces, Adds};
+ghost use Rattle.hir_store_core.specs.Contents.{Contents};
 ghost use Rattle.hir_pretty.specs.Variants.{LacksFields, kind_word, module_docs, visibility_docs, field_line, fields_begin, fields_end, fields_docs, variant_docs, without_fields};
 ghost use Rattle.hir_pretty.specs.FoundParts.{parents, fields_found};
 
 use crate::body_heads::{add_variant_head, missing_in_head};
 use hir_base::{Edition, ModPath, PathKind, VariantId};
 use hir_defs::{FieldData, FieldsShape, RawVisibility, Tables, VariantFields};
-use hir_expr_store::Missing;
-use hir_page::PieceWriter;
-use hir_printer::{PrintFault, Printer, Token, colons_first};
+use hir_store_core::Missing;
+use hir_pretty_layout::PieceWriter;
+use hir_pretty_nodes::{PrintFault, Printer, Token, colons_first};
 use std::alloc::{AllocError, Global};
 
 /// Adds what the path of a module begins with.

@@ -1,9 +1,9 @@
 //! Signatures of functions as text.
-#![tactic(auto, using(hir_printer::proofs::AddLemmas::adding))]
+#![tactic(auto, using(hir_pretty_nodes::proofs::AddLemmas::adding))]
 
 ghost use Rattle.std.specs.Prelude.{◌≡◌, ◌<◌, ◌==◌, ◌++◌, OnOk, IfOk, map, ℕ, length, Some, get_or, false, codes, option_map};
 ghost use Rattle.std.specs.List.{enumerate_from, list_any};
-ghost use Rattle.hir_printer.specs.Prelude.{words_of, print_env, text, comma_joined, lookups_of, PrintsPieces, doc_list_pieces, Adds};
+ghost use Rattle.hir_pretty_nodes.specs.Prelude.{words_of, print_env, text, comma_joined, lookups_of, PrintsPieces, doc_list_pieces, Adds};
 ghost use Rattle.hir_pretty.specs.AddedDocs.{marked_docs};
 ghost use Rattle.hir_pretty.specs.Signatures.{abi_docs, arguments, flags, function_head, function_types, function_docs};
 
@@ -11,8 +11,8 @@ use crate::generics::{add_generics, add_where};
 use hir_base::{Edition, ExternAbi, FunctionId};
 use hir_defs::{FunctionSignature, Tables};
 use hir_node::TypeRefId;
-use hir_page::PieceWriter;
-use hir_printer::{PrintFault, Printer, Token};
+use hir_pretty_layout::PieceWriter;
+use hir_pretty_nodes::{PrintFault, Printer, Token};
 use std::alloc::{AllocError, Global};
 
 fn add_quoted<'a, W: PieceWriter>(

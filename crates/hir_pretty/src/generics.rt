@@ -1,9 +1,9 @@
 //! Generic parameters and the predicates on them.
-#![tactic(auto, using(hir_printer::proofs::AddLemmas::adding))]
+#![tactic(auto, using(hir_pretty_nodes::proofs::AddLemmas::adding))]
 
 ghost use Rattle.std.specs.Prelude.{◌++◌, OnOk, codes, false};
 ghost use Rattle.std.specs.List.{enumerate_from};
-ghost use Rattle.hir_printer.specs.Prelude.{text, e, opt, comma_joined, Adds, following};
+ghost use Rattle.hir_pretty_nodes.specs.Prelude.{text, e, opt, comma_joined, Adds, following};
 ghost use Rattle.hir_pretty.specs.Signatures.{generic_param_docs, each_lifetime, each_type_or_const, each_param, generics_docs, predicate_docs, where_docs};
 
 use hir_base::Name;
@@ -12,8 +12,8 @@ use hir_defs::{
     WherePredicate,
 };
 use hir_node::ConstRef;
-use hir_page::PieceWriter;
-use hir_printer::{Part, Printer, Token};
+use hir_pretty_layout::PieceWriter;
+use hir_pretty_nodes::{Part, Printer, Token};
 use std::alloc::AllocError;
 
 /// Adds a type: its name or its place, and its default.

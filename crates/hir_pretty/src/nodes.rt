@@ -1,15 +1,15 @@
 //! Expressions, patterns and paths of a store as text.
 
 ghost use Rattle.std.specs.Prelude.{◌<◌, false, IsTrue, length};
-ghost use Rattle.hir_printer.specs.Prelude.{words_of, print_env, pieces, path_pieces, PrintsPieces, lookups_of};
+ghost use Rattle.hir_pretty_nodes.specs.Prelude.{words_of, print_env, pieces, path_pieces, PrintsPieces, lookups_of};
 ghost use Rattle.hir_node.specs.declared.node_id.NodeId.TheVariants as node;
-ghost use Rattle.hir_faults.specs.Fits.{path_fits};
+ghost use Rattle.hir_validate.specs.Fits.{path_fits};
 
 use hir_base::{Edition, ExpressionStoreOwnerId};
 use hir_defs::Tables;
-use hir_expr_store::ExpressionStore;
+use hir_store_core::ExpressionStore;
 use hir_node::{ExprId, PatId, Path};
-use hir_printer::{PrintFault, Printer, Token};
+use hir_pretty_nodes::{PrintFault, Printer, Token};
 use std::alloc::Global;
 
 /// The text of an expression of the store, in lines. The expression has to be there: `has_expr` tests it. What owns the store makes no

@@ -1,7 +1,7 @@
 //! Methods of a body that print it.
 
 ghost use Rattle.std.specs.Prelude.{◌<◌, false, length};
-ghost use Rattle.hir_printer.specs.Prelude.{words_of, print_env, pieces, doc_list_pieces, lookups_of, PrintsPieces};
+ghost use Rattle.hir_pretty_nodes.specs.Prelude.{words_of, print_env, pieces, doc_list_pieces, lookups_of, PrintsPieces};
 ghost use Rattle.hir_node.specs.declared.node_id.NodeId.TheVariants as node;
 ghost use Rattle.hir_items.specs.Bodies.{BodyContents};
 ghost use Rattle.hir_pretty.specs.Bodies.{body_docs};
@@ -12,7 +12,7 @@ use crate::nodes::{print_expr_hir, print_pat_hir};
 use hir_base::{DefWithBodyId, Edition, ExpressionStoreOwnerId};
 use hir_defs::{Body, Tables};
 use hir_node::{ExprId, PatId};
-use hir_printer::PrintFault;
+use hir_pretty_nodes::PrintFault;
 use std::alloc::Global;
 
 /// Prints a body, and its expressions and patterns.

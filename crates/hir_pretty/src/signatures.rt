@@ -2,7 +2,7 @@
 #![tactic(auto, using(crate::proofs::OtherLemmas::others))]
 
 ghost use Rattle.std.specs.Prelude.{OnOk};
-ghost use Rattle.hir_printer.specs.Prelude.{words_of, Adds};
+ghost use Rattle.hir_pretty_nodes.specs.Prelude.{words_of, Adds};
 ghost use Rattle.hir_pretty.specs.FoundParts.{function_found, struct_found};
 ghost use Rattle.hir_pretty.specs.Owners.{PrintsFunction, PrintsStruct, PrintsOther, PrintsAdt, PrintsSignature};
 ghost use Rattle.hir_pretty.specs.Signatures.{unimplemented_docs};
@@ -11,9 +11,9 @@ use crate::functions::print_function;
 use crate::structs::print_struct;
 use hir_base::{AdtId, Edition, FunctionId, GenericDefId, StructId};
 use hir_defs::Tables;
-use hir_expr_store::ExpressionStore;
-use hir_page::PieceWriter;
-use hir_printer::{PrintFault, Printer, Token};
+use hir_store_core::ExpressionStore;
+use hir_pretty_layout::PieceWriter;
+use hir_pretty_nodes::{PrintFault, Printer, Token};
 use std::alloc::{AllocError, Global};
 
 /// Adds that the signature of a definition of this kind isn't printed.

@@ -1,16 +1,16 @@
 //! Signatures of structs as text.
-#![tactic(auto, using(hir_printer::proofs::AddLemmas::adding))]
+#![tactic(auto, using(hir_pretty_nodes::proofs::AddLemmas::adding))]
 
 ghost use Rattle.std.specs.Prelude.{◌++◌, ◌∷◌, [], OnOk, codes, Some, false, decimal};
 ghost use Rattle.std.specs.FinMap as map;
-ghost use Rattle.hir_printer.specs.Prelude.{words_of, print_env, text, br, opt, when, lookups_of, PrintsPieces, doc_list_pieces, Adds};
+ghost use Rattle.hir_pretty_nodes.specs.Prelude.{words_of, print_env, text, br, opt, when, lookups_of, PrintsPieces, doc_list_pieces, Adds};
 ghost use Rattle.hir_pretty.specs.Signatures.{repr_docs, shape_begin, shape_end, struct_head, struct_docs};
 
 use crate::generics::{add_generics, add_where};
 use hir_base::{Edition, StructId};
 use hir_defs::{FieldsShape, Repr, StructSignature, Tables};
-use hir_page::PieceWriter;
-use hir_printer::{PrintFault, Printer, Token};
+use hir_pretty_layout::PieceWriter;
+use hir_pretty_nodes::{PrintFault, Printer, Token};
 use std::alloc::{AllocError, Global};
 
 fn add_attribute_if<W: PieceWriter>(

@@ -9,8 +9,8 @@ use Rattle.std.specs.{Option.option_to_list, Option.option_map, Prelude.IfSome, 
 use Rattle.hir_node.specs.ChildCalls.{Call, e, p, opt}
 use Rattle.hir_node.specs.declared.node_id.NodeId.{NodeId}
 use Rattle.hir_forest.specs.Faults.{root_nodes}
-use Rattle.hir_faults.specs.{Nodes.Nodes, Nodes.Has, Sound.RootsStandApart, TestedParts.all_of}
-use Rattle.hir_expr_store.specs.{Contents.Contents, Contents.rooted_of, Under.reached_nodes}
+use Rattle.hir_validate.specs.{Nodes.Nodes, Nodes.Has, Sound.RootsStandApart, TestedParts.all_of}
+use Rattle.hir_store_core.specs.{Contents.Contents, Contents.rooted_of, Under.reached_nodes}
 use Rattle.hir_items.specs.Bodies.{BodyContents, AreBelow, formals_of, last_root, body_nodes}
 use Rattle.hir_items.specs.Bodies as body
 use Rattle.hir_items.specs.{Signatures.root_entry_nodes, Signatures.signature_nodes, declared.formals.Param.Param}

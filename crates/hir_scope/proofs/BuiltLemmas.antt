@@ -7,8 +7,8 @@ use Rattle.std.specs.FinMap as finmap
 use Rattle.std.specs.Ordering.{nat_cmp, is_eq, eq_by_cmp}
 use Rattle.std.specs.{Prelude.IsSome, declared.cmp.Ordering.Ordering}
 use Rattle.hir_node.specs.declared.node_id.NodeId.{NodeId}
-use Rattle.hir_faults.specs.Nodes.{Nodes, Has}
-use Rattle.hir_expr_store.specs.{Contents.Contents, Under.IsReached, Under.reached_nodes}
+use Rattle.hir_validate.specs.Nodes.{Nodes, Has}
+use Rattle.hir_store_core.specs.{Contents.Contents, Under.IsReached, Under.reached_nodes}
 use Rattle.hir_items.specs.{Bodies.BodyContents, Bodies.body_nodes, Bodies.entry_nodes, Signatures.root_entry_nodes}
 use Rattle.hir_scope.specs.BodyScopes.{ChainsAreFrames, expr_count, entry_nodes_of_body, entry_nodes_of_signature, AreBodyScopes, AreSignatureScopes, BodyIsTooLarge, SignatureIsTooLarge, limit}
 use Rattle.hir_scope.specs.{Chains.InContext, Chains.Occurs, Chains.within_own, ScopingForms.form_of, Scopes.entry_count}

@@ -3,7 +3,7 @@ use Rattle.std.proofs.Common.{◌≡◌, ℕ, suc, zero, ◌<◌, List, [], ◌�
 use Rattle.std.proofs.lemmas.List.Sums.{sum_by-append, sum_by-cons}
 use Rattle.std.specs.List.{flat_map, filter, slice_get, slice_index_or, sum_by}
 use Rattle.hir_node.specs.declared.node_id.NodeId.{NodeId}
-use Rattle.hir_faults.specs.Recursion.{AgreeOn}
+use Rattle.hir_validate.specs.Recursion.{AgreeOn}
 
 abbrev pub In : {X : Type 0} → X → List X → Type 0
 In x [] = ⊥

@@ -5,8 +5,8 @@ use Rattle.std.proofs.lemmas.List.Elements.{Contains-append_left, Contains-appen
 use Rattle.std.specs.{List.slice_get, List.flat_map, Option.option_or}
 use Rattle.std.specs.Prelude.{option_map, Contains, IfSome}
 use Rattle.hir_base.specs.declared.hygiene.SyntaxContext.{SyntaxContext}
-use Rattle.hir_faults.specs.TestedParts.{all_of}
-use Rattle.hir_faults.proofs.SoundLemmas.{item_at}
+use Rattle.hir_validate.specs.TestedParts.{all_of}
+use Rattle.hir_validate.proofs.SoundLemmas.{item_at}
 use Rattle.hir_scope.specs.{Frames.Frame, Frames.Chain, Macros.outward, Macros.resolve_through}
 use Rattle.hir_scope.specs.Paths.{path, frame_at, chain}
 use Rattle.hir_scope.specs.Resolution.{matches, find_entry, entries_of, resolve, IsFound}

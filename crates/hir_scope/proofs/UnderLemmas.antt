@@ -5,11 +5,11 @@ use Rattle.std.proofs.lemmas.List.Sorted.{IsPermutation-sym, Contains-permutatio
 use Rattle.std.specs.List.{flat_map, filter}
 use Rattle.hir_node.specs.ChildCalls.{Call, OnExpr, OnPat, OnLifetime, opt, e, children}
 use Rattle.hir_node.specs.declared.node_id.NodeId.{NodeId}
-use Rattle.hir_faults.specs.Recursion.{RankDecreases, fold_down, AgreeOn, DependsOnChildren, rank}
-use Rattle.hir_faults.specs.Nodes.{Nodes, Has, children_of}
-use Rattle.hir_faults.proofs.RecursionLemmas.{agree_from_members, fold_down_at}
-use Rattle.hir_expr_store.specs.Under.{Under, itself, below, IsReached}
-use Rattle.hir_expr_store.proofs.UnderLemmas.{under_more}
+use Rattle.hir_validate.specs.Recursion.{RankDecreases, fold_down, AgreeOn, DependsOnChildren, rank}
+use Rattle.hir_validate.specs.Nodes.{Nodes, Has, children_of}
+use Rattle.hir_validate.proofs.RecursionLemmas.{agree_from_members, fold_down_at}
+use Rattle.hir_store_core.specs.Under.{Under, itself, below, IsReached}
+use Rattle.hir_store_core.proofs.UnderLemmas.{under_more}
 use Rattle.hir_scope.specs.BodyScopes.{is_expr}
 use Rattle.hir_scope.specs.Chains.{InContext, child_in_context, children_in_context, Occurs, entry_node, child}
 use Rattle.hir_scope.specs.{ScopingForms.ScopingForm, ScopingForms.form_of, Frames.Chain}

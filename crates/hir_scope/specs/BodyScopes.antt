@@ -5,8 +5,8 @@ use Rattle.std.specs.{List.filter, Option.option_map}
 use Rattle.std.specs.Prelude.{◌≡◌, ◌↔◌, ◌<◌, ◌⊎◌, ℕ, Bool, true, false, List, Some, IsSome, length}
 use Rattle.hir_node.specs.declared.node_id.NodeId.{NodeId}
 use Rattle.hir_forest.specs.Faults.{root_nodes}
-use Rattle.hir_faults.specs.Nodes.{Nodes}
-use Rattle.hir_expr_store.specs.Contents.{Contents}
+use Rattle.hir_validate.specs.Nodes.{Nodes}
+use Rattle.hir_store_core.specs.Contents.{Contents}
 use Rattle.hir_items.specs.Bodies.{BodyContents, BodyReaches, body_nodes, formals_of, last_root}
 use Rattle.hir_items.specs.Signatures.{SignatureReaches, signature_nodes}
 use Rattle.hir_scope.specs.Chains.{InContext, HasChain}

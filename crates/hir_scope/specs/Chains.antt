@@ -1,7 +1,7 @@
 -- The chain of an expression: the lexical frames around it, innermost first, found by going down from entry nodes in their contexts.
 use Rattle.std.specs.Prelude.{◌≡◌, ℕ, List, ◌∷◌, ◌++◌, map, Contains}
 use Rattle.hir_node.specs.declared.node_id.NodeId.{NodeId}
-use Rattle.hir_faults.specs.Nodes.{Nodes}
+use Rattle.hir_validate.specs.Nodes.{Nodes}
 use Rattle.hir_scope.specs.{ScopingForms.ScopingForm, ScopingForms.form_of, Frames.Chain}
 use Rattle.hir_scope.specs.ScopingForms as form
 use Rattle.hir_scope.specs.ChildContexts.{Base, Scope, ConstScope, ChildContext, child_contexts, own_frame}

@@ -3,8 +3,8 @@ use Rattle.std.specs.List.{sum_by}
 use Rattle.std.specs.Prelude.{ℕ, ◌+◌, List, Option, Some, None, length}
 use Rattle.hir_node.specs.declared.expr_types.{Item.Item, Statement.Statement}
 use Rattle.hir_node.specs.declared.node_id.NodeId.{NodeId}
-use Rattle.hir_faults.specs.Nodes.{Nodes}
-use Rattle.hir_expr_store.specs.PatLists.{bindings_at}
+use Rattle.hir_validate.specs.Nodes.{Nodes}
+use Rattle.hir_store_core.specs.PatLists.{bindings_at}
 use Rattle.hir_scope.specs.ScopingForms.{ScopingForm, form_of}
 use Rattle.hir_scope.specs.ScopingForms as form
 

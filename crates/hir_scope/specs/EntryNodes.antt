@@ -2,7 +2,7 @@
 use Rattle.std.specs.List.{flat_map}
 use Rattle.std.specs.Prelude.{ℕ, List, [], ◌∷◌, ◌++◌, Option, map}
 use Rattle.hir_node.specs.{ChildCalls.e, ChildCalls.p, ChildCalls.opt, declared.node_id.NodeId.NodeId}
-use Rattle.hir_faults.specs.{Nodes.Nodes, TestedParts.all_of}
+use Rattle.hir_validate.specs.{Nodes.Nodes, TestedParts.all_of}
 use Rattle.hir_scope.specs.Chains.{InContext, child_in_context}
 use Rattle.hir_scope.specs.Frames.{Frame, entry_at, binds, plain, empty}
 use Rattle.hir_scope.specs.ChildContexts.{in_turn}

@@ -1,8 +1,8 @@
 -- A lexical frame: what it is, and the bindings that it brings into scope, all at once.
 use Rattle.std.specs.{List.flat_map, Prelude.ℕ, Prelude.List, Prelude.[], Prelude.◌∷◌, Prelude.slice_get}
 use Rattle.hir_node.specs.declared.binding.Binding.{Binding}
-use Rattle.hir_faults.specs.{Nodes.Nodes, TestedParts.all_of}
-use Rattle.hir_expr_store.specs.PatLists.{bindings_in}
+use Rattle.hir_validate.specs.{Nodes.Nodes, TestedParts.all_of}
+use Rattle.hir_store_core.specs.PatLists.{bindings_in}
 use Rattle.hir_scope.specs.declared.scope.{ScopeEntry.ScopeEntry, ScopeKind.ScopeKind}
 
 pub record Frame : Type 0 where

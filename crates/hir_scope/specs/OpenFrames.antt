@@ -2,7 +2,7 @@
 use Rattle.std.specs.Prelude.{List, [], ◌∷◌, ◌++◌}
 use Rattle.hir_node.specs.ChildCalls.{Call, OnExpr, OnAnonConst, OnPat, OnType, OnLifetime, e, opt}
 use Rattle.hir_node.specs.declared.node_id.NodeId.{NodeId}
-use Rattle.hir_faults.specs.{Recursion.fold_down, Nodes.Nodes}
+use Rattle.hir_validate.specs.{Recursion.fold_down, Nodes.Nodes}
 use Rattle.hir_scope.specs.{ScopingForms.ScopingForm, ScopingForms.form_of, Frames.Chain, Frames.frame}
 use Rattle.hir_scope.specs.ScopingForms as form
 

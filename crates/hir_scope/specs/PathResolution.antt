@@ -6,7 +6,7 @@ use Rattle.hir_base.specs.declared.mod_path.PathKind.TheVariants.{Plain, Super}
 use Rattle.hir_path.specs.declared.ids.ExprOrPatId.TheVariants.{ExprId, PatId}
 use Rattle.hir_path.specs.declared.path.Path.{Path}
 use Rattle.hir_node.specs.declared.{expr.Expr.Expr, pat.Pat.Pat}
-use Rattle.hir_expr_store.specs.{Contents.Contents, SideTables.hygiene_of}
+use Rattle.hir_store_core.specs.{Contents.Contents, SideTables.hygiene_of}
 use Rattle.hir_scope.specs.{Paths.chain, Resolution.resolve, Scopes.Scopes}
 use Rattle.hir_scope.specs.declared.scope.ScopeEntry.{ScopeEntry}
 

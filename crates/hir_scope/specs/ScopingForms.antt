@@ -4,7 +4,7 @@ use Rattle.hir_node.specs.ChildCalls.{Call, expr_calls, pat_calls, type_calls}
 use Rattle.hir_node.specs.declared.expr.Expr.{Expr}
 use Rattle.hir_node.specs.declared.expr_types.{MatchArm.MatchArm, Statement.Statement}
 use Rattle.hir_node.specs.declared.{node_id.NodeId.NodeId, pat.Pat.Pat, type_ref.TypeRef.TypeRef}
-use Rattle.hir_faults.specs.Nodes.{Nodes}
+use Rattle.hir_validate.specs.Nodes.{Nodes}
 
 pub data ScopingForm : Type 0 where
   -- the condition, then, else

@@ -1,7 +1,7 @@
 //! The scopes of a body or a signature, made by a walk over what it reaches; and where the walk begins.
 ghost use Rattle.std.specs.Prelude.{◌≡◌, ◌+◌, ◌<◌, ◌≤◌, ◌∷◌, ◌++◌, [], length, option_map, Err, IfOk, OnErr, OnOk};
 ghost use Rattle.std.specs.List.{All, flat_map};
-ghost use Rattle.hir_faults.specs.TestedParts.{all_of};
+ghost use Rattle.hir_validate.specs.TestedParts.{all_of};
 ghost use Rattle.hir_items.specs.Bodies.{AreBelow, body_nodes, formals_of};
 ghost use Rattle.hir_scope.specs.BodyScopes.{AreBodyScopes, AreSignatureScopes, BodyIsTooLarge, SignatureIsTooLarge, expr_count};
 ghost use Rattle.hir_scope.specs.Frames.{entry_at, binds};
@@ -15,8 +15,8 @@ use crate::scope::{ScopeEntry, ScopeId, ScopeKind};
 use crate::tasks::{CurrentScopes, Task, Tasks};
 use crate::walk::Walk;
 use hir_base::{MOST_ITEMS, Steps};
-use hir_expr_store::ExpressionStore;
-use hir_expr_store::laws::{
+use hir_store_core::ExpressionStore;
+use hir_store_core::laws::{
     bindings_in_unfold, rank_decreases, nodes_are_sound, nodes_under_unfold, roots_stand_apart,
 };
 use hir_items::body_laws::entry_nodes_are_in_range;

@@ -4,9 +4,9 @@
 ghost use Rattle.std.specs.Prelude.{◌≡◌, ◌<◌, ◌≤◌, ◌∷◌, ℕ, None, Some, List, Option, IsPermutation, length, map, slice_get};
 ghost use Rattle.std.specs.List.{All, flat_map};
 ghost use Rattle.hir_node.specs.declared.node_id.NodeId.{NodeId};
-ghost use Rattle.hir_faults.specs.Nodes.{Nodes, Has, children_of};
-ghost use Rattle.hir_expr_store.specs.Contents.{Contents, contents_fault};
-ghost use Rattle.hir_expr_store.specs.Under.{IsReached};
+ghost use Rattle.hir_validate.specs.Nodes.{Nodes, Has, children_of};
+ghost use Rattle.hir_store_core.specs.Contents.{Contents, contents_fault};
+ghost use Rattle.hir_store_core.specs.Under.{IsReached};
 ghost use Rattle.hir_scope.specs.OpenFrames.{open_frames, open_frames_step};
 ghost use Rattle.hir_scope.specs.ScopingForms.{form_of};
 ghost use Rattle.hir_scope.specs.Order.{met_in_form};
@@ -18,7 +18,7 @@ ghost use Rattle.hir_items.specs.Bodies.{BodyContents, body_fault};
 ghost use Rattle.hir_scope.specs.Scopes.{Scope, ScopeIsInRange, ParentsStandEarlier};
 ghost use Rattle.hir_scope.specs.Paths.{path};
 
-use hir_expr_store::laws::{
+use hir_store_core::laws::{
     rank_decreases, children_are_disjoint, one_parent, roots_are_disjoint, roots_stand_apart,
 };
 use hir_items::body_laws::{entry_nodes_are_in_range, entry_nodes_are_disjoint};

@@ -7,7 +7,7 @@ use crate::expr_scopes::ExprScopes;
 use crate::fault::ScopesFault;
 use hir_base::{DefWithBodyId, ExpressionStoreOwnerId, GenericDefId, VariantId};
 use hir_defs::{StoreOf, Tables};
-use hir_expr_store::ExpressionStore;
+use hir_store_core::ExpressionStore;
 use hir_items::Body;
 use std::alloc::Global;
 

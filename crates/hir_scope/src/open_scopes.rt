@@ -14,8 +14,8 @@ use crate::fault::ScopesFault;
 use crate::scope::ScopeKind;
 use crate::walk::Walk;
 use hir_base::BlockId;
-use hir_expr_store::ExpressionStore;
-use hir_expr_store::laws::rank_decreases;
+use hir_store_core::ExpressionStore;
+use hir_store_core::laws::rank_decreases;
 use hir_node::{Expr, ExprId, LabelId, PatId};
 
 fn loop_kind(label: Option<LabelId>) -> ScopeKind

@@ -8,7 +8,7 @@ ghost use Rattle.hir_scope.specs.PathResolution.{local_name, binding_at, resolve
 use crate::expr_scopes::ExprScopes;
 use crate::scope::{ScopeEntry, ScopeId};
 use hir_base::{HygieneId, Name, PathKind};
-use hir_expr_store::ExpressionStore;
+use hir_store_core::ExpressionStore;
 use hir_node::{BindingId, Expr, ExprId, Pat, PatId, Path};
 
 /// The name by which a path may mean a local variable: that of a path of one name without arguments, and `self` for the path `self`.

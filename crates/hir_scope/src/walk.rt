@@ -1,6 +1,6 @@
 //! The walk that gives each expression its scope: one loop over what is still to do.
 ghost use Rattle.std.specs.Prelude.{◌≡◌, ◌≤◌, ◌+◌, [], length, Err, IfOk, IsTrue, OnErr};
-ghost use Rattle.hir_faults.specs.Nodes.{Nodes};
+ghost use Rattle.hir_validate.specs.Nodes.{Nodes};
 ghost use Rattle.hir_scope.specs.ScopingForms.{InTurn, expr_form};
 ghost use Rattle.hir_scope.specs.walk.Pending.{guarded_task};
 ghost use Rattle.hir_scope.specs.walk.WalkState.{with_next, walk_state, state, future_of, scope_within, IsReady, Exceeds, EntersExpr, Step, CountedStep, WalkSteps};
@@ -10,8 +10,8 @@ use crate::fault::ScopesFault;
 use crate::scope::{ScopeEntry, ScopeId, ScopeKind};
 use crate::tasks::{CurrentScopes, Task, Tasks};
 use hir_base::Steps;
-use hir_expr_store::ExpressionStore;
-use hir_expr_store::laws::rank_decreases;
+use hir_store_core::ExpressionStore;
+use hir_store_core::laws::rank_decreases;
 use hir_node::{Expr, ExprId, PatId, Path, TypeRefId};
 
 /// A walk: the scopes so far, those around what is met next, and what is still to do.

@@ -1,8 +1,8 @@
 //! Reads lines that build an expression store and questions on it from standard input, and answers the questions.
 #![tactic(auto)]
 
-use hir_io::StdEnd;
-use hir_run::run_and_report;
+use hir_show_io::StdEnd;
+use hir_show_run::run_and_report;
 use std::process::ExitCode;
 
 fn main(rt: HostRuntime) -> ExitCode {

@@ -1,12 +1,12 @@
 -- The first fault of a builder: that roots are missing, or that of its nodes with its roots.
 use Rattle.std.proofs.Common.{Option, Some, None, refl, inl, inr}
 use Rattle.hir_forest.proofs.VerdictLemmas.{IsOne, unless-one, before-one}
-use Rattle.hir_faults.specs.declared.fault.FinishFault.{FinishFault}
-use Rattle.hir_faults.specs.declared.fault.FinishFault.TheVariants.{NoRoots}
-use Rattle.hir_expr_store.specs.declared.side_tables.SideTables.{SideTables}
-use Rattle.hir_expr_store.specs.Contents.{rooted_of, contents_fault}
+use Rattle.hir_validate.specs.declared.fault.FinishFault.{FinishFault}
+use Rattle.hir_validate.specs.declared.fault.FinishFault.TheVariants.{NoRoots}
+use Rattle.hir_store_core.specs.declared.side_tables.SideTables.{SideTables}
+use Rattle.hir_store_core.specs.Contents.{rooted_of, contents_fault}
 use Rattle.hir_store.specs.Building.{Building, HasRoots, contents_of, finish_fault}
-use Rattle.hir_faults.proofs.FirstFaultLemmas.{rooted_fault-one}
+use Rattle.hir_validate.proofs.FirstFaultLemmas.{rooted_fault-one}
 
 pub no_roots : (b : Building) → (HasRoots b → ⊥) → finish_fault b (Some NoRoots)
 unfolding finish_fault

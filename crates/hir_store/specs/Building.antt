@@ -4,14 +4,14 @@ use Rattle.std.specs.FinMap as map
 use Rattle.std.specs.declared.alloc.Global.{Global}
 use Rattle.hir_forest.specs.declared.roots.Root.{Root}
 use Rattle.hir_forest.specs.Verdict.{◌unless◌, ◌before◌}
-use Rattle.hir_faults.specs.declared.fault.FinishFault.{FinishFault}
-use Rattle.hir_faults.specs.declared.fault.FinishFault.TheVariants.{NoRoots}
-use Rattle.hir_faults.specs.Nodes.{Nodes}
-use Rattle.hir_faults.specs.Faults.{ends_of}
-use Rattle.hir_expr_store.specs.declared.side_tables.SideTables.{SideTables}
-use Rattle.hir_expr_store.specs.SideTables.{no_side_tables}
-use Rattle.hir_expr_store.specs.Contents.{Contents, contents_fault}
-use Rattle.hir_source.specs.Additions.{HasSameMaps, no_sources}
+use Rattle.hir_validate.specs.declared.fault.FinishFault.{FinishFault}
+use Rattle.hir_validate.specs.declared.fault.FinishFault.TheVariants.{NoRoots}
+use Rattle.hir_validate.specs.Nodes.{Nodes}
+use Rattle.hir_validate.specs.Faults.{ends_of}
+use Rattle.hir_store_core.specs.declared.side_tables.SideTables.{SideTables}
+use Rattle.hir_store_core.specs.SideTables.{no_side_tables}
+use Rattle.hir_store_core.specs.Contents.{Contents, contents_fault}
+use Rattle.hir_source_map.specs.Additions.{HasSameMaps, no_sources}
 use Rattle.hir_store.specs.declared.builder.ExpressionStoreBuilder.{ExpressionStoreBuilder}
 
 -- the nodes and what they name, the roots where a list of them was begun, and the side tables

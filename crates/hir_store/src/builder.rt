@@ -3,17 +3,17 @@
 ghost use Rattle.std.specs.Prelude.{◌≡◌, ◌≤◌, [], ◌∷◌, ◌++◌, length, Err, None, IfOk, IfErr, OnOk, OnErr};
 ghost use Rattle.std.specs.FinMap as map;
 ghost use Rattle.hir_path.specs.Keys.{expr_or_pat_code};
-ghost use Rattle.hir_source.specs.Additions.{finish_sources};
+ghost use Rattle.hir_source_map.specs.Additions.{finish_sources};
 ghost use Rattle.hir_store.specs.Building.{nodes_of, building_of, empty_builder, contents_of, has_exprs, kept_side_tables, roots_or_none, finish_fault, and_root, some_roots};
-ghost use Rattle.hir_faults.specs.Faults.{nodes_in};
-ghost use Rattle.hir_faults.specs.Nodes.{graph, sizes_of};
+ghost use Rattle.hir_validate.specs.Faults.{nodes_in};
+ghost use Rattle.hir_validate.specs.Nodes.{graph, sizes_of};
 ghost use Rattle.hir_forest.specs.Parents.{HasParents};
-ghost use Rattle.hir_expr_store.specs.PatLinks.{HasPatLinks};
-ghost use Rattle.hir_faults.specs.Sizes.{Few};
+ghost use Rattle.hir_store_core.specs.PatLinks.{HasPatLinks};
+ghost use Rattle.hir_validate.specs.Sizes.{Few};
 
 use hir_base::{Arena, ArenaFault, BlockId, HygieneId, MOST_ITEMS, Seq, Table};
-use hir_expr_store::{ExpressionStore, KeptParts, RootList, SideTables, StoreParts};
-use hir_faults::{FinishFault, NodeSlices};
+use hir_store_core::{ExpressionStore, KeptParts, RootList, SideTables, StoreParts};
+use hir_validate::{FinishFault, NodeSlices};
 use hir_forest::Root;
 use hir_node::{
     Binding, BindingId, BindingKind, Expr, ExprId, ExprKind, ExprOrPatId, Label, LabelId,
@@ -21,7 +21,7 @@ use hir_node::{
     TypeRefId, TypeRefKind,
 };
 use hir_rare::LazyBox;
-use hir_source::{ExpressionStoreSourceMap, SourceMapBuilder};
+use hir_source_map::{ExpressionStoreSourceMap, SourceMapBuilder};
 use std::alloc::{AllocError, AllocFailed, Global};
 use std::fmt::{self, Display};
 use std::mem::replace;
@@ -75,7 +75,7 @@ pub struct Refused {
 
 /// The text of its fault.
 impl Display for Refused {
-    ghost use Rattle.hir_faults.specs.contracts.fault.FinishFaultDisplay.TheImpl as finish;
+    ghost use Rattle.hir_validate.specs.contracts.fault.FinishFaultDisplay.TheImpl as finish;
 
     ghost output = { λ refused. finish.ghosts.output refused.fault };
 

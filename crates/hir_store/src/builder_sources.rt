@@ -1,7 +1,7 @@
 //! Recording in a builder where its nodes come from: each call adds one entry to one map of its source map.
 
 ghost use Rattle.std.specs.Prelude.{◌≡◌, OnOk, OnErr, IfErr};
-ghost use Rattle.hir_source.specs.Additions.{with_expr, with_expr_back, with_pat, with_pat_back, with_label, with_label_back, with_type, with_type_back, with_lifetime, with_lifetime_back, with_field_back, with_pat_field_back, with_expansion, with_definition, with_diagnostic};
+ghost use Rattle.hir_source_map.specs.Additions.{with_expr, with_expr_back, with_pat, with_pat_back, with_label, with_label_back, with_type, with_type_back, with_lifetime, with_lifetime_back, with_field_back, with_pat_field_back, with_expansion, with_definition, with_diagnostic};
 
 use crate::builder::ExpressionStoreBuilder;
 use hir_base::{
@@ -9,7 +9,7 @@ use hir_base::{
     MacroCallPtr, PatFieldSource, PatSource, TypeSource,
 };
 use hir_node::{BindingId, ExprId, ExprOrPatId, LabelId, LifetimeRefId, PatId, TypeRefId};
-use hir_source::{ExpressionStoreDiagnostics, define};
+use hir_source_map::{ExpressionStoreDiagnostics, define};
 use std::alloc::AllocFailed;
 
 impl ExpressionStoreBuilder {

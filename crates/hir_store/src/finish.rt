@@ -2,17 +2,17 @@
 
 ghost use Rattle.std.specs.Prelude.{◌≡◌, ◌⊎◌, ◌↔◌, IsTrue, IfOk, IfErr, None, Some};
 ghost use Rattle.hir_forest.specs.Parents.{HasParents};
-ghost use Rattle.hir_faults.specs.Nodes.{graph};
-ghost use Rattle.hir_expr_store.specs.PatLinks.{HasPatLinks};
-ghost use Rattle.hir_source.specs.Additions.{finish_sources};
+ghost use Rattle.hir_validate.specs.Nodes.{graph};
+ghost use Rattle.hir_store_core.specs.PatLinks.{HasPatLinks};
+ghost use Rattle.hir_source_map.specs.Additions.{finish_sources};
 ghost use Rattle.hir_store.specs.Building.{nodes_of, building_of, contents_of, roots_or_none, HasRoots, has_exprs, finish_fault};
 
 use crate::builder::{ExpressionStoreBuilder, Refused};
-use hir_expr_store::{ExpressionStore, KeptParts, PatLinks};
-use hir_faults::{FinishFault, validated_parents};
+use hir_store_core::{ExpressionStore, KeptParts, PatLinks};
+use hir_validate::{FinishFault, validated_parents};
 use hir_forest::{Parents, Root};
 use hir_rare::LazyBox;
-use hir_source::ExpressionStoreSourceMap;
+use hir_source_map::ExpressionStoreSourceMap;
 
 impl ExpressionStoreBuilder {
     /// Whether a list of roots was begun, or nothing needs one.

@@ -3,11 +3,11 @@
 
 ghost use Rattle.std.specs.Prelude.{◌≡◌, Option};
 ghost use Rattle.std.specs.Bool.{Decides};
-ghost use Rattle.hir_faults.specs.declared.fault.FinishFault.{FinishFault};
+ghost use Rattle.hir_validate.specs.declared.fault.FinishFault.{FinishFault};
 ghost use Rattle.hir_store.specs.Building.{Building, HasTheSame, finish_fault};
 
 use crate::builder::ExpressionStoreBuilder;
-pub use hir_expr_store::laws::{
+pub use hir_store_core::laws::{
     ByChildren, bindings_in_unfold, bounds_and_args_of_nodes_fit, children_are_disjoint,
     children_of_reached_are_reached, contents_are_a_forest, descendants_are_in_range,
     exprs_in_unfold, fold_down_unfold, nodes_are_sound, nodes_under_unfold, one_parent,

@@ -9,12 +9,12 @@ pub mod laws;
 
 pub use builder::{ExpressionStoreBuilder, Refused};
 pub use hir_base::SyntheticSyntax;
-pub use hir_expr_store::{
+pub use hir_store_core::{
     Blocks, ExprRoots, ExpressionStore, Missing, NodeSet, Stored, TypeBoundExt,
 };
-pub use hir_faults::FinishFault;
+pub use hir_validate::FinishFault;
 pub use hir_node::{NodeId, StoreVisitor, StoreVisitorExt, visit_generic_args};
-pub use hir_source::{
+pub use hir_source_map::{
     Expansions, ExpressionStoreDiagnostics, ExpressionStoreSourceMap, MacroCalls,
     MissingBodyItemKind,
 };

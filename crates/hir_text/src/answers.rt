@@ -1,6 +1,6 @@
 //! The answers to the questions of a text, and why a text isn't read to its end.
 
-use hir_notation::Answer;
+use hir_text_nodes::Answer;
 use std::alloc::{AllocError, AllocFailed, Global};
 
 /// Why a text isn't read to its end.

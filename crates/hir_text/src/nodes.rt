@@ -1,9 +1,9 @@
 //! The nodes that lines have made so far, and the store that questions ask.
 
-use hir_defs_text::{Finished, Subject};
-use hir_notation::{Answer, TextError, Words};
+use hir_text_defs::{Finished, Subject};
+use hir_text_nodes::{Answer, TextError, Words};
 use hir_store::{ExpressionStoreBuilder, FinishFault};
-use hir_store_text::{answer_unknown, refuse};
+use hir_text_store::{answer_unknown, refuse};
 use std::alloc::{AllocError, Global};
 use std::mem;
 
@@ -49,7 +49,7 @@ impl Nodes {
         word: &[u8],
         words: &mut Words<'_>,
     ) -> Result<bool, TextError> {
-        let is_taken = hir_store_text::make(alloc, &mut self.builder, word, words)?;
+        let is_taken = hir_text_store::make(alloc, &mut self.builder, word, words)?;
         self.has_lines = self.has_lines || is_taken;
         Ok(is_taken)
     }

@@ -2,9 +2,9 @@
 
 ghost use Rattle.std.specs.Prelude.{◌≡◌, ◌++◌, IsFalse, IsTrue, false};
 
-use hir_io::{EndFailed, Sink, Source};
-use hir_notation::{Answer, TextError, Words};
-use hir_run::{report, run as run_program};
+use hir_show_io::{EndFailed, Sink, Source};
+use hir_text_nodes::{Answer, TextError, Words};
+use hir_show_run::{report, run as run_program};
 use std::alloc::{AllocError, Global};
 use std::mem;
 

@@ -3,9 +3,9 @@
 use crate::{faults, scopes, texts};
 use hir_base::ExpressionStoreOwnerId;
 use hir_defs::{StoreOf, Tables};
-use hir_defs_text::{Subject, asked_body};
-use hir_notation::{Answer, TextError, Words};
-use hir_source::SourceMapBuilder;
+use hir_text_defs::{Subject, asked_body};
+use hir_text_nodes::{Answer, TextError, Words};
+use hir_source_map::SourceMapBuilder;
 use hir_store::{ExpressionStore, ExpressionStoreSourceMap};
 use std::alloc::Global;
 
@@ -21,7 +21,7 @@ pub(crate) fn ask_tables(
     answer: &mut Answer,
 ) -> Result<bool, TextError> {
     Ok(
-        hir_defs_text::ask(alloc, tables, word, words, answer)?
+        hir_text_defs::ask(alloc, tables, word, words, answer)?
             || texts::ask_of_tables(alloc, tables, word, words, answer)?
             || faults::ask(alloc, word, words, answer)?,
     )
@@ -49,13 +49,13 @@ fn ask_store(
 ) -> Result<bool, TextError> {
     let body = asked_body(tables, owner);
     Ok(
-        hir_defs_text::ask_of_body(body, word, words, answer)?
+        hir_text_defs::ask_of_body(body, word, words, answer)?
             || scopes::ask(alloc, kept_store(kept), store, body, word, words, answer)?
             || scopes::ask_of_tables(alloc, tables, store, owner, word, words, answer)?
             || texts::ask_of_store(alloc, tables, store, owner, word, words, answer)?
             || texts::ask_of_body(alloc, tables, owner, word, words, answer)?
-            || hir_store_text::ask_kept(kept, store, sources, word, words, answer)?
-            || hir_store_text::ask(alloc, store, sources, word, words, answer)?,
+            || hir_text_store::ask_kept(kept, store, sources, word, words, answer)?
+            || hir_text_store::ask(alloc, store, sources, word, words, answer)?,
     )
 }
 

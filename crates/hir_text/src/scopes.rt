@@ -7,13 +7,13 @@ use hir_base::{
 };
 use hir_captures::{CapturesFault, captures};
 use hir_defs::{Body, Tables};
-use hir_defs_text::asked_body;
+use hir_text_defs::asked_body;
 use hir_node::{BindingId, ExprId};
-use hir_notation::{Answer, TextError, Words, next_hygiene, next_owner, opt_hygiene};
+use hir_text_nodes::{Answer, TextError, Words, next_hygiene, next_owner, opt_hygiene};
 use hir_scope::{Expansion, ExprScopes, ScopeEntry, ScopeId, ScopesFault};
 use hir_store::ExpressionStore;
-use hir_store_text::{answer_unknown, differs, refuse, write_same};
-use hir_words::value_of;
+use hir_text_store::{answer_unknown, differs, refuse, write_same};
+use hir_text_words::value_of;
 use std::alloc::{AllocError, Global};
 use std::collections::HashMap;
 

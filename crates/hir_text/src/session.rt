@@ -6,12 +6,12 @@ use crate::program;
 use crate::questions::{ask_empty, ask_subject, ask_tables};
 use hir_base::ExpressionStoreOwnerId;
 use hir_defs::{StoreOf, Tables};
-use hir_defs_text::{Definition, Finished, Pending, Subject};
-use hir_expr_store::Missing;
-use hir_notation::{Answer, TextError, Words, next_owner};
+use hir_text_defs::{Definition, Finished, Pending, Subject};
+use hir_store_core::Missing;
+use hir_text_nodes::{Answer, TextError, Words, next_owner};
 use hir_store::ExpressionStore;
-use hir_store_text::{answer_unknown, refuse_missing};
-use hir_words::value_of;
+use hir_text_store::{answer_unknown, refuse_missing};
+use hir_text_words::value_of;
 use std::alloc::{AllocError, Global};
 use std::mem;
 
@@ -229,7 +229,7 @@ fn define(
     answer: &mut Answer,
 ) -> Result<(), TextError> {
     if let Some(finished) = nodes.take_store(alloc, answer)? {
-        nodes.subject = hir_defs_text::make(alloc, definition, finished, pending, tables, answer)?;
+        nodes.subject = hir_text_defs::make(alloc, definition, finished, pending, tables, answer)?;
     }
     Ok(())
 }
@@ -301,7 +301,7 @@ impl Lines for Session {
         if self.nodes.line(self.alloc, word, words)?
             || program::line(self.alloc, &mut self.input, word, words)?
             || self.pending.line(self.alloc, word, words)?
-            || hir_defs_text::line(self.alloc, &mut self.tables, word, words)?
+            || hir_text_defs::line(self.alloc, &mut self.tables, word, words)?
         {
             return Ok(true);
         }
@@ -323,7 +323,7 @@ impl Lines for Session {
             self.do_change(change, words, answer)?;
             return Ok(true);
         }
-        let Some(definition) = hir_defs_text::read(self.alloc, word, words)? else {
+        let Some(definition) = hir_text_defs::read(self.alloc, word, words)? else {
             return Ok(false);
         };
         define(

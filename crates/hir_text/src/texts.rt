@@ -5,9 +5,9 @@ use hir_base::{
     VariantId,
 };
 use hir_defs::{Body, Tables};
-use hir_defs_text::asked_def;
+use hir_text_defs::asked_def;
 use hir_node::{ExprId, PatId, Path};
-use hir_notation::{
+use hir_text_nodes::{
     Answer, TextError, Words, as_def_with_body, as_generic, as_variant, next_def, next_path,
     opt_edition, read_def,
 };
@@ -16,8 +16,8 @@ use hir_pretty::{
     print_path, print_signature, print_struct, print_variant_body_hir,
 };
 use hir_store::ExpressionStore;
-use hir_store_text::{answer_unknown, refuse_missing};
-use hir_words::value_of;
+use hir_text_store::{answer_unknown, refuse_missing};
+use hir_text_words::value_of;
 use std::alloc::Global;
 
 /// The owner of a store; function 0 where it has none.

@@ -1,4 +1,4 @@
-//! The rows of `crates/hir_rows/data`: what is built, what is asked, and what comes.
+//! The rows of `crates/hir_golden/data`: what is built, what is asked, and what comes.
 
 use std::fs;
 use std::path::{Path, PathBuf};
@@ -12,7 +12,7 @@ pub struct Row {
 }
 
 fn data() -> PathBuf {
-    Path::new(env!("CARGO_MANIFEST_DIR")).join("../crates/hir_rows/data")
+    Path::new(env!("CARGO_MANIFEST_DIR")).join("../crates/hir_golden/data")
 }
 
 fn rows_of(path: &Path) -> Vec<Row> {

@@ -3,7 +3,7 @@ use Rattle.std.specs.List.{flat_map, AllByRecursion}
 use Rattle.std.specs.Prelude.{ℕ, List, [], ◌∷◌, Option, Some, None}
 use Rattle.hir_node.specs.ChildCalls.{Call, OnExpr, OnAnonConst, OnPat, OnType, OnLifetime}
 use Rattle.hir_node.specs.declared.node_id.NodeId.{NodeId}
-use Rattle.hir_faults.specs.Nodes.{Nodes, Has}
+use Rattle.hir_validate.specs.Nodes.{Nodes, Has}
 use Rattle.hir_captures.specs.{Uses.Spot, Uses.code_under, declared.tasks.Task.Task}
 
 -- the task of a pattern, in the target of an assignment or in none

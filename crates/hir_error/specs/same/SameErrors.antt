@@ -3,12 +3,12 @@ use Rattle.std.specs.Prelude.{◌≡◌}
 use Rattle.std.specs.Bool.{Decides}
 use Rattle.hir_base.specs.Exact.{exact}
 use Rattle.hir_base.specs.Variants.{values_decide, then, last}
-use Rattle.hir_expr_store.specs.declared.missing.Missing.{Missing}
-use Rattle.hir_expr_store.specs.contracts.missing.Missing as definitions
-use Rattle.hir_expr_store.specs.contracts.missing.MissingPartialEq.TheImpl as definition
-use Rattle.hir_printer.specs.declared.fault.PrintFault.{PrintFault}
-use Rattle.hir_printer.specs.contracts.fault.PrintFault as prints
-use Rattle.hir_printer.specs.contracts.fault.PrintFaultPartialEq.TheImpl as print
+use Rattle.hir_store_core.specs.declared.missing.Missing.{Missing}
+use Rattle.hir_store_core.specs.contracts.missing.Missing as definitions
+use Rattle.hir_store_core.specs.contracts.missing.MissingPartialEq.TheImpl as definition
+use Rattle.hir_pretty_nodes.specs.declared.fault.PrintFault.{PrintFault}
+use Rattle.hir_pretty_nodes.specs.contracts.fault.PrintFault as prints
+use Rattle.hir_pretty_nodes.specs.contracts.fault.PrintFaultPartialEq.TheImpl as print
 use Rattle.hir_error.specs.declared.error.HirError.{HirError}
 use Rattle.hir_error.specs.contracts.error.HirError.{enum}
 use Rattle.hir_error.specs.contracts.error.HirErrorPartialEq.TheImpl as error

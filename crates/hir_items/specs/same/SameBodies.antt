@@ -8,9 +8,9 @@ use Rattle.hir_base.specs.contracts.idx.IdxPartialEq.TheImpl as id
 use Rattle.hir_path.specs.same.Fields.{and_decides, both}
 use Rattle.hir_path.specs.contracts.ids.PatKind as pat
 use Rattle.hir_path.specs.contracts.ids.BindingKind as binding
-use Rattle.hir_source.specs.ComparedPart.{compared_part}
-use Rattle.hir_source.specs.same.SameMaps.{maps_decide}
-use Rattle.hir_expr_store.specs.same.SameStores.{stores_decide}
+use Rattle.hir_source_map.specs.ComparedPart.{compared_part}
+use Rattle.hir_source_map.specs.same.SameMaps.{maps_decide}
+use Rattle.hir_store_core.specs.same.SameStores.{stores_decide}
 use Rattle.hir_items.specs.declared.body_source_map.BodySourceMap.{BodySourceMap}
 use Rattle.hir_items.specs.declared.formals.Param.{Param}
 use Rattle.hir_items.specs.contracts.body.BodyPartialEq.TheImpl as body

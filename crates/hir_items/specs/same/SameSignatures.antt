@@ -9,7 +9,7 @@ use Rattle.hir_path.specs.same.Fields.{and_decides, both}
 use Rattle.hir_path.specs.same.Leaves.{names_decide, mod_paths_decide}
 use Rattle.hir_node.specs.same.Leaves.{abis_decide}
 use Rattle.hir_node.specs.same.SameStructs.{flags_decide}
-use Rattle.hir_expr_store.specs.same.SameStores.{stores_decide}
+use Rattle.hir_store_core.specs.same.SameStores.{stores_decide}
 use Rattle.hir_items.specs.same.SameGenerics.{generics_decide}
 use Rattle.hir_items.specs.declared.signatures.FieldsShape.{FieldsShape}
 use Rattle.hir_items.specs.declared.signatures.RawVisibility.{RawVisibility}

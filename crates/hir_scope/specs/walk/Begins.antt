@@ -5,11 +5,11 @@ use Rattle.std.specs.Prelude.{◌≡◌, ℕ, ◌<◌, suc, List, [], ◌∷◌,
 use Rattle.hir_node.specs.ChildCalls.{e, p, opt}
 use Rattle.hir_node.specs.declared.{node_id.NodeId.NodeId, pat.Pat.Pat}
 use Rattle.hir_forest.specs.Faults.{root_nodes}
-use Rattle.hir_faults.specs.{Recursion.RankDecreases, Nodes.Nodes, Nodes.Has, Nodes.children_of, Sound.IsSoundNode}
-use Rattle.hir_faults.specs.TestedParts.{tested_pat}
-use Rattle.hir_expr_store.specs.Contents.{Contents}
-use Rattle.hir_expr_store.specs.PatLists.{bindings_at, bindings_in, child_pats_of}
-use Rattle.hir_expr_store.specs.Under.{nodes_under}
+use Rattle.hir_validate.specs.{Recursion.RankDecreases, Nodes.Nodes, Nodes.Has, Nodes.children_of, Sound.IsSoundNode}
+use Rattle.hir_validate.specs.TestedParts.{tested_pat}
+use Rattle.hir_store_core.specs.Contents.{Contents}
+use Rattle.hir_store_core.specs.PatLists.{bindings_at, bindings_in, child_pats_of}
+use Rattle.hir_store_core.specs.Under.{nodes_under}
 use Rattle.hir_items.specs.Bodies.{BodyContents, AreBelow, formals_of, last_root, entry_nodes}
 use Rattle.hir_items.specs.Signatures.{root_entry_nodes}
 use Rattle.hir_scope.specs.{Scopes.Scope, Scopes.Scopes, EntryNodes.root_frame}

@@ -4,7 +4,7 @@ use Rattle.std.specs.Prelude.{ℕ, List, [], ◌∷◌, ◌++◌, map, Option, S
 use Rattle.hir_node.specs.ChildCalls.{Call, OnExpr, OnAnonConst, OnPat, OnType, OnLifetime, e, t, opt, children}
 use Rattle.hir_node.specs.declared.expr_types.{Item.Item, MatchArm.MatchArm, Statement.Statement}
 use Rattle.hir_node.specs.declared.node_id.NodeId.{NodeId}
-use Rattle.hir_faults.specs.Nodes.{Nodes}
+use Rattle.hir_validate.specs.Nodes.{Nodes}
 use Rattle.hir_stack.specs.Stacks.{StackItems, Defers}
 use Rattle.hir_scope.specs.{Chains.InContext, Chains.child_in_context, ScopingForms.ScopingForm}
 use Rattle.hir_scope.specs.ScopingForms as form

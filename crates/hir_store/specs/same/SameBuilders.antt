@@ -13,8 +13,8 @@ use Rattle.hir_node.specs.same.SameTypes.{types_decide}
 use Rattle.hir_node.specs.same.SameStructs.{bindings_decide}
 use Rattle.hir_node.specs.contracts.binding.LabelExactEq.TheImpl.Laws as labels_law
 use Rattle.hir_node.specs.contracts.type_ref.LifetimeRefExactEq.TheImpl.Laws as lifetimes_law
-use Rattle.hir_source.specs.same.SameBuilders.{builders_decide as source_maps_decide}
-use Rattle.hir_expr_store.specs.same.SameRoots.{root_lists_decide}
+use Rattle.hir_source_map.specs.same.SameBuilders.{builders_decide as source_maps_decide}
+use Rattle.hir_store_core.specs.same.SameRoots.{root_lists_decide}
 use Rattle.hir_store.specs.declared.builder.ExpressionStoreBuilder.{ExpressionStoreBuilder}
 use Rattle.hir_store.specs.contracts.builder.ExpressionStoreBuilderPartialEq.TheImpl as builders
 use Rattle.hir_store.specs.Building.{HasTheSame}

@@ -1,5 +1,5 @@
 use Rattle.std.proofs.Common.{ℕ, ◌<◌, None}
-use Rattle.hir_expr_store.specs.NodeSets.{IsIn}
+use Rattle.hir_store_core.specs.NodeSets.{IsIn}
 use Rattle.hir_items.specs.Bodies.{formals_of, under_fault}
 use Rattle.hir_items.proofs.formals.first_under.Given as goal
 

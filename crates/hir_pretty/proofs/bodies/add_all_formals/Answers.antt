@@ -1,4 +1,4 @@
-use Rattle.hir_printer.proofs.Common.{refl, adds_more, left_begins, left_goes_on, left_ends}
+use Rattle.hir_pretty_nodes.proofs.Common.{refl, adds_more, left_begins, left_goes_on, left_ends}
 use Rattle.hir_pretty.proofs.ListLemmas.{formals_begin, formals_step, formals_end}
 use Rattle.hir_pretty.proofs.bodies.add_all_formals.Goals as goal
 

@@ -1,4 +1,4 @@
-use Rattle.hir_printer.proofs.Common.{refl, sym, on_ok_weaker, adds_then, adds_more, adds_as}
+use Rattle.hir_pretty_nodes.proofs.Common.{refl, sym, on_ok_weaker, adds_then, adds_more, adds_as}
 use Rattle.hir_pretty.proofs.bodies.add_body.Goals as goal
 
 pub returns : goal.returns

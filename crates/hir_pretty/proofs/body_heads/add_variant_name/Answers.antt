@@ -1,4 +1,4 @@
-use Rattle.hir_printer.proofs.Common.{◌∷◌, [], ap, on_ok_weaker, MissingDoc, adds}
+use Rattle.hir_pretty_nodes.proofs.Common.{◌∷◌, [], ap, on_ok_weaker, MissingDoc, adds}
 use Rattle.hir_pretty.proofs.body_heads.add_variant_name.Goals as goal
 
 pub returns-in-Ok : goal.returns-in-Ok

@@ -1,4 +1,4 @@
-use Rattle.hir_printer.proofs.Common.{on_ok_weaker, adds_then, adds_more}
+use Rattle.hir_pretty_nodes.proofs.Common.{on_ok_weaker, adds_then, adds_more}
 use Rattle.hir_pretty.proofs.fields.add_field.Goals as goal
 
 pub returns : goal.returns

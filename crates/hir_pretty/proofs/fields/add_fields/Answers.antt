@@ -1,4 +1,4 @@
-use Rattle.hir_printer.proofs.Common.{refl, on_ok_weaker, adds_then, left_begins, left_goes_on, left_ends, each_step, each_ends}
+use Rattle.hir_pretty_nodes.proofs.Common.{refl, on_ok_weaker, adds_then, left_begins, left_goes_on, left_ends, each_step, each_ends}
 use Rattle.hir_pretty.specs.Variants.{field_line}
 use Rattle.hir_pretty.proofs.fields.add_fields.Goals as goal
 

@@ -1,4 +1,4 @@
-use Rattle.hir_printer.proofs.Common.{drop, flat_map, printing_of, AddsRest}
+use Rattle.hir_pretty_nodes.proofs.Common.{drop, flat_map, printing_of, AddsRest}
 use Rattle.hir_pretty.specs.Variants.{field_line}
 use Rattle.hir_pretty.proofs.fields.add_fields.Given as goal
 

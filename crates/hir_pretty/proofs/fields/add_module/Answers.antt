@@ -1,4 +1,4 @@
-use Rattle.hir_printer.proofs.Common.{map, on_ok_weaker, name_docs, adds_then, adds_as}
+use Rattle.hir_pretty_nodes.proofs.Common.{map, on_ok_weaker, name_docs, adds_then, adds_as}
 use Rattle.hir_pretty.proofs.ListLemmas.{module_is}
 use Rattle.hir_pretty.proofs.fields.add_module.Goals as goal
 

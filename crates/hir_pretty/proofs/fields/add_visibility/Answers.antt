@@ -1,4 +1,4 @@
-use Rattle.hir_printer.proofs.Common.{refl, on_ok_weaker, adds, adds_then, adds_more}
+use Rattle.hir_pretty_nodes.proofs.Common.{refl, on_ok_weaker, adds, adds_then, adds_more}
 use Rattle.hir_pretty.proofs.fields.add_visibility.Goals as goal
 
 pub returns-in_ok-add_module-in-Module : goal.returns-in_ok-add_module-in-Module

@@ -1,4 +1,4 @@
-use Rattle.hir_printer.proofs.Common.{ap, sym, ◌∙◌, get_or, false, arith, on_ok_weaker, comma_joined, adds_as}
+use Rattle.hir_pretty_nodes.proofs.Common.{ap, sym, ◌∙◌, get_or, false, arith, on_ok_weaker, comma_joined, adds_as}
 use Rattle.hir_pretty.proofs.ListLemmas.{plain_arguments, marked_arguments}
 use Rattle.hir_pretty.proofs.functions.add_arguments.Goals as goal
 

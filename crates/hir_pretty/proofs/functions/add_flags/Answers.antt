@@ -1,4 +1,4 @@
-use Rattle.hir_printer.proofs.Common.{on_ok_weaker, adds_then}
+use Rattle.hir_pretty_nodes.proofs.Common.{on_ok_weaker, adds_then}
 use Rattle.hir_pretty.proofs.functions.add_flags.Goals as goal
 
 pub returns : goal.returns

@@ -1,4 +1,4 @@
-use Rattle.hir_printer.proofs.Common.{refl, on_ok_weaker, adds_then, adds_more, adds_as}
+use Rattle.hir_pretty_nodes.proofs.Common.{refl, on_ok_weaker, adds_then, adds_more, adds_as}
 use Rattle.hir_pretty.proofs.functions.add_function.Goals as goal
 
 pub returns : goal.returns

@@ -1,4 +1,4 @@
-use Rattle.hir_printer.proofs.Common.{codes, map, drop, nat_lt, enumerate_from, text, comma_joined, printing_of, following, AddsRest}
+use Rattle.hir_pretty_nodes.proofs.Common.{codes, map, drop, nat_lt, enumerate_from, text, comma_joined, printing_of, following, AddsRest}
 use Rattle.hir_pretty.specs.AddedDocs.{marked_docs}
 use Rattle.hir_pretty.proofs.functions.add_marked.Given as goal
 

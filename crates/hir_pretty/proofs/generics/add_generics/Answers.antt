@@ -1,4 +1,4 @@
-use Rattle.hir_printer.proofs.Common.{sym, ◌∙◌, on_ok_weaker, adds_as}
+use Rattle.hir_pretty_nodes.proofs.Common.{sym, ◌∙◌, on_ok_weaker, adds_as}
 use Rattle.std.proofs.lemmas.Bool.{false≢true}
 use Rattle.hir_pretty.proofs.ListLemmas.{some_angles}
 use Rattle.hir_pretty.proofs.generics.add_generics.Goals as goal

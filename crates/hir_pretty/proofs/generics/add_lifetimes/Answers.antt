@@ -1,4 +1,4 @@
-use Rattle.hir_printer.proofs.Common.{ℕ, ap, codes, false, map, sym, text, name_docs, following, adds_more, left_begins, left_goes_on, left_ends}
+use Rattle.hir_pretty_nodes.proofs.Common.{ℕ, ap, codes, false, map, sym, text, name_docs, following, adds_more, left_begins, left_goes_on, left_ends}
 use Rattle.std.proofs.lemmas.Map.Iter.{rest_more, rest_all}
 use Rattle.hir_generics.specs.declared.data.LifetimeParamData.{LifetimeParamData}
 use Rattle.hir_pretty.proofs.ListLemmas.{map_second}

@@ -1,4 +1,4 @@
-use Rattle.hir_printer.proofs.Common.{codes, false, map, ℕ, text, name_docs, printing_of, following, AddsRest}
+use Rattle.hir_pretty_nodes.proofs.Common.{codes, false, map, ℕ, text, name_docs, printing_of, following, AddsRest}
 use Rattle.hir_generics.specs.declared.data.LifetimeParamData.{LifetimeParamData}
 use Rattle.hir_pretty.specs.Signatures.{each_lifetime}
 use Rattle.hir_pretty.proofs.generics.add_lifetimes.Given as goal

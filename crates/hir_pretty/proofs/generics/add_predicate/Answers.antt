@@ -1,4 +1,4 @@
-use Rattle.hir_printer.proofs.Common.{on_ok_weaker, adds_then, adds_more}
+use Rattle.hir_pretty_nodes.proofs.Common.{on_ok_weaker, adds_then, adds_more}
 use Rattle.hir_pretty.proofs.generics.add_predicate.Goals as goal
 
 pub returns-in_ok-add-in-TypeBound : goal.returns-in_ok-add-in-TypeBound

@@ -1,4 +1,4 @@
-use Rattle.hir_printer.proofs.Common.{◌++◌, ap, ◌∙◌, codes, Ok, on_ok_weaker, text, t, opt, type_param_docs, adds_then, adds_as}
+use Rattle.hir_pretty_nodes.proofs.Common.{◌++◌, ap, ◌∙◌, codes, Ok, on_ok_weaker, text, t, opt, type_param_docs, adds_then, adds_as}
 use Rattle.hir_pretty.proofs.ListLemmas.{type_names}
 use Rattle.hir_pretty.proofs.generics.add_type.Goals as goal
 

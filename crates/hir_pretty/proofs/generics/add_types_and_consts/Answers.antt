@@ -1,4 +1,4 @@
-use Rattle.hir_printer.proofs.Common.{ap, codes, sym, text, following, adds_then, left_begins, left_goes_on, left_ends}
+use Rattle.hir_pretty_nodes.proofs.Common.{ap, codes, sym, text, following, adds_then, left_begins, left_goes_on, left_ends}
 use Rattle.std.proofs.lemmas.Map.Iter.{rest_more, rest_all}
 use Rattle.hir_pretty.specs.Signatures.{each_type_or_const}
 use Rattle.hir_pretty.proofs.generics.add_types_and_consts.Goals as goal

@@ -1,4 +1,4 @@
-use Rattle.hir_printer.proofs.Common.{codes, enumerate_from, text, printing_of, following, AddsRest}
+use Rattle.hir_pretty_nodes.proofs.Common.{codes, enumerate_from, text, printing_of, following, AddsRest}
 use Rattle.hir_pretty.specs.Signatures.{each_type_or_const}
 use Rattle.hir_pretty.proofs.generics.add_types_and_consts.Given as goal
 

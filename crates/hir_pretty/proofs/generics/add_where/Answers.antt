@@ -1,4 +1,4 @@
-use Rattle.hir_printer.proofs.Common.{codes, map, refl, on_ok_weaker, text, adds, adds_none, adds_then, adds_more, adds_as, left_begins, left_goes_on, left_ends, following_joined, following_step, following_ends}
+use Rattle.hir_pretty_nodes.proofs.Common.{codes, map, refl, on_ok_weaker, text, adds, adds_none, adds_then, adds_more, adds_as, left_begins, left_goes_on, left_ends, following_joined, following_step, following_ends}
 use Rattle.hir_pretty.specs.Signatures.{predicate_docs}
 use Rattle.hir_pretty.proofs.ListLemmas.{some_where, no_where}
 use Rattle.hir_pretty.proofs.generics.add_where.Goals as goal

@@ -1,4 +1,4 @@
-use Rattle.hir_printer.proofs.Common.{codes, map, drop, text, printing_of, following, AddsRest}
+use Rattle.hir_pretty_nodes.proofs.Common.{codes, map, drop, text, printing_of, following, AddsRest}
 use Rattle.hir_pretty.specs.Signatures.{predicate_docs, each_predicate}
 use Rattle.hir_pretty.proofs.generics.add_where.Given as goal
 

@@ -1,4 +1,4 @@
-use Rattle.hir_printer.proofs.Common.{refl, subst, append-nil, err_from_is_err_and, words_of, print_env, pieces, PrintsPieces, lookups_of, adds, prints}
+use Rattle.hir_pretty_nodes.proofs.Common.{refl, subst, append-nil, err_from_is_err_and, words_of, print_env, pieces, PrintsPieces, lookups_of, adds, prints}
 use Rattle.hir_node.specs.declared.node_id.NodeId.TheVariants as node
 use Rattle.hir_pretty.proofs.OtherLemmas.{prints_refused}
 use Rattle.hir_pretty.proofs.nodes.print_pat_hir.Goals as goal

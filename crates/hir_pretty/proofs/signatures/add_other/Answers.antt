@@ -1,4 +1,4 @@
-use Rattle.hir_printer.proofs.Common.{refl, on_ok_weaker, adds, adds_then}
+use Rattle.hir_pretty_nodes.proofs.Common.{refl, on_ok_weaker, adds, adds_then}
 use Rattle.hir_pretty.proofs.signatures.add_other.Goals as goal
 
 pub returns : goal.returns

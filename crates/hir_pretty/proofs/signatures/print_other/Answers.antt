@@ -1,4 +1,4 @@
-use Rattle.hir_printer.proofs.Common.{err_from_is_err_and, prints}
+use Rattle.hir_pretty_nodes.proofs.Common.{err_from_is_err_and, prints}
 use Rattle.hir_pretty.proofs.OtherLemmas.{prints_refused, in_another}
 use Rattle.hir_pretty.proofs.signatures.print_other.Goals as goal
 

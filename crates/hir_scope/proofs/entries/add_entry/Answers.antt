@@ -1,6 +1,6 @@
 use Rattle.std.proofs.Common.{◌≤◌, ◌++◌, ◌∷◌, [], List, length, sym, ap, ◌∙◌, inl, inr}
 use Rattle.std.proofs.lemmas.{Bool.cases_lt, Bool.false≢true, List.append-nil, Option.slice_get_past}
-use Rattle.hir_faults.specs.TestedParts.{all_of}
+use Rattle.hir_validate.specs.TestedParts.{all_of}
 use Rattle.hir_scope.specs.{Frames.entry_of, declared.scope.ScopeEntry.ScopeEntry}
 use Rattle.hir_scope.proofs.entries.add_entry.Goals as goal
 

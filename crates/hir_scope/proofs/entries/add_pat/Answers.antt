@@ -1,8 +1,8 @@
 use Rattle.std.proofs.Common.{◌≡◌, List, [], ◌∷◌, ◌++◌, Ok, Err, ap, ◌∙◌, refl, sym}
 use Rattle.std.proofs.lemmas.{Fn.chained_keeps, List.flat_map_more, List.append-nil, Result.on_ok_weaker}
 use Rattle.std.specs.{List.flat_map, Prelude.Result, Prelude.OnOk}
-use Rattle.hir_expr_store.specs.Tries.{Tries}
-use Rattle.hir_expr_store.proofs.TryLemmas.{turns_keep}
+use Rattle.hir_store_core.specs.Tries.{Tries}
+use Rattle.hir_store_core.proofs.TryLemmas.{turns_keep}
 use Rattle.hir_scope.specs.Frames.{entry_at}
 use Rattle.hir_scope.proofs.entries.add_pat.Goals as goal
 

@@ -1,5 +1,5 @@
 use Rattle.std.proofs.Common.{sym, subst}
-use Rattle.hir_expr_store.specs.Under.{AreDisjoint}
+use Rattle.hir_store_core.specs.Under.{AreDisjoint}
 use Rattle.hir_items.specs.{Bodies.entry_nodes, Signatures.root_entry_nodes}
 use Rattle.hir_scope.specs.BodyScopes.{entry_nodes_of_body, entry_nodes_of_signature}
 use Rattle.hir_scope.proofs.BeginLemmas.{body_same, signature_same, roots_in_range}

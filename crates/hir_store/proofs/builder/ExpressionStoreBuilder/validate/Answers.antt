@@ -1,5 +1,5 @@
-use Rattle.hir_expr_store.specs.Contents.{rooted_of}
-use Rattle.hir_expr_store.proofs.LinkLemmas.{patterns_have_one_place}
+use Rattle.hir_store_core.specs.Contents.{rooted_of}
+use Rattle.hir_store_core.proofs.LinkLemmas.{patterns_have_one_place}
 use Rattle.hir_store.specs.Building.{building_of, contents_of, finish_fault}
 use Rattle.hir_store.proofs.builder.ExpressionStoreBuilder.validate.Goals as goal
 

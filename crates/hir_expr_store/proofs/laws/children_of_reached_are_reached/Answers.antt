@@ -1,5 +1,0 @@
-use Rattle.hir_expr_store.proofs.ReachedLemmas.{child_reached}
-use Rattle.hir_expr_store.proofs.laws.children_of_reached_are_reached.Goals as goal
-
-pub returns : goal.returns
-returns c = child_reached

@@ -1,7 +1,0 @@
-use Rattle.hir_faults.proofs.SoundLemmas.{sound_falls}
-use Rattle.hir_expr_store.specs.Contents.{rooted_of}
-use Rattle.hir_faults.proofs.RecursionLemmas.{fold_down_at}
-use Rattle.hir_expr_store.proofs.laws.fold_down_unfold.Goals as goal
-
-pub returns : goal.returns
-returns g c = λ s sound. fold_down_at s.nodes (sound_falls (rooted_of s) sound) (g.V.ByChildren.step s.nodes) g.V.ByChildren.default (g.V.ByChildren.depends_on_children s.nodes)

@@ -1,8 +1,0 @@
-use Rattle.hir_faults.proofs.FitsLemmas.{path_args_fit, path_anchor_in_range}
-use Rattle.hir_expr_store.proofs.laws.parts_of_paths_fit.Goals as goal
-
-pub returns-clause-args : goal.returns-clause-args
-returns-clause-args c = path_args_fit
-
-pub returns-clause-anchor : goal.returns-clause-anchor
-returns-clause-anchor c = path_anchor_in_range

@@ -1,7 +1,0 @@
-use Rattle.hir_faults.proofs.SoundLemmas.{sound_falls}
-use Rattle.hir_expr_store.specs.Contents.{rooted_of}
-use Rattle.hir_expr_store.proofs.ReachedLemmas.{reached_is}
-use Rattle.hir_expr_store.proofs.laws.reached_is_listed.Goals as goal
-
-pub returns : goal.returns
-returns c = λ s sound. reached_is s.nodes (sound_falls (rooted_of s) sound)

@@ -1,6 +1,0 @@
-use Rattle.hir_expr_store.proofs.ApartLemmas.{roots_are_disjoint}
-use Rattle.hir_expr_store.specs.Contents.{rooted_of}
-use Rattle.hir_expr_store.proofs.laws.roots_are_disjoint.Goals as goal
-
-pub returns : goal.returns
-returns c = λ s. roots_are_disjoint (rooted_of s)

@@ -1,5 +1,0 @@
-use Rattle.hir_expr_store.proofs.LinkLemmas.{LinkedBefore}
-use Rattle.hir_expr_store.proofs.pat_links.link_all.Given as goal
-
-abbrev pub invariant-loop-id : goal.invariant-loop-id
-invariant-loop-id l = LinkedBefore l.pats l.links l.id

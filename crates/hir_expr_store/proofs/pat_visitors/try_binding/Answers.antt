@@ -1,5 +1,0 @@
-use Rattle.hir_expr_store.proofs.TryLemmas.{tries_one}
-use Rattle.hir_expr_store.proofs.pat_visitors.try_binding.Goals as goal
-
-pub returns-in-Bind-clause-runs : goal.returns-in-Bind-clause-runs
-returns-in-Bind-clause-runs g c = rw c.in-Bind.is (tries_one _ c.f.ensures)

@@ -1,4 +1,0 @@
-use Rattle.hir_expr_store.proofs.store.ExpressionStore.sizes.Goals as goal
-
-pub returns-clause-few : goal.returns-clause-few
-returns-clause-few c = rw c.sizes.ensures c.nodes.ensures.few

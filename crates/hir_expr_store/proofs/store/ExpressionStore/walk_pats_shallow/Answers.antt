@@ -1,4 +1,0 @@
-use Rattle.hir_expr_store.proofs.store.ExpressionStore.walk_pats_shallow.Goals as goal
-
-pub returns-clause-runs : goal.returns-clause-runs
-returns-clause-runs g c = rw c.index.ensures c.walk_child_pats.ensures.runs

@@ -1,6 +1,0 @@
--- What is kept of a store without nodes.
-use Rattle.std.specs.Prelude.{[], None}
-use Rattle.hir_expr_store.specs.declared.kept_parts.KeptParts.{KeptParts}
-
-abbrev pub nothing_kept : KeptParts
-nothing_kept = record { parents = record { rows = 0; parents = []; shared = None }; links = [] }

@@ -1,8 +1,0 @@
-use Rattle.std.proofs.Common.{◌≡◌, true, take}
-use Rattle.std.specs.List.{list_all}
-use Rattle.hir_faults.specs.TestedParts.{binding_paths, is_path_at}
-use Rattle.hir_faults.proofs.type_parts.+args_name_paths.Given as goal
-
--- the bindings so far name paths
-abbrev pub invariant-args_name_paths-loop-binding : goal.invariant-args_name_paths-loop-binding
-invariant-args_name_paths-loop-binding l = list_all (λ b. list_all (is_path_at l.types) (binding_paths b)) (take l.binding-index l.binding-items) ≡ true

@@ -1,5 +1,0 @@
-use Rattle.std.proofs.Common.{refl}
-use Rattle.hir_io.proofs.lines.LineReader.new.Goals as goal
-
-pub returns : goal.returns
-returns c = refl

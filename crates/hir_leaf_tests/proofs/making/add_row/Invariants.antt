@@ -1,8 +1,0 @@
-use Rattle.std.proofs.Common.{◌≡◌, ◌+◌, length}
-use Rattle.hir_leaf_tests.proofs.making.add_row.Given as goal
-
-abbrev pub invariant-loop-edge : goal.invariant-loop-edge
-invariant-loop-edge l = record {
-  nodes : length l.parents.parents ≡ l.count;
-  rows : l.parents.rows ≡ l.fn.parents.rows + 1;
-}

@@ -1,8 +1,0 @@
-use Rattle.std.proofs.Common.{◌≡◌, length}
-use Rattle.hir_leaf_tests.proofs.making.parents_of.Given as goal
-
-abbrev pub invariant-loop-node : goal.invariant-loop-node
-invariant-loop-node l = record {
-  nodes : length l.parents.parents ≡ l.count;
-  rows : l.parents.rows ≡ l.node;
-}

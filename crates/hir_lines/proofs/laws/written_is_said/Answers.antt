@@ -1,5 +1,0 @@
-use Rattle.hir_lines.proofs.WrittenLines.{reads}
-use Rattle.hir_lines.proofs.laws.written_is_said.Goals as goal
-
-pub returns : goal.returns
-returns c = λ text line good written. reads line text written good

@@ -1,0 +1,10 @@
+use Rattle.hir_pretty_nodes.proofs.Common.{ap, Err, err_from_is_err_and, writes_all, writes_fault}
+use Rattle.hir_pretty_nodes.proofs.printer.Printer.finish.Goals as goal
+
+pub returns-in_err-write : goal.returns-in_err-write
+returns-in_err-write g c =
+    let p = err_from_is_err_and c.from_residual.result c.from_residual.ensures.1 in
+    λ value docs a. rw (p.1, p.2) (writes_fault _ a (λ m e. c.in_err-write.ensures.missing m (ap Err e)))
+
+pub returns : goal.returns
+returns g c = λ value docs a. rw c.into_writer.ensures (writes_all _ a c.in_ok-write.ensures.ok)

@@ -1,0 +1,169 @@
+//! What a closure is printed as.
+#![tactic(auto, using(crate::proofs::AddLemmas::adding))]
+
+ghost use Rattle.std.specs.Prelude.{◌≡◌, OnOk, Some};
+ghost use Rattle.hir_node.specs.declared.expr.Expr.TheVariants as of_expr;
+ghost use Rattle.hir_node.specs.declared.expr_types.ClosureKind.TheVariants as kinds;
+ghost use Rattle.hir_pretty_nodes.specs.Prelude.{comma_joined, coroutine_keyword, movability_keyword, closure_head, capture_keyword, coroutine_body, printed_body, params, header, expr_docs, Adds};
+
+use crate::{Printer, Token};
+use hir_store_core::ExpressionStore;
+use hir_node::{CaptureBy, ClosureKind, CoroutineKind, Expr, ExprId, Movability, PatId, TypeRefId};
+use hir_pretty_layout::PieceWriter;
+use std::alloc::AllocError;
+
+fn coroutine_keyword(kind: CoroutineKind) -> &'static str
+    ensures { result.now ≡ coroutine_keyword kind }
+{
+    match kind {
+        CoroutineKind::Async => "async ",
+        CoroutineKind::Gen => "gen ",
+        CoroutineKind::AsyncGen => "async gen ",
+    }
+}
+
+fn movability_keyword(movability: Movability) -> &'static str
+    ensures { result.now ≡ movability_keyword movability }
+{
+    match movability {
+        Movability::Static => "static ",
+        Movability::Movable => "",
+    }
+}
+
+fn closure_head(kind: ClosureKind) -> &'static str
+    ensures { result.now ≡ closure_head kind }
+{
+    match kind {
+        ClosureKind::Closure => "",
+        ClosureKind::OldCoroutine(movability) => movability_keyword(movability),
+        ClosureKind::Coroutine { kind, source: _ } => coroutine_keyword(kind),
+        ClosureKind::CoroutineClosure(kind) => coroutine_keyword(kind),
+    }
+}
+
+fn capture_keyword(capture: CaptureBy) -> &'static str
+    ensures { result.now ≡ capture_keyword capture }
+{
+    match capture {
+        CaptureBy::Value => "move ",
+        CaptureBy::Ref => "",
+    }
+}
+
+/// The body of a closure that is a coroutine, and any other expression itself.
+fn coroutine_body(expr: &Expr, id: ExprId) -> ExprId
+    ensures { result ≡ coroutine_body (Some expr.now) id }
+{
+    if let Expr::Closure {
+        args: _,
+        arg_types: _,
+        ret_type: _,
+        body,
+        closure_kind: ClosureKind::Coroutine { kind: _, source: _ },
+        capture_by: _,
+    } = expr
+    {
+        return *body;
+    }
+    id
+}
+
+/// What is printed as the body of a closure of this kind.
+fn printed_body(store: &ExpressionStore, kind: ClosureKind, body: ExprId) -> ExprId
+    ensures { result ≡ printed_body store.now.nodes kind body }
+{
+    match kind {
+        ClosureKind::Closure
+        | ClosureKind::OldCoroutine(_)
+        | ClosureKind::Coroutine { kind: _, source: _ } => body,
+        ClosureKind::CoroutineClosure(_) => {
+            if store.has_expr(body) {
+                return coroutine_body(&store[body], body);
+            }
+            body
+        }
+    }
+}
+
+impl<'a, W: PieceWriter> Printer<'a, W> {
+    /// Adds parameters with their types, as many as both lists have.
+    fn add_params(
+        &mut self,
+        args: &'a [PatId],
+        types: &'a [Option<TypeRefId>],
+    ) -> Result<(), AllocError>
+        ensures { OnOk result (Adds W.step self.old
+            (λ s. comma_joined (params args.now types.now)) self.new) }
+    {
+        let mut types = types;
+        let mut after = false;
+        for arg in args {
+            let [type_ref, others @ ..] = types else {
+                return Ok(());
+            };
+            self.add_if(after, ", ")?;
+            self.add(&[Token::Pattern(*arg)])?;
+            self.add_after(": ", type_ref)?;
+            types = others;
+            after = true;
+        }
+        Ok(())
+    }
+
+    fn add_bars(
+        &mut self,
+        args: &'a [PatId],
+        types: &'a [Option<TypeRefId>],
+        ret: &'a Option<TypeRefId>,
+    ) -> Result<(), AllocError>
+        ensures { OnOk result (Adds W.step self.old
+            (λ s. header kinds.Closure (params args.now types.now) ret.now) self.new) }
+    {
+        self.add(&[Token::Text("|")])?;
+        self.add_params(args, types)?;
+        self.add(&[Token::Text("|")])?;
+        self.add_after(" -> ", ret)?;
+        self.add(&[Token::Space])
+    }
+
+    /// Adds the parameters and the type of the result, which a coroutine doesn't have.
+    fn add_header(
+        &mut self,
+        kind: ClosureKind,
+        args: &'a [PatId],
+        types: &'a [Option<TypeRefId>],
+        ret: &'a Option<TypeRefId>,
+    ) -> Result<(), AllocError>
+        ensures { OnOk result (Adds W.step self.old
+            (λ s. header kind (params args.now types.now) ret.now) self.new) }
+    {
+        match kind {
+            ClosureKind::Closure
+            | ClosureKind::OldCoroutine(_)
+            | ClosureKind::CoroutineClosure(_) => self.add_bars(args, types, ret),
+            ClosureKind::Coroutine { kind: _, source: _ } => Ok(()),
+        }
+    }
+
+    /// Adds what a closure is printed as.
+    pub(crate) fn add_closure(
+        &mut self,
+        args: &'a [PatId],
+        arg_types: &'a [Option<TypeRefId>],
+        ret_type: &'a Option<TypeRefId>,
+        body: ExprId,
+        kind: ClosureKind,
+        capture: CaptureBy,
+    ) -> Result<(), AllocError>
+        ensures { OnOk result (Adds W.step self.old (λ s. expr_docs s
+            (of_expr.Closure args.now arg_types.now ret_type.now body kind capture)) self.new) }
+    {
+        self.add(&[
+            Token::Text(closure_head(kind)),
+            Token::Text(capture_keyword(capture)),
+        ])?;
+        self.add_header(kind, args, arg_types, ret_type)?;
+        self.add(&[Token::Expr(printed_body(self.store, kind, body))])
+    }
+}

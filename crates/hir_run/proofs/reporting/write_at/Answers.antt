@@ -1,7 +1,0 @@
-use Rattle.hir_run.specs.Texts.{node_text}
-use Rattle.hir_run.proofs.Texts.{text_then}
-use Rattle.hir_run.proofs.reporting.write_at.Goals as goal
-
-pub returns-clause-text : goal.returns-clause-text
-returns-clause-text g c =
-    text_then _ _ _ c.args.name.now (node_text c.args.node) c.write_node.result c.in_ok-write_all.ensures.bytes c.write_node.ensures.text

@@ -1,0 +1,50 @@
+-- The words behind `expr`, for each expression that a line makes.
+use Rattle.std.specs.Prelude.{ℕ, ℤ, List, [], ◌∷◌, map, Option, None, Some, codes}
+use Rattle.hir_base.specs.declared.operators.BinaryOp.{BinaryOp}
+use Rattle.hir_node.specs.declared.expr.Expr.{Expr}
+use Rattle.hir_node.specs.declared.expr.Expr.TheVariants.{Missing, Path, Literal as LiteralExpr, Array as ArrayExpr, Const, If, Let, Block, Loop, Call, Match, Ref as RefExpr, BinaryOp as BinaryExpr, Assignment, Closure as ClosureExpr, Tuple}
+use Rattle.hir_node.specs.declared.literal.Literal.TheVariants.{Int}
+use Rattle.hir_node.specs.declared.expr_types.MatchArm.{MatchArm}
+use Rattle.hir_node.specs.declared.expr_types.Statement.{Statement}
+use Rattle.hir_node.specs.declared.expr_types.Array.TheVariants.{ElementList, Repeat}
+use Rattle.hir_node.specs.declared.expr_types.ClosureKind.TheVariants.{Closure}
+use Rattle.hir_node.specs.declared.expr_types.CaptureBy.TheVariants.{Ref as ByRef}
+use Rattle.hir_node.specs.declared.expr_types.LoopSource.TheVariants.{Loop as PlainLoop}
+use Rattle.hir_node.specs.declared.expr_types.Unsafe.TheVariants.{No as Safe}
+use Rattle.hir_node.specs.declared.type_ref.Mutability.TheVariants.{Shared}
+use Rattle.hir_node.specs.declared.type_ref.Rawness.TheVariants.{Ref as Reference}
+use Rattle.hir_show_grammar.specs.Words.{plain}
+use Rattle.hir_show_grammar.specs.Exprs.{no_types}
+use Rattle.hir_show_grammar.specs.Tokens.{Token, Word, Name, Number, Optional, Numbers, Integer, Operator, Arm, Stmt}
+
+pub data IsExpr : Expr → List Token → Type 0 where
+  missing : IsExpr Missing (Word (codes "missing") ∷ [])
+  path : {name : List ℕ} → IsExpr (Path (plain name)) (Word (codes "path") ∷ Name name ∷ [])
+  int : {n : ℤ} → IsExpr (LiteralExpr (Int n None)) (Word (codes "int") ∷ Integer n ∷ [])
+  call : {callee : ℕ} {args : List ℕ} →
+      IsExpr (Call callee args) (Word (codes "call") ∷ Number callee ∷ Numbers args ∷ [])
+  tuple : {exprs : List ℕ} → IsExpr (Tuple exprs) (Word (codes "tuple") ∷ Numbers exprs ∷ [])
+  array : {elements : List ℕ} →
+      IsExpr (ArrayExpr (ElementList elements)) (Word (codes "array") ∷ Numbers elements ∷ [])
+  repeat : {initializer count : ℕ} →
+      IsExpr (ArrayExpr (Repeat initializer count))
+      (Word (codes "repeat") ∷ Number initializer ∷ Number count ∷ [])
+  reference : {expr : ℕ} → IsExpr (RefExpr expr Reference Shared) (Word (codes "ref") ∷ Number expr ∷ [])
+  binary : {op : BinaryOp} {lhs rhs : ℕ} →
+      IsExpr (BinaryExpr lhs rhs (Some op)) (Word (codes "bin") ∷ Operator op ∷ Number lhs ∷ Number rhs ∷ [])
+  let_expr : {pat expr : ℕ} → IsExpr (Let pat expr) (Word (codes "let") ∷ Number pat ∷ Number expr ∷ [])
+  if_expr : {condition then_branch : ℕ} {else_branch : Option ℕ} →
+      IsExpr (If condition then_branch else_branch)
+      (Word (codes "if") ∷ Number condition ∷ Number then_branch ∷ Optional else_branch ∷ [])
+  loop_expr : {body : ℕ} → IsExpr (Loop body None PlainLoop) (Word (codes "loop") ∷ Number body ∷ [])
+  assign : {target value : ℕ} →
+      IsExpr (Assignment target value) (Word (codes "assign") ∷ Number target ∷ Number value ∷ [])
+  constant : {body : ℕ} → IsExpr (Const body) (Word (codes "const") ∷ Number body ∷ [])
+  match_expr : {expr : ℕ} {arms : List MatchArm} →
+      IsExpr (Match expr arms) (Word (codes "match") ∷ Number expr ∷ map Arm arms)
+  closure : {body : ℕ} {args : List ℕ} →
+      IsExpr (ClosureExpr args (no_types args) None body Closure ByRef)
+      (Word (codes "closure") ∷ Number body ∷ Numbers args ∷ [])
+  block : {id tail : Option ℕ} {statements : List Statement} →
+      IsExpr (Block id statements tail None Safe)
+      (Word (codes "block") ∷ Optional id ∷ Optional tail ∷ map Stmt statements)

@@ -1,0 +1,22 @@
+-- The words behind `pat`, for each pattern that a line makes.
+use Rattle.std.specs.Prelude.{ℕ, List, [], ◌∷◌, Option, None, codes}
+use Rattle.hir_base.specs.declared.operators.RangeOp.TheVariants.{Inclusive}
+use Rattle.hir_node.specs.declared.pat.Pat.{Pat}
+use Rattle.hir_node.specs.declared.pat.Pat.TheVariants.{Missing, Rest, Wild, Tuple, Or, Range, Lit, Expr, Bind, TupleStruct}
+use Rattle.hir_show_grammar.specs.Words.{plain}
+use Rattle.hir_show_grammar.specs.Tokens.{Token, Word, Name, Number, Optional, Numbers}
+
+pub data IsPat : Pat → List Token → Type 0 where
+  wild : IsPat Wild (Word (codes "wild") ∷ [])
+  missing : IsPat Missing (Word (codes "missing") ∷ [])
+  rest : IsPat Rest (Word (codes "rest") ∷ [])
+  bind : {id : ℕ} {subpat : Option ℕ} →
+      IsPat (Bind id subpat) (Word (codes "bind") ∷ Number id ∷ Optional subpat ∷ [])
+  tuple : {args : List ℕ} → IsPat (Tuple args None) (Word (codes "tuple") ∷ Numbers args ∷ [])
+  or_pat : {pats : List ℕ} → IsPat (Or pats) (Word (codes "or") ∷ Numbers pats ∷ [])
+  tuple_struct : {name args : List ℕ} →
+      IsPat (TupleStruct (plain name) args None) (Word (codes "tstruct") ∷ Name name ∷ Numbers args ∷ [])
+  range : {start end : Option ℕ} →
+      IsPat (Range start end Inclusive) (Word (codes "range") ∷ Optional start ∷ Optional end ∷ [])
+  lit : {expr : ℕ} → IsPat (Lit expr) (Word (codes "lit") ∷ Number expr ∷ [])
+  expr : {expr : ℕ} → IsPat (Expr expr) (Word (codes "expr") ∷ Number expr ∷ [])

@@ -1,0 +1,77 @@
+//! The body of the lines as text.
+
+ghost use Rattle.std.specs.Prelude.{◌≡◌, IfOk, OnOk, OnErr, string_bytes};
+ghost use Rattle.std.specs.Option.{option_copied};
+ghost use Rattle.hir_show_run.specs.OfLines.{AreOfLines};
+ghost use Rattle.hir_show_run.specs.Output.{OutputsText, Untouched};
+ghost use Rattle.hir_show_run.specs.Printing.{tables_of, body_text, print_text};
+
+use crate::asking::MemoryRefused;
+use crate::output::Output;
+use hir_base::{DefWithBodyId, Edition, FunctionId, Name, NamedDef, Text};
+use hir_defs::Tables;
+use hir_show_io::Sink;
+use hir_items::Body;
+use hir_pretty::{PrintFault, print_body_hir};
+use std::alloc::Global;
+
+/// A copy of a name, where there is one.
+fn name_text(alloc: Global, name: Option<&Name>) -> Result<Option<Text>, MemoryRefused>
+    ensures { IfOk result (λ text. text ≡ option_copied name.entry) }
+{
+    let Some(name) = name else {
+        return Ok(None);
+    };
+    match Text::from_str(alloc, name.as_str()) {
+        Ok(text) => Ok(Some(text)),
+        Err(_) => Err(MemoryRefused),
+    }
+}
+
+/// Tables that have the name of function 0, or that it has none, and nothing else.
+fn tables_of(alloc: Global, name: Option<&Name>) -> Result<Tables, MemoryRefused>
+    ensures { IfOk result (λ tables. tables ≡ tables_of (option_copied name.entry)) }
+{
+    let text = name_text(alloc, name)?;
+    let mut tables = Tables::new(alloc);
+    match tables.add_name(NamedDef::FunctionId(FunctionId::from_raw(0)), text) {
+        Ok(()) => Ok(tables),
+        Err(_) => Err(MemoryRefused),
+    }
+}
+
+/// The text of a body of lines, as that of function 0 with this name.
+///
+/// Answers `MemoryRefused` where memory was refused.
+fn print_body(alloc: Global, body: &Body, name: Option<&Name>) -> Result<String, MemoryRefused>
+    requires { AreOfLines body.now.store.nodes }
+    ensures { IfOk result (λ text. string_bytes text ≡ body_text (option_copied name.entry) body.now) }
+{
+    let tables = tables_of(alloc, name)?;
+    let function = DefWithBodyId::FunctionId(FunctionId::from_raw(0));
+    match print_body_hir(alloc, &tables, body, function, Edition::Edition2021) {
+        Ok(text) => Ok(text),
+        Err(PrintFault::Missing(_)) => unreachable!(),
+        Err(PrintFault::Memory) => Err(MemoryRefused),
+    }
+}
+
+/// Puts the text of a body of lines, printed as that of function 0 with this name, and a line end.
+///
+/// Answers `MemoryRefused` where memory was refused: nothing is put then.
+pub(crate) fn answer_print<W: Sink>(
+    alloc: Global,
+    body: &Body,
+    name: Option<&Name>,
+    output: &mut Output<'_, W>,
+) -> Result<(), MemoryRefused>
+    requires { AreOfLines body.now.store.nodes }
+    ensures ok { OnOk result (OutputsText W.Sink output.old output.new
+        (print_text (option_copied name.entry) body.now)) }
+    ensures memory { OnErr result (Untouched W.Sink output.old output.new) }
+{
+    let text = print_body(alloc, body, name)?;
+    output.put(text.as_str().as_bytes());
+    output.put(b"\n");
+    Ok(())
+}

@@ -1,5 +1,0 @@
-use Rattle.hir_source.proofs.NoEntries.{no_entries}
-use Rattle.hir_source.proofs.source_map.ExpressionStoreSourceMap.expansions.Goals as goal
-
-pub returns-in-None : goal.returns-in-None
-returns-in-None c = rw (c.new-in-None.ensures, (c.exprs.ensures.none c.in-None.is).no_expansions) no_entries

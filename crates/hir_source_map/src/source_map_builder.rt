@@ -1,0 +1,75 @@
+//! The maps while a store is built.
+
+ghost use Rattle.std.specs.Prelude.{◌≡◌};
+ghost use Rattle.hir_source_map.specs.Sources.{has_news};
+
+use crate::source_map::ExpressionStoreSourceMap;
+use crate::sources::{ExprSources, TypeSources};
+use hir_rare::LazyBox;
+use std::alloc::Global;
+
+/// Where nodes come from, as far as entries were added: the builder of a store has the calls that add them. Nothing is checked: ids may
+/// be of nodes that don't exist.
+#[derive(PartialEq, Eq)]
+pub struct SourceMapBuilder {
+    pub exprs: LazyBox<ExprSources>,
+    pub types: LazyBox<TypeSources>,
+    /// Where the maps take their memory from.
+    pub alloc: Global,
+}
+
+/// Drops its parts one after the other. It is written out so that it is proved once, and is a call wherever a value is dropped.
+impl Drop for SourceMapBuilder {
+    fn drop(self) {
+        let SourceMapBuilder {
+            exprs,
+            types,
+            alloc,
+        } = self;
+    }
+}
+
+impl SourceMapBuilder {
+    ghost use Rattle.hir_source_map.specs.Additions.{no_sources, finish_sources};
+
+    /// Maps without entries. They take their memory from `alloc`, and none yet.
+    pub fn new(alloc: Global) -> SourceMapBuilder
+        ensures { result ≡ no_sources alloc }
+    {
+        SourceMapBuilder {
+            exprs: LazyBox::new(alloc),
+            types: LazyBox::new(alloc),
+            alloc,
+        }
+    }
+
+    /// Finishes the maps, which are read from now on.
+    ///
+    /// The expression part, which is all but the maps of types and lifetimes, is kept exactly if the store keeps nodes of it, or if
+    /// there is an expansion or a diagnostic. Otherwise it is dropped with its entries.
+    pub fn finish(self, keeps_nodes: bool) -> ExpressionStoreSourceMap
+        ensures { result ≡ finish_sources keeps_nodes self }
+    {
+        let SourceMapBuilder {
+            exprs,
+            types,
+            alloc: _,
+        } = self;
+        let exprs = if keeps_nodes || has_news(&exprs) {
+            Some(exprs)
+        } else {
+            None
+        };
+        ExpressionStoreSourceMap { exprs, types }
+    }
+}
+
+/// Whether there is an expansion or a diagnostic.
+fn has_news(exprs: &LazyBox<ExprSources>) -> bool
+    ensures { result ≡ has_news exprs.now }
+{
+    match exprs.get() {
+        Some(exprs) => exprs.has_news(),
+        None => false,
+    }
+}

@@ -1,0 +1,38 @@
+-- What a store holds.
+use Rattle.std.specs.Prelude.{List, [], Option, None}
+use Rattle.hir_forest.specs.declared.roots.Root.{Root}
+use Rattle.hir_validate.specs.declared.fault.FinishFault.{FinishFault}
+use Rattle.hir_forest.specs.Parents.{HasParents}
+use Rattle.hir_validate.specs.Nodes.{Nodes, graph}
+use Rattle.hir_validate.specs.Faults.{RootedNodes, rooted_fault}
+use Rattle.hir_store_core.specs.declared.side_tables.SideTables.{SideTables}
+use Rattle.hir_store_core.specs.declared.kept_parts.KeptParts.{KeptParts}
+use Rattle.hir_store_core.specs.SideTables.{no_side_tables}
+use Rattle.hir_store_core.specs.PatLinks.{HasPatLinks}
+
+-- the nodes and what they name, the roots, and the side tables
+pub record Contents : Type 0 where
+  pub nodes : Nodes
+  pub roots : List Root
+  pub side_tables : SideTables
+
+abbrev pub no_nodes : Nodes
+no_nodes = record { exprs = []; pats = []; types = []; bindings = []; labels = []; lifetimes = [] }
+
+-- the contents of an empty store
+abbrev pub no_contents : Contents
+no_contents = record { nodes = no_nodes; roots = []; side_tables = no_side_tables }
+
+-- without the side tables
+abbrev pub rooted_of : Contents → RootedNodes
+rooted_of c = record { nodes = c.nodes; roots = c.roots }
+
+-- the first fault: the side tables have none
+abbrev pub contents_fault : Contents → Option FinishFault → Type 0
+contents_fault c = rooted_fault (rooted_of c)
+
+-- the contents have no fault, and what is kept are the parents of the nodes, by their places in the row, and the links of the patterns
+pub record IsStore (c : Contents) (kept : KeptParts) : Type 0 where
+  pub sound : contents_fault c None
+  pub parents : HasParents (graph c.nodes) kept.parents.parents
+  pub links : HasPatLinks c.nodes.pats kept.links

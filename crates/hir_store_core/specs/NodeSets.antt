@@ -1,0 +1,25 @@
+-- Sets of nodes of a store, kept as a mark for each node.
+use Rattle.std.specs.Prelude.{◌≡◌, ◌⊎◌, ◌↔◌, Bool, List, Contains}
+use Rattle.hir_forest.specs.Forest.{Marks}
+use Rattle.hir_node.specs.declared.node_id.NodeId.{NodeId}
+use Rattle.hir_validate.specs.declared.sizes.Sizes.{Sizes}
+use Rattle.hir_validate.specs.Sizes.{HasNode, place}
+use Rattle.hir_validate.specs.Nodes.{Nodes, Has, children_of}
+
+-- how many nodes there are, and a mark for each, in the order of the row
+pub record MarkedNodes : Type 0 where
+  pub sizes : Sizes
+  pub marks : List Bool
+
+-- the node is in the set
+abbrev pub IsIn : MarkedNodes → NodeId → Type 0
+IsIn set n = Marks set.marks (place set.sizes n)
+
+-- this node is added to the set, and no other
+pub record Gains (old : MarkedNodes) (added : NodeId) (new : MarkedNodes) : Type 0 where
+  pub sizes : new.sizes ≡ old.sizes
+  pub members : (n : NodeId) → HasNode old.sizes n → IsIn new n ↔ (IsIn old n ⊎ (n ≡ added))
+
+-- no child of a node is in the set
+abbrev pub NoChildIn : Nodes → MarkedNodes → Type 0
+NoChildIn s set = (m n : NodeId) → Has s m → Contains (children_of s m) n → IsIn set n → ⊥

@@ -1,0 +1,42 @@
+//! What a store keeps beside its contents, from which it follows.
+ghost use Rattle.std.specs.Prelude.{◌≡◌};
+
+use crate::pat_links::PatLinks;
+use crate::zip_ok::zip_ok;
+use hir_base::TryClone;
+use hir_forest::Parents;
+use hir_rare::Empty;
+use std::alloc::{AllocError, Global};
+
+/// The parents of the nodes, by their places in the row, and the links of the patterns.
+#[derive(Drop)]
+pub struct KeptParts {
+    pub parents: Parents,
+    pub links: PatLinks,
+}
+
+impl Clone for KeptParts {
+    ghost is_clone = { λ kept copy. copy ≡ kept };
+
+    fn clone(&self) -> Result<KeptParts, AllocError> {
+        let (parents, links) = zip_ok(self.parents.clone()?, self.links.clone())?;
+        Ok(KeptParts { parents, links })
+    }
+}
+
+impl TryClone for KeptParts {
+    ghost clone_is_same = { λ x y h. h };
+}
+
+impl Empty for KeptParts {
+    ghost use Rattle.hir_store_core.specs.KeptParts.{nothing_kept};
+
+    ghost empty_value = { nothing_kept };
+
+    fn empty_value(alloc: Global) -> KeptParts {
+        KeptParts {
+            parents: Parents::none(alloc),
+            links: PatLinks::none(alloc),
+        }
+    }
+}

@@ -1,0 +1,493 @@
+//! An accepted store: its nodes, which are a well-formed forest, and its roots.
+
+ghost use Rattle.std.specs.Prelude.{◌≡◌, ◌<◌, ◌↔◌, None, Some, IfSome, length, slice_get, IsTrue};
+ghost use Rattle.std.specs.List.{enumerate_from, list_all};
+ghost use Rattle.hir_forest.specs.Faults.{root_nodes};
+ghost use Rattle.hir_validate.specs.TestedParts.{bound_paths, is_path_at, path_at};
+ghost use Rattle.hir_validate.specs.Sizes.{is_in_range};
+ghost use Rattle.hir_node.specs.ChildCalls.{bound_calls};
+ghost use Rattle.hir_validate.specs.Fits.{path_fits};
+
+use crate::kept_parts::KeptParts;
+use crate::root_list::RootList;
+use crate::side_tables::SideTables;
+use crate::store_iter::ExprRoots;
+use crate::zip_ok::zip_ok;
+use hir_base::{Arena, ArenaIter, ExactEq, TryClone};
+use hir_validate::{NodeSlices, Sizes, as_path};
+use hir_forest::Root;
+use hir_node::{
+    Binding, BindingId, BindingKind, Expr, ExprId, ExprKind, Label, LabelId, LabelKind,
+    LifetimeRef, LifetimeRefId, LifetimeRefKind, Pat, PatId, PatKind, Path, PathId, TypeBound,
+    TypeRef, TypeRefId, TypeRefKind,
+};
+use hir_rare::LazyBox;
+use std::alloc::{AllocError, Global};
+use std::marker::Model;
+use std::ops::Index;
+
+/// Expressions, patterns, types and what they name, with the roots. They have no fault: each id that a node names is there, and the
+/// nodes are a forest. `ExpressionStoreBuilder::finish` makes it. The parent of each node, which `finish` has to find, is kept, and for
+/// walks over patterns what comes after each pattern.
+pub struct ExpressionStore {
+    exprs: Arena<ExprKind, Expr>,
+    pats: Arena<PatKind, Pat>,
+    types: Arena<TypeRefKind, TypeRef>,
+    bindings: Arena<BindingKind, Binding>,
+    labels: Arena<LabelKind, Label>,
+    lifetimes: Arena<LifetimeRefKind, LifetimeRef>,
+    roots: RootList,
+    side_tables: SideTables,
+    kept: LazyBox<KeptParts>,
+}
+
+/// Drops its parts one after the other. It is here so that it is proved once, and is a call wherever a value is dropped.
+impl Drop for ExpressionStore {
+    fn drop(self) {
+        let ExpressionStore {
+            exprs,
+            pats,
+            types,
+            bindings,
+            labels,
+            lifetimes,
+            roots,
+            side_tables,
+            kept,
+        } = self;
+    }
+}
+
+impl Model for ExpressionStore {
+    ghost use Rattle.hir_store_core.specs.Contents.{Contents, IsStore};
+
+    ghost Value = { Contents };
+
+    ghost use Rattle.std.specs.Coded.{codes};
+    ghost use Rattle.hir_path.specs.contracts.path.GenericArgs as args;
+    ghost use Rattle.hir_store_core.specs.contracts.side_tables.SideTables as said;
+
+    ghost coded = { Prim.hlevel (codes, args.the_row.coded, said.the_row.coded) };
+
+    ghost view = { λ s. record {
+      nodes = record {
+        exprs = s.exprs;
+        pats = s.pats;
+        types = s.types;
+        bindings = s.bindings;
+        labels = s.labels;
+        lifetimes = s.lifetimes;
+      };
+      roots = s.roots;
+      side_tables = s.side_tables;
+    } };
+
+    ghost invariant = { λ s. IsStore record {
+      nodes = record {
+        exprs = s.exprs;
+        pats = s.pats;
+        types = s.types;
+        bindings = s.bindings;
+        labels = s.labels;
+        lifetimes = s.lifetimes;
+      };
+      roots = s.roots;
+      side_tables = s.side_tables;
+    } s.kept };
+}
+
+/// The parts of a store: the nodes and what they name, the roots, the side tables, and what follows from the nodes and is kept.
+#[derive(Drop)]
+pub struct StoreParts {
+    pub exprs: Arena<ExprKind, Expr>,
+    pub pats: Arena<PatKind, Pat>,
+    pub types: Arena<TypeRefKind, TypeRef>,
+    pub bindings: Arena<BindingKind, Binding>,
+    pub labels: Arena<LabelKind, Label>,
+    pub lifetimes: Arena<LifetimeRefKind, LifetimeRef>,
+    pub roots: RootList,
+    pub side_tables: SideTables,
+    pub kept: LazyBox<KeptParts>,
+}
+
+impl ExpressionStore {
+    ghost use Rattle.hir_store_core.specs.Contents.{no_contents, contents_fault, IsStore};
+    ghost use Rattle.hir_validate.specs.Faults.{nodes_in};
+    ghost use Rattle.hir_validate.specs.Nodes.{graph, sizes_of};
+    ghost use Rattle.hir_validate.specs.Sizes.{Few};
+    ghost use Rattle.hir_forest.specs.Parents.{HasParents};
+    ghost use Rattle.hir_store_core.specs.PatLinks.{HasPatLinks};
+    ghost use Rattle.hir_store_core.specs.StoreParts.{contents_of_parts};
+
+    /// A store of these parts. A caller has to prove that they have no fault, and that what is kept follows from them: a builder tests the
+    /// nodes once.
+    pub fn new(parts: StoreParts) -> ExpressionStore
+        requires { IsStore (contents_of_parts parts) parts.kept }
+        ensures { result ≡ contents_of_parts parts }
+    {
+        let StoreParts {
+            exprs,
+            pats,
+            types,
+            bindings,
+            labels,
+            lifetimes,
+            roots,
+            side_tables,
+            kept,
+        } = parts;
+        ExpressionStore {
+            exprs,
+            pats,
+            types,
+            bindings,
+            labels,
+            lifetimes,
+            roots,
+            side_tables,
+            kept,
+        }
+    }
+
+    /// An empty store. It takes no memory.
+    pub fn empty(alloc: Global) -> ExpressionStore
+        ensures { result ≡ no_contents }
+    {
+        ExpressionStore {
+            exprs: Arena::new(alloc),
+            pats: Arena::new(alloc),
+            types: Arena::new(alloc),
+            bindings: Arena::new(alloc),
+            labels: Arena::new(alloc),
+            lifetimes: Arena::new(alloc),
+            roots: RootList::new(alloc),
+            side_tables: SideTables::new(alloc),
+            kept: LazyBox::new(alloc),
+        }
+    }
+
+    /// Tells a proof that the store has no fault, and does nothing.
+    pub fn has_no_fault(&self)
+        ensures { contents_fault self.now None }
+    {
+        let _ = &self.exprs;
+    }
+
+    /// The roots with their ends.
+    pub(crate) fn roots(&self) -> &[Root]
+        ensures { result.now ≡ self.now.roots }
+    {
+        self.roots.as_slice()
+    }
+
+    /// The side tables.
+    pub(crate) fn side_tables(&self) -> &SideTables
+        ensures { result.now ≡ self.now.side_tables }
+    {
+        &self.side_tables
+    }
+
+    /// The nodes, borrowed.
+    pub(crate) fn nodes(&self) -> NodeSlices<'_>
+        ensures nodes { nodes_in result ≡ self.now.nodes }
+        ensures few { Few (sizes_of (nodes_in result)) }
+    {
+        NodeSlices {
+            exprs: self.exprs.as_slice(),
+            pats: self.pats.as_slice(),
+            types: self.types.as_slice(),
+            bindings: self.bindings.as_slice(),
+            labels: self.labels.as_slice(),
+            lifetimes: self.lifetimes.as_slice(),
+        }
+    }
+
+    /// How many items each arena has.
+    pub(crate) fn sizes(&self) -> Sizes
+        ensures sizes { result ≡ sizes_of self.now.nodes }
+        ensures few { Few result }
+    {
+        self.nodes().sizes()
+    }
+
+    /// What is kept, where there is a node.
+    pub(crate) fn kept_parts(&self) -> Option<&KeptParts>
+        ensures parents { IfSome result (λ kept. HasParents (graph self.now.nodes) kept.now.parents.parents) }
+        ensures links { IfSome result (λ kept. HasPatLinks self.now.nodes.pats kept.now.links) }
+        ensures none { result ≡ None → length (graph self.now.nodes) ≡ 0 }
+    {
+        self.kept.get()
+    }
+
+    /// Whether there is an expression of this id.
+    pub fn has_expr(&self, id: ExprId) -> bool
+        ensures { IsTrue result ↔ (id < length self.now.nodes.exprs) }
+    {
+        self.exprs.has(id)
+    }
+
+    /// Whether there is a pattern of this id.
+    pub fn has_pat(&self, id: PatId) -> bool
+        ensures { IsTrue result ↔ (id < length self.now.nodes.pats) }
+    {
+        self.pats.has(id)
+    }
+
+    /// Whether there is a type of this id.
+    pub fn has_type(&self, id: TypeRefId) -> bool
+        ensures { IsTrue result ↔ (id < length self.now.nodes.types) }
+    {
+        self.types.has(id)
+    }
+
+    /// Whether there is a binding of this id.
+    pub fn has_binding(&self, id: BindingId) -> bool
+        ensures { IsTrue result ↔ (id < length self.now.nodes.bindings) }
+    {
+        self.bindings.has(id)
+    }
+
+    /// Whether there is a label of this id.
+    pub fn has_label(&self, id: LabelId) -> bool
+        ensures { IsTrue result ↔ (id < length self.now.nodes.labels) }
+    {
+        self.labels.has(id)
+    }
+
+    /// Whether there is a lifetime of this id.
+    pub fn has_lifetime(&self, id: LifetimeRefId) -> bool
+        ensures { IsTrue result ↔ (id < length self.now.nodes.lifetimes) }
+    {
+        self.lifetimes.has(id)
+    }
+
+    /// Whether the type of this id is there and is a path.
+    pub fn has_path(&self, id: PathId) -> bool
+        ensures { result ≡ is_path_at self.now.nodes.types id }
+    {
+        self.nodes().has_path(id)
+    }
+
+    /// Whether a path fits the store: each id that it names is there, each type that it names as a path is one, each list of generic
+    /// arguments that begins with a self type isn't empty, and a `Normal` path has one list for each segment. A path that a node of the
+    /// store has fits it.
+    pub fn path_is_sound(&self, path: &Path) -> bool
+        ensures { result ≡ path_fits self.now.nodes path.now }
+    {
+        self.nodes().path_is_sound(path)
+    }
+
+    /// Whether each type and each lifetime that the bound names is there.
+    pub fn has_bound(&self, bound: &TypeBound) -> bool
+        ensures { result ≡ list_all (is_in_range (sizes_of self.now.nodes)) (bound_calls bound.now) }
+    {
+        self.nodes().has_bound(bound)
+    }
+
+    /// Whether what the bound names as a path is there and is a path.
+    pub fn bound_names_path(&self, bound: &TypeBound) -> bool
+        ensures { result ≡ list_all (is_path_at self.now.nodes.types) (bound_paths bound.now) }
+    {
+        self.nodes().bound_names_path(bound)
+    }
+
+    /// The expressions with their ids, in their order. It can be taken from both ends.
+    pub fn exprs(&self) -> ArenaIter<'_, ExprKind, Expr>
+        ensures { result ≡ enumerate_from 0 self.now.nodes.exprs }
+    {
+        self.exprs.iter()
+    }
+
+    /// The patterns with their ids, in their order. It can be taken from both ends.
+    pub fn pats(&self) -> ArenaIter<'_, PatKind, Pat>
+        ensures { result ≡ enumerate_from 0 self.now.nodes.pats }
+    {
+        self.pats.iter()
+    }
+
+    /// The bindings with their ids, in their order. It can be taken from both ends.
+    pub fn bindings(&self) -> ArenaIter<'_, BindingKind, Binding>
+        ensures { result ≡ enumerate_from 0 self.now.nodes.bindings }
+    {
+        self.bindings.iter()
+    }
+
+    /// The types with their ids, in their order. It can be taken from both ends.
+    pub fn types(&self) -> ArenaIter<'_, TypeRefKind, TypeRef>
+        ensures { result ≡ enumerate_from 0 self.now.nodes.types }
+    {
+        self.types.iter()
+    }
+
+    /// The lifetimes with their ids, in their order. It can be taken from both ends.
+    pub fn lifetimes(&self) -> ArenaIter<'_, LifetimeRefKind, LifetimeRef>
+        ensures { result ≡ enumerate_from 0 self.now.nodes.lifetimes }
+    {
+        self.lifetimes.iter()
+    }
+
+    /// The roots in their order. It can be taken from both ends.
+    pub fn expr_roots(&self) -> ExprRoots<'_>
+        ensures { result ≡ root_nodes self.now.roots }
+    {
+        ExprRoots::new(self.roots.as_slice())
+    }
+}
+
+/// The expression of an id, which has to be there: `has_expr` tests it.
+impl Index<ExprId> for ExpressionStore {
+    type Output = Expr;
+
+    ghost can_index = { λ store id. id < length store.nodes.exprs };
+
+    ghost index_gives = { λ store id item. slice_get store.nodes.exprs id ≡ Some item };
+
+    fn index(&self, id: ExprId) -> &Expr {
+        &self.exprs[id]
+    }
+}
+
+/// The pattern of an id, which has to be there: `has_pat` tests it.
+impl Index<PatId> for ExpressionStore {
+    type Output = Pat;
+
+    ghost can_index = { λ store id. id < length store.nodes.pats };
+
+    ghost index_gives = { λ store id item. slice_get store.nodes.pats id ≡ Some item };
+
+    fn index(&self, id: PatId) -> &Pat {
+        &self.pats[id]
+    }
+}
+
+/// The label of an id, which has to be there: `has_label` tests it.
+impl Index<LabelId> for ExpressionStore {
+    type Output = Label;
+
+    ghost can_index = { λ store id. id < length store.nodes.labels };
+
+    ghost index_gives = { λ store id item. slice_get store.nodes.labels id ≡ Some item };
+
+    fn index(&self, id: LabelId) -> &Label {
+        &self.labels[id]
+    }
+}
+
+/// The binding of an id, which has to be there: `has_binding` tests it.
+impl Index<BindingId> for ExpressionStore {
+    type Output = Binding;
+
+    ghost can_index = { λ store id. id < length store.nodes.bindings };
+
+    ghost index_gives = { λ store id item. slice_get store.nodes.bindings id ≡ Some item };
+
+    fn index(&self, id: BindingId) -> &Binding {
+        &self.bindings[id]
+    }
+}
+
+/// The type of an id, which has to be there: `has_type` tests it.
+impl Index<TypeRefId> for ExpressionStore {
+    type Output = TypeRef;
+
+    ghost can_index = { λ store id. id < length store.nodes.types };
+
+    ghost index_gives = { λ store id item. slice_get store.nodes.types id ≡ Some item };
+
+    fn index(&self, id: TypeRefId) -> &TypeRef {
+        &self.types[id]
+    }
+}
+
+/// The lifetime of an id, which has to be there: `has_lifetime` tests it.
+impl Index<LifetimeRefId> for ExpressionStore {
+    type Output = LifetimeRef;
+
+    ghost can_index = { λ store id. id < length store.nodes.lifetimes };
+
+    ghost index_gives = { λ store id item. slice_get store.nodes.lifetimes id ≡ Some item };
+
+    fn index(&self, id: LifetimeRefId) -> &LifetimeRef {
+        &self.lifetimes[id]
+    }
+}
+
+/// The path that a type is, which has to be there and to be a path: `has_path` tests it.
+impl Index<PathId> for ExpressionStore {
+    type Output = Path;
+
+    ghost can_index = { λ store id. IsTrue (is_path_at store.nodes.types id) };
+
+    ghost index_gives = { λ store id path. path_at store.nodes.types id ≡ Some path };
+
+    fn index(&self, id: PathId) -> &Path {
+        match as_path(&self.types[id.type_ref()]) {
+            Some(path) => path,
+            None => unreachable!(),
+        }
+    }
+}
+
+impl Clone for ExpressionStore {
+    ghost is_clone = { λ store copy. copy ≡ store };
+
+    fn clone(&self) -> Result<ExpressionStore, AllocError> {
+        let copy = zip_ok(self.exprs.try_clone()?, self.pats.try_clone())?;
+        let copy = zip_ok(copy, self.types.try_clone())?;
+        let copy = zip_ok(copy, self.bindings.try_clone())?;
+        let copy = zip_ok(copy, self.labels.try_clone())?;
+        let copy = zip_ok(copy, self.lifetimes.try_clone())?;
+        let copy = zip_ok(copy, self.roots.try_clone())?;
+        let copy = zip_ok(copy, self.side_tables.try_clone())?;
+        let (copy, kept) = zip_ok(copy, self.kept.try_clone())?;
+        let (((((((exprs, pats), types), bindings), labels), lifetimes), roots), side_tables) =
+            copy;
+        Ok(ExpressionStore {
+            exprs,
+            pats,
+            types,
+            bindings,
+            labels,
+            lifetimes,
+            roots,
+            side_tables,
+            kept,
+        })
+    }
+}
+
+/// Stores are equal where all that they hold is; the parents of the nodes and the links of the patterns follow from these.
+impl PartialEq for ExpressionStore {
+    ghost use Rattle.hir_store_core.specs.same.SameStores.{same_stores, stores_per};
+
+    ghost eq = { same_stores };
+
+    ghost laws = { stores_per };
+
+    fn eq(&self, other: &ExpressionStore) -> bool {
+        self.exprs == other.exprs
+            && self.pats == other.pats
+            && self.types == other.types
+            && self.bindings == other.bindings
+            && self.labels == other.labels
+            && self.lifetimes == other.lifetimes
+            && self.roots == other.roots
+            && self.side_tables == other.side_tables
+    }
+}
+
+impl Eq for ExpressionStore {
+    ghost use Rattle.hir_store_core.specs.same.SameStores.{stores_equiv};
+
+    ghost laws = { stores_equiv };
+}
+
+impl ExactEq for ExpressionStore {
+    ghost use Rattle.hir_store_core.specs.same.SameStores.{stores_decide};
+
+    ghost eq_decides = { stores_decide };
+}
+
+impl TryClone for ExpressionStore {
+    ghost clone_is_same = { λ x y h. h };
+}

@@ -1,0 +1,38 @@
+//! The store that questions ask.
+
+use hir_base::ExpressionStoreOwnerId;
+use hir_text_nodes::{Answer, TextError};
+use hir_store::{ExpressionStore, ExpressionStoreSourceMap};
+use std::alloc::Global;
+
+/// A finished store, and its source map.
+pub type Finished = Box<(ExpressionStore, ExpressionStoreSourceMap)>;
+
+/// The store that questions ask.
+#[derive(Drop)]
+pub enum Subject {
+    /// The one that is kept, where there is one.
+    None,
+    /// The one that was finished last.
+    Store(Finished),
+    /// That of a definition.
+    Owner(ExpressionStoreOwnerId),
+}
+
+/// What was accepted is the store that questions ask from then on.
+pub(crate) fn ask_accepted(
+    owner: ExpressionStoreOwnerId,
+    answer: &mut Answer,
+) -> Result<Subject, TextError> {
+    answer.word("accepted")?;
+    Ok(Subject::Owner(owner))
+}
+
+/// What was refused is the store that questions ask again.
+pub(crate) fn ask_again(
+    alloc: Global,
+    store: ExpressionStore,
+    sources: ExpressionStoreSourceMap,
+) -> Result<Subject, TextError> {
+    Ok(Subject::Store(Box::new(alloc, (store, sources))?))
+}

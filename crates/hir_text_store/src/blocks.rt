@@ -1,0 +1,55 @@
+//! The question on the blocks of a store with their maps.
+
+use crate::missing::refuse_missing;
+use hir_base::{BlockId, Id};
+use hir_text_nodes::{Answer, TextError, Words};
+use hir_store::{Blocks, ExpressionStore};
+use std::alloc::{AllocError, Global};
+use std::collections::BTreeMap;
+
+/// The maps of blocks at the end of the line: `N=N..`
+fn read_maps(words: &mut Words<'_>, alloc: Global) -> Result<BTreeMap<BlockId, u32>, TextError> {
+    let mut maps = BTreeMap::new(alloc);
+    for _ in 0..words.rest().len() {
+        if words.is_end() {
+            break;
+        }
+        let block = words.next_number()?;
+        words.expect(b"=")?;
+        let _ = maps.insert(Id::from_raw(block), words.number()?)?;
+    }
+    words.end()?;
+    Ok(maps)
+}
+
+fn write_blocks(blocks: Blocks<'_, u32>, answer: &mut Answer) -> Result<(), AllocError> {
+    for (block, map) in blocks {
+        answer.number(block.into_raw())?;
+        answer.join("=")?;
+        answer.join_number(*map)?;
+    }
+    Ok(())
+}
+
+/// The blocks of the store with these maps.
+fn write(
+    store: &ExpressionStore,
+    maps: &BTreeMap<BlockId, u32>,
+    answer: &mut Answer,
+) -> Result<(), AllocError> {
+    match store.blocks(maps) {
+        Ok(blocks) => write_blocks(blocks, answer),
+        Err(missing) => refuse_missing(missing, answer),
+    }
+}
+
+/// `blocks N=N..`
+pub(crate) fn ask(
+    alloc: Global,
+    store: &ExpressionStore,
+    words: &mut Words<'_>,
+    answer: &mut Answer,
+) -> Result<(), TextError> {
+    let maps = read_maps(words, alloc)?;
+    Ok(write(store, &maps, answer)?)
+}

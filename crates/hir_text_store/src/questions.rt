@@ -1,0 +1,249 @@
+//! All questions that a store and its source map answer.
+
+use crate::try_walks::TryWalk;
+use crate::walks::Walk;
+use crate::{
+    blocks, calls, equality, nodes, numbers, paths, places, searches, sources, try_walks, walks,
+};
+use hir_text_nodes::{Answer, TextError, Words};
+use hir_store::{ExpressionStore, ExpressionStoreSourceMap};
+use hir_text_words::value_of;
+use std::alloc::Global;
+
+/// What a question asks.
+#[derive(Clone, Copy)]
+enum Question {
+    Nodes(nodes::Kind),
+    Has,
+    Hygiene,
+    Numbers(numbers::Question),
+    Root,
+    CountedRoot,
+    Equal,
+    Copies,
+    OfStore(OfStore),
+    OfSources(OfSources),
+}
+
+/// What a store is asked that takes memory.
+#[derive(Clone, Copy)]
+enum OfStore {
+    Blocks,
+    Calls,
+    Walk(Walk),
+    TryWalk(TryWalk),
+    ChildPats,
+    Path,
+    Sound,
+    BoundPath,
+}
+
+/// What a source map is asked.
+#[derive(Clone, Copy)]
+enum OfSources {
+    Syntax,
+    Source(sources::Question),
+    Diagnostics,
+    Meaning(places::Question),
+    Expansions,
+}
+
+/// The first words of questions.
+const QUESTIONS: [(&str, Question); 48] = [
+    ("nodes", Question::Nodes(nodes::Kind::Counts)),
+    ("list-roots", Question::Nodes(nodes::Kind::Roots)),
+    ("has", Question::Has),
+    ("precedence", Question::Nodes(nodes::Kind::Precedence)),
+    ("negate", Question::Nodes(nodes::Kind::Negate)),
+    ("owner-of", Question::Nodes(nodes::Kind::Owner)),
+    ("hygiene-of", Question::Hygiene),
+    ("parens", Question::Numbers(numbers::Question::Parens)),
+    (
+        "coroutine-for-closure",
+        Question::Numbers(numbers::Question::CoroutineForClosure),
+    ),
+    (
+        "closure-for-coroutine",
+        Question::Numbers(numbers::Question::ClosureForCoroutine),
+    ),
+    ("root-of", Question::Root),
+    ("counted-root-of", Question::CountedRoot),
+    ("equal", Question::Equal),
+    ("copies", Question::Copies),
+    ("blocks", Question::OfStore(OfStore::Blocks)),
+    ("calls", Question::OfStore(OfStore::Calls)),
+    ("children", Question::OfStore(OfStore::Walk(Walk::Children))),
+    (
+        "children-without-pats",
+        Question::OfStore(OfStore::Walk(Walk::ChildrenWithoutPats)),
+    ),
+    ("walk-pats", Question::OfStore(OfStore::Walk(Walk::Pats))),
+    (
+        "walk-pats-shallow",
+        Question::OfStore(OfStore::Walk(Walk::PatsShallow)),
+    ),
+    (
+        "bindings-in",
+        Question::OfStore(OfStore::Walk(Walk::Bindings)),
+    ),
+    ("exprs-in", Question::OfStore(OfStore::Walk(Walk::Exprs))),
+    (
+        "try-children",
+        Question::OfStore(OfStore::TryWalk(TryWalk::Children)),
+    ),
+    (
+        "try-children-without-pats",
+        Question::OfStore(OfStore::TryWalk(TryWalk::ChildrenWithoutPats)),
+    ),
+    (
+        "try-walk-pats",
+        Question::OfStore(OfStore::TryWalk(TryWalk::Pats)),
+    ),
+    (
+        "try-bindings-in",
+        Question::OfStore(OfStore::TryWalk(TryWalk::Bindings)),
+    ),
+    (
+        "try-exprs-in",
+        Question::OfStore(OfStore::TryWalk(TryWalk::Exprs)),
+    ),
+    ("child-pats", Question::OfStore(OfStore::ChildPats)),
+    ("path", Question::OfStore(OfStore::Path)),
+    ("sound", Question::OfStore(OfStore::Sound)),
+    ("bound-path", Question::OfStore(OfStore::BoundPath)),
+    ("syntax", Question::OfSources(OfSources::Syntax)),
+    (
+        "expr-syntax",
+        Question::OfSources(OfSources::Source(sources::Question::Expr)),
+    ),
+    (
+        "pat-syntax",
+        Question::OfSources(OfSources::Source(sources::Question::Pat)),
+    ),
+    (
+        "type-syntax",
+        Question::OfSources(OfSources::Source(sources::Question::Type)),
+    ),
+    (
+        "label-syntax",
+        Question::OfSources(OfSources::Source(sources::Question::Label)),
+    ),
+    (
+        "field-syntax",
+        Question::OfSources(OfSources::Source(sources::Question::Field)),
+    ),
+    (
+        "pat-field-syntax",
+        Question::OfSources(OfSources::Source(sources::Question::PatField)),
+    ),
+    (
+        "patterns-for",
+        Question::OfSources(OfSources::Source(sources::Question::PatternsFor)),
+    ),
+    ("diagnostics", Question::OfSources(OfSources::Diagnostics)),
+    (
+        "node-expr",
+        Question::OfSources(OfSources::Meaning(places::Question::Expr)),
+    ),
+    (
+        "node-pat",
+        Question::OfSources(OfSources::Meaning(places::Question::Pat)),
+    ),
+    (
+        "macro-expansion-expr",
+        Question::OfSources(OfSources::Meaning(places::Question::MacroExpr)),
+    ),
+    (
+        "node-type",
+        Question::OfSources(OfSources::Meaning(places::Question::Type)),
+    ),
+    (
+        "node-label",
+        Question::OfSources(OfSources::Meaning(places::Question::Label)),
+    ),
+    (
+        "node-macro-file",
+        Question::OfSources(OfSources::Meaning(places::Question::MacroFile)),
+    ),
+    (
+        "expansion-of",
+        Question::OfSources(OfSources::Meaning(places::Question::Expansion)),
+    ),
+    ("expansions", Question::OfSources(OfSources::Expansions)),
+];
+
+/// Answers what a store is asked that takes memory.
+fn ask_store(
+    alloc: Global,
+    store: &ExpressionStore,
+    question: OfStore,
+    words: &mut Words<'_>,
+    answer: &mut Answer,
+) -> Result<(), TextError> {
+    match question {
+        OfStore::Blocks => blocks::ask(alloc, store, words, answer),
+        OfStore::Calls => calls::ask(alloc, store, words, answer),
+        OfStore::Walk(walk) => walks::ask(alloc, store, walk, words, answer),
+        OfStore::TryWalk(walk) => try_walks::ask(alloc, store, walk, words, answer),
+        OfStore::ChildPats => walks::ask_child_pats(alloc, store, words, answer),
+        OfStore::Path => paths::ask(alloc, words, answer),
+        OfStore::Sound => paths::ask_sound(alloc, store, words, answer),
+        OfStore::BoundPath => paths::ask_bound_path(alloc, store, words, answer),
+    }
+}
+
+/// Answers what a source map is asked.
+fn ask_sources(
+    alloc: Global,
+    sources: &ExpressionStoreSourceMap,
+    question: OfSources,
+    words: &mut Words<'_>,
+    answer: &mut Answer,
+) -> Result<(), TextError> {
+    match question {
+        OfSources::Syntax => sources::ask_of_node(sources, words, answer),
+        OfSources::Source(question) => sources::ask(sources, question, words, answer),
+        OfSources::Diagnostics => sources::ask_diagnostics(sources, words, answer),
+        OfSources::Meaning(question) => places::ask(sources, question, words, answer),
+        OfSources::Expansions => places::ask_expansions(alloc, sources, words, answer),
+    }
+}
+
+/// Answers a question.
+fn answer_question(
+    alloc: Global,
+    store: &ExpressionStore,
+    sources: &ExpressionStoreSourceMap,
+    question: Question,
+    words: &mut Words<'_>,
+    answer: &mut Answer,
+) -> Result<(), TextError> {
+    match question {
+        Question::Nodes(kind) => nodes::ask(store, kind, words, answer),
+        Question::Has => nodes::ask_has(store, words, answer),
+        Question::Hygiene => nodes::ask_hygiene(store, words, answer),
+        Question::Numbers(question) => numbers::ask(question, words, answer),
+        Question::Root => searches::ask(store, false, words, answer),
+        Question::CountedRoot => searches::ask(store, true, words, answer),
+        Question::Equal => equality::equal(store, words, answer),
+        Question::Copies => equality::copies(store, words, answer),
+        Question::OfStore(question) => ask_store(alloc, store, question, words, answer),
+        Question::OfSources(question) => ask_sources(alloc, sources, question, words, answer),
+    }
+}
+
+/// Answers a question on a store and its source map; answers whether it is such a question.
+pub fn ask(
+    alloc: Global,
+    store: &ExpressionStore,
+    sources: &ExpressionStoreSourceMap,
+    word: &[u8],
+    words: &mut Words<'_>,
+    answer: &mut Answer,
+) -> Result<bool, TextError> {
+    let Some(question) = value_of(&QUESTIONS, word) else {
+        return Ok(false);
+    };
+    answer_question(alloc, store, sources, question, words, answer)?;
+    Ok(true)
+}

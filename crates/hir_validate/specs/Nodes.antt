@@ -1,0 +1,57 @@
+-- The nodes of a store under their ids, and the graph of their children.
+use Rattle.std.specs.Prelude.{ℕ, List, ◌++◌, map, length, slice_get}
+use Rattle.hir_node.specs.declared.expr.Expr.{Expr}
+use Rattle.hir_node.specs.declared.pat.Pat.{Pat}
+use Rattle.hir_node.specs.declared.type_ref.TypeRef.{TypeRef}
+use Rattle.hir_node.specs.declared.type_ref.LifetimeRef.{LifetimeRef}
+use Rattle.hir_node.specs.declared.binding.Binding.{Binding}
+use Rattle.hir_node.specs.declared.binding.Label.{Label}
+use Rattle.hir_node.specs.ChildCalls.{Call, expr_calls, pat_calls, type_calls, opt, children}
+use Rattle.hir_node.specs.declared.node_id.NodeId.{NodeId}
+use Rattle.hir_node.specs.declared.node_id.NodeId.TheVariants as node
+use Rattle.hir_validate.specs.declared.sizes.Sizes.{Sizes}
+use Rattle.hir_validate.specs.Sizes.{HasNode, places}
+
+-- expressions, patterns and types, and bindings, labels and lifetimes
+pub record Nodes : Type 0 where
+  pub exprs : List Expr
+  pub pats : List Pat
+  pub types : List TypeRef
+  pub bindings : List Binding
+  pub labels : List Label
+  pub lifetimes : List LifetimeRef
+
+abbrev pub sizes_of : Nodes → Sizes
+sizes_of s = record {
+  exprs = length s.exprs;
+  pats = length s.pats;
+  types = length s.types;
+  bindings = length s.bindings;
+  labels = length s.labels;
+  lifetimes = length s.lifetimes;
+}
+
+abbrev pub Has : Nodes → NodeId → Type 0
+Has s n = HasNode (sizes_of s) n
+
+-- the calls of what is there
+abbrev pub calls_at : {X : Type 0} → (X → List Call) → List X → ℕ → List Call
+calls_at calls xs id = opt calls (slice_get xs id)
+
+-- the child calls of a node
+abbrev pub calls_of : Nodes → NodeId → List Call
+calls_of s (node.Expr id) = calls_at expr_calls s.exprs id
+calls_of s (node.Pat id) = calls_at pat_calls s.pats id
+calls_of s (node.TypeRef id) = calls_at type_calls s.types id
+
+-- the children of a node
+abbrev pub children_of : Nodes → NodeId → List NodeId
+children_of s n = children (calls_of s n)
+
+-- the calls of all nodes: of the expressions, then of the patterns, then of the types
+abbrev pub all_calls : Nodes → List (List Call)
+all_calls s = map expr_calls s.exprs ++ map pat_calls s.pats ++ map type_calls s.types
+
+-- the children of all nodes, by their places
+abbrev pub graph : Nodes → List (List ℕ)
+graph s = map (places (sizes_of s)) (all_calls s)
