@@ -5,7 +5,8 @@ use hir_node::{Expr, PatId};
 use hir_store::ExpressionStore;
 use std::alloc::Global;
 
-/// The patterns in the target of an assignment, of which each path is a variable that is assigned to; none of another expression.
+/// The patterns in the target of an assignment, of which each path is a variable that is assigned to; none of
+/// another expression.
 pub fn targets(
     alloc: Global,
     store: &ExpressionStore,

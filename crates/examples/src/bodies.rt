@@ -6,9 +6,11 @@ use hir_make::{assign, bind, block, body, closure, let_, local, statement, tuple
 use hir_store::ExpressionStoreBuilder;
 use std::alloc::Global;
 
-/// The body of `fn f(x) { let y = x; let z = w; v = y; y }`. Nothing has the name `w` or `v`, and `z` isn't used.
+/// The body of `fn f(x) { let y = x; let z = w; v = y; y }`. Nothing has the name `w` or `v`, and `z` isn't
+/// used.
 ///
-/// Expressions and patterns have the numbers of their order in the text: `x` is expression 0, and `v` is pattern 3.
+/// Expressions and patterns have the numbers of their order in the text: `x` is expression 0, and `v` is
+/// pattern 3.
 pub fn names(alloc: Global) -> Result<Body, HirError> {
     let mut builder = ExpressionStoreBuilder::new(alloc);
     let x = bind(alloc, &mut builder, "x")?;

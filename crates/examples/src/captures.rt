@@ -22,7 +22,8 @@ struct ClosureCaptures {
     bindings: Vec<BindingId>,
 }
 
-/// What each closure of the body captures, in the order of their ids. An expression that the body doesn't reach isn't among them.
+/// What each closure of the body captures, in the order of their ids. An expression that the body doesn't
+/// reach isn't among them.
 fn captures_by_closure(
     alloc: Global,
     body: &Body,

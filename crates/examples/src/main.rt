@@ -1,5 +1,5 @@
-//! Examples, a module each: a tour of what a body is asked, and what the names of a body mean: the paths that resolve to nothing, the
-//! bindings that no path resolves to, and what closures capture.
+//! Examples, a module each: a tour of what a body is asked, and what the names of a body mean: the paths that
+//! resolve to nothing, the bindings that no path resolves to, and what closures capture.
 #![tactic(auto)]
 
 mod assigned;

@@ -1,4 +1,5 @@
-//! A tour: a body is built by calls, finished, printed, walked and searched, and the name `x` is resolved at each expression.
+//! A tour: a body is built by calls, finished, printed, walked and searched, and the name `x` is resolved at
+//! each expression.
 ghost use Rattle.std.specs.Prelude.{◌≡◌, ◌<◌, length, option_map};
 ghost use Rattle.std.specs.FinMap as map;
 ghost use Rattle.hir_store_core.specs.RootSearch.{root_for_expr};

@@ -8,8 +8,9 @@ use hir_node::{Expr, ExprOrPatId, Pat};
 use hir_scope::{ExprScopes, local_name};
 use std::alloc::Global;
 
-/// The paths that may mean a local variable and mean none: expressions, and variables that are assigned to. What is defined outside the
-/// body, as a function, is among them. An expression that the body doesn't reach has no scope, and nothing is asked there.
+/// The paths that may mean a local variable and mean none: expressions, and variables that are assigned to.
+/// What is defined outside the body, as a function, is among them. An expression that the body doesn't reach
+/// has no scope, and nothing is asked there.
 fn unresolved(
     alloc: Global,
     body: &Body,

@@ -1,8 +1,11 @@
--- The words that public contracts cite, for clauses of a user's own: one module for each file of definitions, under its own name where no
--- two have one, and one for each type that clauses name, as `Rattle.hir.specs.NodeId.{NodeId}`.
+-- The words that public contracts cite, for clauses of a user's own: one module for each file of definitions,
+-- under its own name where no two have one, and one for each type that clauses name, as
+-- `Rattle.hir.specs.NodeId.{NodeId}`.
+
 -- ids, names, hygiene, tables
 pub use Rattle.hir_base.specs.Abi
 pub use Rattle.hir_base.specs.Hygiene
+pub use Rattle.hir_base.specs.Ids as DefinitionIds
 pub use Rattle.hir_base.specs.Keys
 pub use Rattle.hir_base.specs.Laws
 pub use Rattle.hir_base.specs.ModPath
@@ -26,6 +29,7 @@ pub use Rattle.hir_path.specs.Boxed
 pub use Rattle.hir_path.specs.Ids
 pub use Rattle.hir_path.specs.Keys as PathKeys
 pub use Rattle.hir_path.specs.Lists
+pub use Rattle.hir_path.specs.NodeIds
 pub use Rattle.hir_path.specs.Paths
 pub use Rattle.hir_path.specs.Segments
 pub use Rattle.hir_path.specs.declared.bound.TraitBoundModifier
@@ -74,9 +78,11 @@ pub use Rattle.hir_validate.specs.Sound
 pub use Rattle.hir_validate.specs.TestedParts
 pub use Rattle.hir_validate.specs.declared.fault.FinishFault
 -- the store
+pub use Rattle.hir_store_core.specs.Ancestors
 pub use Rattle.hir_store_core.specs.Blocks
 pub use Rattle.hir_store_core.specs.Bounds
 pub use Rattle.hir_store_core.specs.Contents
+pub use Rattle.hir_store_core.specs.JumpTargets
 pub use Rattle.hir_store_core.specs.NodeSets
 pub use Rattle.hir_store_core.specs.PatLinks
 pub use Rattle.hir_store_core.specs.PatLists

@@ -1,7 +1,9 @@
-//! The front door: all that a user of the store names, under one name. A program lists `hir`, and no crate below it.
+//! The front door: all that a user of the store names, under one name. A program lists `hir`, and no crate
+//! below it.
 //!
-//! Nodes and what they are made of; the builder and the accepted store; bodies, signatures and tables of definitions; scopes; captures;
-//! printing; one error for every refusal, and helpers that build nodes by hand. `laws` has the theorems that contracts rest on, by crate.
+//! Nodes and what they are made of; the builder and the accepted store; bodies, signatures and tables of
+//! definitions; scopes; captures; printing; one error for every refusal, and helpers that build nodes by
+//! hand. `laws` has the theorems that contracts rest on, by crate.
 #![tactic(auto)]
 
 pub mod laws;
@@ -110,13 +112,6 @@ pub use hir_defs::StoreOf;
 pub use hir_defs::Tables;
 pub use hir_defs::TablesOf;
 pub use hir_error::HirError;
-pub use hir_store_core::Blocks;
-pub use hir_store_core::ExprRoots;
-pub use hir_store_core::ExpressionStore;
-pub use hir_store_core::Missing;
-pub use hir_store_core::NodeSet;
-pub use hir_store_core::TypeBoundExt;
-pub use hir_validate::FinishFault;
 pub use hir_items::Bodies;
 pub use hir_items::Body;
 pub use hir_items::BodyEntry;
@@ -268,3 +263,11 @@ pub use hir_source_map::MissingBodyItemKind;
 pub use hir_source_map::SourceMapBuilder;
 pub use hir_store::ExpressionStoreBuilder;
 pub use hir_store::Refused;
+pub use hir_store_core::Ancestors;
+pub use hir_store_core::Blocks;
+pub use hir_store_core::ExprRoots;
+pub use hir_store_core::ExpressionStore;
+pub use hir_store_core::Missing;
+pub use hir_store_core::NodeSet;
+pub use hir_store_core::TypeBoundExt;
+pub use hir_validate::FinishFault;

@@ -79,7 +79,7 @@ module _ {V : Type 0} where
   at_set : (xs : List (Option V)) (at : ℕ) (v : V) → at < length xs → (q : ℕ) → get_or (set xs at (Some v)) q None ≡ cond (q == at) (Some v) (get_or xs q None)
   at_set xs at v h q = grind (arith, nat_tests, get_or-set_same, get_or-set_other)
 
-  -- a write to a place that is there
+  -- a write to a place in range
   pub map_of-set : (xs : List (Option V)) (at : ℕ) (v : V) → at < length xs → map_of (set xs at (Some v)) ≡ map.insert (map_of xs) at v
   map_of-set xs at v h = updated xs _ at v (at_set xs at v h)
 

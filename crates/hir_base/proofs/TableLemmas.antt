@@ -33,7 +33,7 @@ put_new c v (e ∷ es) h =
           IsPermutation-trans _ _ _ (IsPermutation-swap ((c, v) ∷ e ∷ es) (e ∷ (c, v) ∷ es) 0 1 (omega arith) (omega arith) refl) (IsPermutation-cons e _ _ (put_new c v es later))
     ] refl
 
--- what follows where a value is found, of an answer that lends it
+-- P holds of a lookup that lends a value, if P follows from the value that is found
 pub when_some : {A B P : Type 0} (f : A → B) (r : Option A) (o : Option B) → option_map f r ≡ o → (IsSome o → P) → OnSome r P
 when_some f None o e h = search rules
 when_some f (Some x) o e h = h (subst IsSome e (search rules))
@@ -76,7 +76,7 @@ module _ {K V : Type 0} (code : K → List ℕ) where
     pub get-table_of : (k : K) (es : List (K × V)) → map.get (table_of code es) (code k) ≡ lookup (E k) es
     get-table_of k es = map.get-from_entries nat_list_cmp_total (by_codes code es) (code k) ∙ sym (found k es)
 
-    -- tables that answer alike at each key are one map
+    -- tables whose lookups agree at each key are the same map
     pub alike : (es fs : List (K × V)) → ((q : K) → lookup (E q) es ≡ lookup (E q) fs) → table_of code es ≡ table_of code fs
     alike es fs same =
         let of_key : (c : List ℕ) → (q : K) × (code q ≡ c) → find by_code c (by_codes code es) ≡ find by_code c (by_codes code fs) =

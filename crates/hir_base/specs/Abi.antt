@@ -1,4 +1,4 @@
--- The texts of calling conventions.
+-- Defines the texts of calling conventions.
 use Rattle.std.specs.Prelude.{ℕ, List, codes}
 use Rattle.hir_base.specs.declared.abi.ExternAbi.{ExternAbi}
 use Rattle.hir_base.specs.declared.abi.ExternAbi.TheVariants.{Rust, C, CUnwind, System, SystemUnwind, Named}

@@ -1,4 +1,4 @@
--- The texts of ids: the kind of id, and its number in parentheses.
+-- Defines the texts of ids: the kind of id, and its number in parentheses.
 use Rattle.std.specs.Prelude.{ℕ, List, ◌++◌, codes, decimal}
 use Rattle.hir_base.specs.declared.defs.AdtId.{AdtId}
 use Rattle.hir_base.specs.declared.defs.AdtId.TheVariants as adt
@@ -83,13 +83,13 @@ named_text (named.EnumVariantId id) = id_text (codes "EnumVariantId") id
 named_text (named.ConstId id) = id_text (codes "ConstId") id
 named_text (named.MacroId id) = macro_text id
 
--- what of the definition it is, and the definition, as `Signature(FunctionId(7))`
+-- which part of a definition it is, and the definition, as `Signature(FunctionId(7))`
 abbrev pub owner_text : ExpressionStoreOwnerId → List ℕ
 owner_text (owner.Signature id) = codes "Signature(" ++ generic_text id ++ codes ")"
 owner_text (owner.Body id) = codes "Body(" ++ body_text id ++ codes ")"
 owner_text (owner.VariantFields id) = codes "VariantFields(" ++ fields_text id ++ codes ")"
 
--- the kind of parameter, its parent and its number there, as `TypeParamId(FunctionId(7), 0)`
+-- a parameter: its kind, its parent and its number in it, as `TypeParamId(FunctionId(7), 0)`
 abbrev pub param_text : List ℕ → GenericDefId → ℕ → List ℕ
 param_text kind parent number = kind ++ codes "(" ++ generic_text parent ++ codes ", " ++ decimal number
     ++ codes ")"
@@ -106,7 +106,7 @@ edition_text Edition2018 = codes "Edition2018"
 edition_text Edition2021 = codes "Edition2021"
 edition_text Edition2024 = codes "Edition2024"
 
--- as `Root(Edition2015)` and `Expansion(7)`
+-- the variant and what it holds, as `Root(Edition2015)` and `Expansion(7)`
 abbrev pub context_text : SyntaxContext → List ℕ
 context_text (Root edition) = codes "Root(" ++ edition_text edition ++ codes ")"
 context_text (Expansion number) = id_text (codes "Expansion") number

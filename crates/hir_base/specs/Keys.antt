@@ -1,4 +1,4 @@
--- The codes by which tables tell keys apart.
+-- Defines the codes by which tables tell keys apart.
 use Rattle.std.proofs.Common.{◌≡◌, ℕ, List, [], ◌∷◌, Bool, ◌&&◌, ◌==◌, refl, ap, sym, ◌∙◌, Decides}
 use Rattle.std.specs.Prelude.{Option, Some, None, option_map, slice_get}
 use Rattle.std.specs.Cmp.{unsigned_Decides, first_so, second_so}
@@ -11,11 +11,11 @@ use Rattle.hir_base.specs.declared.defs.NamedDef.{NamedDef}
 use Rattle.hir_base.specs.declared.defs.NamedDef.TheVariants.{EnumId as named_enum, FunctionId as named_function, StaticId as named_static, StructId as named_struct, UnionId as named_union, TypeAliasId as named_alias, TraitId as named_trait, EnumVariantId as named_variant, ConstId as named_const, MacroId as named_macro}
 use Rattle.hir_base.specs.declared.defs.MacroId.TheVariants.{Macro2Id as by_macro2, MacroRulesId as by_rules, ProcMacroId as by_proc}
 
--- one number alone
+-- equality of two numbers decides equality of their codes
 pub number_tells : (x y : ℕ) → Decides (x == y) (x ∷ [] ≡ y ∷ [])
 number_tells x y = (λ h i. (unsigned_Decides x y).0 h i ∷ [], λ e. (unsigned_Decides x y).1 (cc))
 
--- a number before a code
+-- equality of two codes that begin with a number is decided by the numbers and the rests
 pub cons_tells : (a b : Bool) (n m : ℕ) (xs ys : List ℕ) → Decides a (n ≡ m) → Decides b (xs ≡ ys)
     → Decides (a && b) (n ∷ xs ≡ m ∷ ys)
 cons_tells a b n m xs ys first rest = (
@@ -32,7 +32,7 @@ cons_tells a b n m xs ys first rest = (
 same_value : {X : Type 0} (x y : X) → Some x ≡ Some y → x ≡ y
 same_value x y e = cc
 
--- a code from which the key can be read back
+-- equality of keys decides equality of their codes, if the key can be read back from its code
 pub read_back_tells : {X : Type 0} (code : X → List ℕ) (back : List ℕ → Option X)
     → ((x : X) → back (code x) ≡ Some x) → (b : Bool) (x y : X) → Decides b (x ≡ y)
     → Decides b (code x ≡ code y)
@@ -42,7 +42,7 @@ read_back_tells code back reads b x y same = (
       same.1 (same_value x y (sym (reads x) ∙ ap back e ∙ reads y)),
 )
 
--- a node: its kind and its range
+-- the code of a node: its kind and its range
 abbrev pub node_code : SyntaxNodePtr → List ℕ
 node_code node = node.kind ∷ node.range.start ∷ node.range.end ∷ []
 
@@ -57,7 +57,7 @@ pub node_tells : (b : Bool) (x y : SyntaxNodePtr) → Decides b (x ≡ y) → De
 unfolding node_back
 node_tells = read_back_tells node_code node_back (λ x. refl)
 
--- an id after a number for its kind
+-- the key of a code that is a number for the kind, then an id
 abbrev pub read_id : {X : Type 0} → List (ℕ → X) → List ℕ → Option X
 read_id makers (kind ∷ id ∷ []) = option_map (λ make. make id) (slice_get makers kind)
 read_id makers code = None

@@ -1,4 +1,4 @@
--- Equality of finite maps, the same keys with equal values, and its laws.
+-- Defines equality of finite maps, which have the same keys with equal values, and its theorems.
 use Rattle.std.proofs.Common.{◌≡◌, Bool, true, ◌&&◌, ap, sym, ◌∙◌, Decides}
 use Rattle.std.specs.declared.cmp.Ordering.{Ordering}
 use Rattle.std.specs.declared.cmp.Ordering.TheVariants.{Less, Equal, Greater}

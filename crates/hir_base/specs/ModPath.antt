@@ -1,4 +1,4 @@
--- What a contract sees of a path without arguments.
+-- Defines the model of a path without arguments.
 use Rattle.std.specs.Prelude.{ℕ, List, [], ◌∷◌, Option, Some, None}
 use Rattle.hir_base.specs.declared.mod_path.PathKind.{PathKind}
 use Rattle.hir_base.specs.declared.mod_path.PathKind.TheVariants.{Plain}

@@ -1,4 +1,4 @@
--- The texts of operators and of the suffixes of numbers.
+-- Defines the texts of operators and of the suffixes of numbers.
 use Rattle.std.specs.Prelude.{ℕ, List, ◌++◌, Bool, true, false, Option, Some, None, codes}
 use Rattle.hir_base.specs.declared.operators.ArithOp.{ArithOp}
 use Rattle.hir_base.specs.declared.operators.ArithOp.TheVariants.{Add, Sub, Mul, Div, Rem, Shl, Shr, BitXor, BitOr, BitAnd}

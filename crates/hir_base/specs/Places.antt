@@ -1,4 +1,4 @@
--- Places that are named by their numbers, each with a value or without one, seen as a finite map.
+-- Models numbered places, each with a value or without one, as a finite map.
 use Rattle.std.specs.Prelude.{ℕ, ◌+◌, List, [], ◌∷◌, Bool, true, is_some, Option, Some, None}
 use Rattle.std.specs.Ordering.{nat_cmp}
 use Rattle.std.specs.FinMap as map
@@ -14,7 +14,7 @@ module _ {V : Type 0} where
   abbrev pub map_of : List (Option V) → map.FinMap nat_cmp V
   map_of places = map.from_sorted (entries_from 0 places)
 
-  -- there is no place, or the last one has a value
+  -- whether there is no place, or the last one has a value
   abbrev pub ends_full : List (Option V) → Bool
   ends_full [] = true
   ends_full (place ∷ []) = is_some place

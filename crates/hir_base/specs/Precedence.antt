@@ -1,4 +1,4 @@
--- How tightly expressions bind, and where a child needs parentheses.
+-- Defines how tightly expressions bind, and where a child needs parentheses.
 use Rattle.std.specs.Prelude.{ℕ, Bool, false, ◌&&◌, nat_lt, nat_le}
 use Rattle.hir_base.specs.declared.prec.ExprPrecedence.{ExprPrecedence}
 use Rattle.hir_base.specs.declared.prec.ExprPrecedence.TheVariants.{Jump, Assign, Range, LOr, LAnd, Compare, BitOr, BitXor, BitAnd, Shift, Sum, Product, Cast, Prefix, Postfix, Unambiguous}
@@ -22,12 +22,13 @@ level Prefix = 13
 level Postfix = 14
 level Unambiguous = 15
 
--- the child binds less than the parent
+-- whether the child binds less than the parent
 abbrev pub is_lower : ExprPrecedence → ExprPrecedence → Bool
 is_lower child parent = nat_lt (level child) (level parent)
 
--- in an unambiguous parent no child needs parentheses; after a postfix all that binds less does, and after a prefix that too, but for a jump;
--- in any other parent a child of the parent's own precedence needs them as well
+-- In an unambiguous parent no child needs parentheses. In a postfix each child that binds less needs them,
+-- and in a prefix each that binds less, but for a jump. In any other parent a child of the parent's own
+-- precedence needs them as well.
 abbrev pub needs_parentheses : ExprPrecedence → ExprPrecedence → Bool
 needs_parentheses child Unambiguous = false
 needs_parentheses child Postfix = is_lower child Postfix

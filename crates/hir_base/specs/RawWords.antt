@@ -1,4 +1,4 @@
--- The words of each edition that are written with `r#`.
+-- Defines the words of each edition that are written with `r#`.
 use Rattle.std.specs.Prelude.{ℕ, List, []}
 use Rattle.hir_base.specs.declared.edition.Edition.{Edition}
 use Rattle.hir_base.specs.declared.edition.Edition.TheVariants.{Edition2015, Edition2018, Edition2021, Edition2024}
@@ -13,7 +13,7 @@ words_of words Edition2018 = words.edition2018
 words_of words Edition2021 = words.edition2021
 words_of words Edition2024 = words.edition2024
 
--- the edition has these words, and the others keep theirs
+-- the words with these for one edition; the others keep theirs
 abbrev pub with_words : RawWords → Edition → List (List ℕ) → RawWords
 with_words words Edition2015 given = record words { edition2015 = given }
 with_words words Edition2018 given = record words { edition2018 = given }

@@ -1,4 +1,4 @@
--- A `HashMap` seen as a finite map, by a list of numbers for each key.
+-- Models a `HashMap` as a finite map, by a list of numbers for each key.
 use Rattle.std.specs.Prelude.{◌≡◌, ℕ, List, map as each}
 use Rattle.std.specs.Bool.{Decides}
 use Rattle.std.specs.declared.cmp.Ordering.{Ordering}
@@ -11,14 +11,14 @@ use Rattle.hir_base.specs.Maps.{same_key}
 abbrev pub by_code : List ℕ → List ℕ → Ordering
 by_code = slice_cmp nat_cmp
 
--- only equal codes tie
+-- only equal codes compare as equal
 pub by_code-IsAntisymmetric : map.IsAntisymmetric by_code
 by_code-IsAntisymmetric = map.slice_cmp-IsAntisymmetric map.nat_cmp-IsAntisymmetric
 
 pub by_code_decides : (c d : List ℕ) → Decides (eq_by_cmp by_code c d) (c ≡ d)
 by_code_decides = same_key nat_list_cmp_total by_code-IsAntisymmetric
 
--- entries by the codes of their keys
+-- the entries, with the code of each key in place of the key
 abbrev pub by_codes : {K V : Type 0} → (K → List ℕ) → List (K × V) → List (List ℕ × V)
 by_codes code es = each (λ e. (code e.0, e.1)) es
 

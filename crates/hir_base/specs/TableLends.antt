@@ -1,15 +1,16 @@
--- What a write through a `&mut` to one value of a table leaves.
+-- Defines how a write through a `&mut` to one value changes a table.
 use Rattle.std.specs.Prelude.{◌≡◌, ℕ, Bool, List, Option, OnSome}
 use Rattle.std.specs.Borrow.{LendsSo, MutBor, Fml, RattleType}
 use Rattle.std.specs.FinMap as map
 use Rattle.hir_base.specs.Table.{by_code}
 use Rattle.hir_base.specs.contracts.table.Table.{the_row}
 
--- what a clause has as K.HasCode
+-- the type of what a clause writes as K.HasCode
 abbrev pub KeyMembers : Type 0 → Type 0
 KeyMembers K = record { hash_input : K → List (List ℕ); eq : K → K → Bool; code : K → List ℕ }
 
--- once the borrow ends, the table has the last value written through r at the key of this code, and nothing else has changed
+-- once the borrow ends, the value at the key of this code is the last one written through r, and nothing
+-- else in the table has changed
 abbrev pub lends_value : (K V : RattleType) → KeyMembers K.Denot → MutBor (map.FinMap by_code V.Denot)
     → List ℕ → Option (MutBor V.Denot) → Fml
 lends_value K V g table code r =

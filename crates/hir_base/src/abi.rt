@@ -23,7 +23,7 @@ pub enum ExternAbi {
 }
 
 impl ExternAbi {
-    /// The text in quotes after `extern`.
+    /// Returns the text in quotes after `extern`.
     pub fn as_str(&self) -> &str
         ensures { result.now ≡ abi_text self.now }
     {

@@ -17,7 +17,7 @@ pub const MOST_ITEMS: usize = 4294967295;
 /// Why an arena couldn't take an item.
 #[derive(Clone, Copy, Debug, Drop, PartialEq, Eq, Error)]
 pub enum ArenaFault {
-    /// Memory for one more item was refused.
+    /// The allocation of room for one more item failed.
     #[error("Memory")]
     Memory,
     /// The arena holds `MOST_ITEMS` items.
@@ -57,7 +57,7 @@ impl<K, T> Model for Arena<K, T> {
 }
 
 impl<K, T> Arena<K, T> {
-    /// An arena with no items, which takes its memory from `alloc`.
+    /// Returns an arena with no items, which takes its memory from `alloc`.
     pub fn new(alloc: Global) -> Arena<K, T>
         ensures { result ≡ [] }
     {
@@ -67,10 +67,10 @@ impl<K, T> Arena<K, T> {
         }
     }
 
-    /// Adds the item at the end and answers its id.
+    /// Adds the item at the end and returns its id.
     ///
-    /// `Memory` if room for it was refused, `Full` exactly if the arena holds `MOST_ITEMS` items, 4,294,967,295. Either hands the item back, and
-    /// the arena is unchanged.
+    /// Returns `Memory` if the allocation fails, and `Full` exactly if the arena holds `MOST_ITEMS` items,
+    /// 4,294,967,295. Either error gives the item back and leaves the arena unchanged.
     // Always inlined, so that a name goes into its arena without a copy on the way: see `with_zeros`.
     #[inline(always)]
     pub fn alloc(&mut self, item: T) -> Result<Idx<K>, (ArenaFault, T)>
@@ -90,7 +90,7 @@ impl<K, T> Arena<K, T> {
         }
     }
 
-    /// The number of items.
+    /// Returns the number of items.
     pub fn len(&self) -> usize
         ensures len { result ≡ length self.now }
         ensures most { length self.now ≤ MOST_ITEMS }
@@ -98,21 +98,21 @@ impl<K, T> Arena<K, T> {
         self.items.len()
     }
 
-    /// Whether there are no items.
+    /// Returns whether there are no items.
     pub fn is_empty(&self) -> bool
         ensures { IsTrue result ↔ (self.now ≡ []) }
     {
         self.items.is_empty()
     }
 
-    /// Whether the arena has an item with this id.
+    /// Returns whether the arena has an item with this id.
     pub fn has(&self, id: Idx<K>) -> bool
         ensures { IsTrue result ↔ id < length self.now }
     {
         (id.into_raw() as usize) < self.items.len()
     }
 
-    /// The items, in the order of their ids.
+    /// Returns the items, in the order of their ids.
     pub fn as_slice(&self) -> &[T]
         ensures items { result.now ≡ self.now }
         ensures most { length result.now ≤ MOST_ITEMS }
@@ -120,7 +120,7 @@ impl<K, T> Arena<K, T> {
         self.items.as_slice()
     }
 
-    /// The ids and the items in order, from either end.
+    /// Returns the ids and the items in order, from either end.
     #[tactic(auto, using(crate::proofs::NumberedItems::numbered))]
     pub fn iter(&self) -> ArenaIter<'_, K, T>
         ensures items { result ≡ enumerate_from 0 self.now }
@@ -130,7 +130,7 @@ impl<K, T> Arena<K, T> {
     }
 }
 
-/// The item with an id, which the arena must have: `has` tests that.
+/// Returns the item with an id that is in range: `has` tests that.
 impl<K, T> Index<Idx<K>> for Arena<K, T> {
     type Output = T;
 
@@ -143,7 +143,7 @@ impl<K, T> Index<Idx<K>> for Arena<K, T> {
     }
 }
 
-/// The item with an id, to write to: a write replaces it and changes no other item.
+/// Lends the item with an id for writing: a write replaces it and changes no other item.
 impl<K, T> IndexMut<Idx<K>> for Arena<K, T> {
     ghost use Rattle.hir_base.specs.Arena.{lends_item};
 

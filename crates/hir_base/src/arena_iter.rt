@@ -8,7 +8,7 @@ use std::alloc::AllocError;
 use std::iter::{ExactSizeIterator, FusedIterator};
 use std::marker::{Model, PhantomData};
 
-/// The items of an arena with their ids, seen as the list of those that are left.
+/// The items of an arena with their ids, modelled as the list of those that are left.
 #[derive(Drop)]
 pub struct ArenaIter<'a, K, T> {
     first: u32,

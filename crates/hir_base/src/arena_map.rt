@@ -1,5 +1,5 @@
 //! Maps from the ids of an arena to values, one place for each id.
-//! A look-up reads one place; ids that nobody checked belong in a `Table`.
+//! A look-up reads one place. Ids that nobody checked belong in a `Table`.
 ghost use Rattle.std.specs.Prelude.{◌≡◌, ◌+◌, ◌-◌, ◌^◌, ◌<◌, ◌≤◌, ◌∷◌, [], ◌++◌, OnOk, OnErr, IfErr, IfOk, IsOk, replicate, vec_len, Some, None};
 ghost use Rattle.std.specs.Option.{option_copied};
 ghost use Rattle.std.specs.FinMap as map;
@@ -12,11 +12,11 @@ use crate::{ExactEq, Idx};
 use std::alloc::{AllocError, AllocFailed, Global};
 use std::marker::{Model, PhantomData};
 
-/// A finite map from ids of the kind `K`, seen as that map.
+/// A finite map from ids of the kind `K`, modelled as that map.
 ///
-/// It is dense: it keeps one place, of the size of an `Option<V>`, for each id up to the largest that has a value. So it suits the ids
-/// of an arena, where a look-up is one read. One id of 4,000,000,000 would cost as many places, whether or not smaller ids have values:
-/// ids that come from outside belong in a `Table`.
+/// It is dense: it keeps one place, of the size of an `Option<V>`, for each id up to the largest that has a
+/// value. So it suits the ids of an arena, where a look-up is one read. One id of 4,000,000,000 would cost
+/// as many places, whether or not smaller ids have values: ids that come from outside belong in a `Table`.
 #[derive(Drop)]
 pub struct ArenaMap<K, V> {
     places: Vec<Option<V>>,
@@ -40,7 +40,7 @@ impl<K, V> Model for ArenaMap<K, V> {
 }
 
 impl<K, V> ArenaMap<K, V> {
-    /// A map with no entries. It takes its memory from `alloc`, and none yet.
+    /// Returns a map with no entries. It takes its memory from `alloc`, and none yet.
     #[tactic(auto, using(crate::proofs::PlacesLemmas::of_places))]
     pub fn new(alloc: Global) -> ArenaMap<K, V>
         ensures { result ≡ map.empty }
@@ -51,9 +51,9 @@ impl<K, V> ArenaMap<K, V> {
         }
     }
 
-    /// A map with no entries and with room for the ids below `capacity`.
+    /// Returns a map with no entries and with room for the ids below `capacity`.
     ///
-    /// Answers an error if memory for that room was refused.
+    /// Returns an error if the allocation fails.
     #[tactic(auto, using(crate::proofs::PlacesLemmas::of_places))]
     pub fn with_capacity(alloc: Global, capacity: usize) -> Result<ArenaMap<K, V>, AllocError>
         ensures ok { IfOk result (λ m. m ≡ map.empty) }
@@ -65,7 +65,7 @@ impl<K, V> ArenaMap<K, V> {
         })
     }
 
-    /// The value of this id, if it has one.
+    /// Returns the value of this id, if it has one.
     #[tactic(auto, using(crate::proofs::PlacesLemmas::of_places))]
     pub fn get(&self, id: Idx<K>) -> Option<&V>
         ensures { option_copied result ≡ map.get self.now id }
@@ -76,9 +76,9 @@ impl<K, V> ArenaMap<K, V> {
         }
     }
 
-    /// Gives the id this value, and answers the previous one.
+    /// Gives the id this value, and returns the previous one.
     ///
-    /// Answers an error if room for the ids up to this one was refused: the value is handed back and the map is unchanged.
+    /// Returns an error if the allocation fails: the error gives the value back, and the map is unchanged.
     #[tactic(auto, using(crate::proofs::PlacesLemmas::of_places))]
     pub fn insert(&mut self, id: Idx<K>, value: V) -> Result<Option<V>, AllocFailed<V>>
         ensures ok { OnOk result (self.new ≡ map.insert self.old id value) }
@@ -94,7 +94,7 @@ impl<K, V> ArenaMap<K, V> {
         Ok(None)
     }
 
-    /// The ids that have values, in ascending order, and their values.
+    /// Returns the ids that have values, in ascending order, and their values.
     #[tactic(auto, using(crate::proofs::PlacesLemmas::of_places))]
     pub fn iter(&self) -> ArenaMapIter<'_, K, V>
         ensures { result ≡ map.entries self.now }
@@ -103,7 +103,7 @@ impl<K, V> ArenaMap<K, V> {
     }
 }
 
-// Adds empty places up to `at`, and the value there.
+// Adds empty places up to `at`, and the value at `at`.
 fn put_past_the_end<V>(
     places: &mut Vec<Option<V>>,
     at: usize,

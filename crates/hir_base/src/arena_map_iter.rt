@@ -7,7 +7,7 @@ use std::alloc::AllocError;
 use std::iter::FusedIterator;
 use std::marker::{Model, PhantomData};
 
-/// The entries of a map by ascending ids, seen as the list of those that are left.
+/// The entries of a map by ascending ids, modelled as the list of those that are left.
 #[derive(Drop)]
 pub struct ArenaMapIter<'a, K, V> {
     // The number of the first of `places`.

@@ -1,5 +1,6 @@
 //! Enums of ids: what may own, define or name something, by kind.
-//! Each variant holds the id of its name; the three owners of expression stores convert into `ExpressionStoreOwnerId`.
+//! Each variant holds the id of its name; the three owners of expression stores convert into
+//! `ExpressionStoreOwnerId`.
 ghost use Rattle.std.specs.Prelude.{◌≡◌};
 ghost use Rattle.hir_base.specs.Exact.{exact};
 

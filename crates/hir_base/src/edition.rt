@@ -39,7 +39,7 @@ impl TryClone for Edition {
     ghost clone_is_same = { Prim.search exact };
 }
 
-/// For each edition, the names that are written with `r#` there, since they are keywords without it.
+/// For each edition, the names that it writes with `r#`, since they are keywords without it.
 #[derive(Drop)]
 pub struct RawWords {
     pub edition2015: Seq<Text>,
@@ -49,7 +49,7 @@ pub struct RawWords {
 }
 
 impl RawWords {
-    /// No words in any edition.
+    /// Returns no words in any edition.
     pub fn new(alloc: Global) -> RawWords
         ensures { result ≡ no_words }
     {
@@ -61,7 +61,7 @@ impl RawWords {
         }
     }
 
-    /// The words of this edition.
+    /// Returns the words of this edition.
     pub fn words(&self, edition: Edition) -> &[Text]
         ensures { result.now ≡ words_of self.now edition }
     {

@@ -1,16 +1,18 @@
 //! Equality and clones that contracts can rely on.
-//! `ExactEq` says that `==` decides whether two values are the same, `TryClone` that a clone is the same value.
+//! `ExactEq` says that `==` decides whether two values are the same, `TryClone` that a clone is the same
+//! value.
 ghost use Rattle.std.specs.Prelude.{◌≡◌, ◌↔◌, IsTrue, IfOk};
 ghost use Rattle.std.specs.Bool.{Decides};
 ghost use Rattle.std.proofs.Common.{rules};
 
 use std::alloc::AllocError;
 
-/// Types whose `==` decides whether two values are the same to every contract: equality is that of all fields.
+/// Types whose `==` decides whether two values are the same to every contract: equality is that of all
+/// fields.
 pub trait ExactEq: Eq {
     ghost eq_decides: { (x y : Self) → Decides (Self.eq x y) (x ≡ y) };
 
-    /// Whether the two are the same value.
+    /// Returns whether the two are the same value.
     final fn is_same(&self, other: &Self) -> bool
         ensures { IsTrue result ↔ (self.now ≡ other.now) }
     {
@@ -22,9 +24,9 @@ pub trait ExactEq: Eq {
 pub trait TryClone: Clone {
     ghost clone_is_same: { (x y : Self) → Self.is_clone x y → y ≡ x };
 
-    /// A second value, the same as this one.
+    /// Returns a second value, the same as this one.
     ///
-    /// Answers an error if memory for it was refused.
+    /// Returns an error if the allocation fails.
     final fn try_clone(&self) -> Result<Self, AllocError>
         ensures { IfOk result (λ copy. copy ≡ self.now) }
     {

@@ -24,15 +24,16 @@ impl TryClone for SyntaxContext {
     ghost clone_is_same = { Prim.search exact };
 }
 
-/// A context without an edition. The bytes of the number, the lowest first, need no alignment: so a binding takes 24 bytes.
+/// A context without an edition. The bytes of the number, the lowest first, need no alignment: so a binding
+/// takes 24 bytes.
 #[derive(Clone, Copy)]
 enum Context {
     Root,
     Expansion([u8; 4]),
 }
 
-/// The hygiene of a name, seen as its context. All source text has one hygiene, whatever its edition: a context that is a root is
-/// always that of edition 2015.
+/// The hygiene of a name, modelled as its context. All source text has one hygiene, in any edition: a
+/// context that is a root is always that of edition 2015.
 #[derive(Clone, Copy)]
 pub struct HygieneId {
     ctx: Context,
@@ -60,7 +61,7 @@ impl HygieneId {
     /// The hygiene of source text: the context `Root` of edition 2015.
     pub const ROOT: HygieneId = HygieneId { ctx: Context::Root };
 
-    /// The hygiene of this context: `ROOT` for every `Root`, and an expansion as it is.
+    /// Returns the hygiene of this context: `ROOT` for every `Root`, and an `Expansion` unchanged.
     pub fn new(ctx: SyntaxContext) -> HygieneId
         ensures { result ≡ without_edition ctx }
     {
@@ -72,7 +73,7 @@ impl HygieneId {
         }
     }
 
-    /// The context of the hygiene.
+    /// Returns the context of the hygiene.
     pub fn syntax_context(self) -> SyntaxContext
         ensures { result ≡ self }
     {
@@ -82,7 +83,7 @@ impl HygieneId {
         }
     }
 
-    /// Whether it is `ROOT`, the hygiene of source text.
+    /// Returns whether it is `ROOT`, the hygiene of source text.
     pub fn is_root(self) -> bool
         ensures test { result ≡ is_root self }
         ensures source { IsTrue result ↔ (self ≡ SyntaxContext.Root Edition.Edition2015) }

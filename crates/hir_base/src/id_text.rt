@@ -171,7 +171,7 @@ impl Debug for NamedDef {
     }
 }
 
-/// What of the definition it is, and the definition, as `Signature(FunctionId(7))`.
+/// Writes which part of a definition it is, and the definition, as `Signature(FunctionId(7))`.
 impl Display for ExpressionStoreOwnerId {
     ghost output = { λ owner. Some (owner_text owner) };
 
@@ -192,7 +192,7 @@ impl Debug for ExpressionStoreOwnerId {
     }
 }
 
-/// The parent and the number there, as `TypeOrConstParamId(FunctionId(7), 0)`.
+/// Writes the parent and the number among its parameters, as `TypeOrConstParamId(FunctionId(7), 0)`.
 impl Display for TypeOrConstParamId {
     ghost output = { λ id. Some (type_or_const_param_text (codes "TypeOrConstParamId") id) };
 
@@ -211,7 +211,7 @@ impl Debug for TypeOrConstParamId {
     }
 }
 
-/// The parent and the number there, as `LifetimeParamId(FunctionId(7), 0)`.
+/// Writes the parent and the number among its parameters, as `LifetimeParamId(FunctionId(7), 0)`.
 impl Display for LifetimeParamId {
     ghost output = { λ id. Some (lifetime_param_text id) };
 
@@ -230,7 +230,7 @@ impl Debug for LifetimeParamId {
     }
 }
 
-/// The parent and the number there, as `TypeParamId(FunctionId(7), 0)`.
+/// Writes the parent and the number among its parameters, as `TypeParamId(FunctionId(7), 0)`.
 impl Display for TypeParamId {
     ghost output = { λ id. Some (type_or_const_param_text (codes "TypeParamId") id) };
 
@@ -249,7 +249,7 @@ impl Debug for TypeParamId {
     }
 }
 
-/// The parent and the number there, as `ConstParamId(FunctionId(7), 0)`.
+/// Writes the parent and the number among its parameters, as `ConstParamId(FunctionId(7), 0)`.
 impl Display for ConstParamId {
     ghost output = { λ id. Some (type_or_const_param_text (codes "ConstParamId") id) };
 
@@ -268,7 +268,7 @@ impl Debug for ConstParamId {
     }
 }
 
-/// As `Root(Edition2015)` and `Expansion(7)`.
+/// Writes the variant and what it holds, as `Root(Edition2015)` and `Expansion(7)`.
 impl Display for SyntaxContext {
     ghost output = { λ ctx. Some (context_text ctx) };
 
@@ -288,7 +288,7 @@ impl Debug for SyntaxContext {
     }
 }
 
-/// Its context, as `Root(Edition2015)` and `Expansion(7)`.
+/// Writes its context, as `Root(Edition2015)` and `Expansion(7)`.
 impl Display for HygieneId {
     ghost output = { λ ctx. Some (context_text ctx) };
 

@@ -1,5 +1,6 @@
 //! Numbered ids: those of definitions, blocks, macro calls, crates and files.
-//! Each is a number with a kind. Whoever lowers source code gives it out; nothing here checks that.
+//! Each is a number with a kind. The lowering of source code gives the numbers out; nothing here checks
+//! them.
 ghost use Rattle.std.specs.Prelude.{◌≡◌, Some};
 ghost use Rattle.std.specs.Ordering.{nat_cmp};
 ghost use Rattle.std.specs.Cmp.Rules.{comparing};
@@ -11,8 +12,8 @@ use std::cmp::Ordering;
 use std::fmt::{self, Debug, Display};
 use std::marker::{Model, PhantomData};
 
-/// The number of a thing of the kind `K`. `K` is a marker of the module `kinds`, with no bounds. Its text, by `Display` and `Debug`, is
-/// the kind and the number, as `FunctionId(7)`.
+/// The number of a thing of the kind `K`. `K` is a marker of the module `kinds`, with no bounds. Its text,
+/// by `Display` and `Debug`, is the kind and the number, as `FunctionId(7)`.
 #[derive(Drop)]
 #[derive_where(Clone, Copy, PartialEq, Eq, Hash)]
 pub struct Id<K> {
@@ -32,7 +33,7 @@ impl<K> Model for Id<K> {
 }
 
 impl<K> Id<K> {
-    /// The id with this number.
+    /// Returns the id with this number.
     pub const fn from_raw(raw: u32) -> Id<K>
         ensures { result ≡ raw }
     {
@@ -42,7 +43,7 @@ impl<K> Id<K> {
         }
     }
 
-    /// The number of the id.
+    /// Returns the number of the id.
     pub const fn into_raw(self) -> u32
         ensures { result ≡ self }
     {
@@ -50,7 +51,7 @@ impl<K> Id<K> {
     }
 }
 
-/// The kind and the number, as `FunctionId(7)`.
+/// Writes the kind and the number, as `FunctionId(7)`.
 impl<K: Kind> Display for Id<K> {
     ghost output = { λ id. Some (id_text K.name id) };
 

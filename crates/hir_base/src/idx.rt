@@ -8,8 +8,8 @@ use crate::{ExactEq, Kind, TryClone};
 use std::fmt::{self, Debug, Display};
 use std::marker::{Model, PhantomData};
 
-/// The number of an item of the kind `K`, from 0. `K` is a marker, with no bounds. If it has a name, by `Kind`, the id's text, by
-/// `Display` and `Debug`, is that and the number, as `ExprId(3)`.
+/// The number of an item of the kind `K`, from 0. `K` is a marker, with no bounds. If it has a name, by
+/// `Kind`, the id's text, by `Display` and `Debug`, is that and the number, as `ExprId(3)`.
 #[derive(Drop)]
 #[derive_where(Clone, Copy, PartialEq, Eq, PartialOrd, Ord, Hash)]
 pub struct Idx<K> {
@@ -29,7 +29,7 @@ impl<K> Model for Idx<K> {
 }
 
 impl<K> Idx<K> {
-    /// The id with this number, whether or not an item has it.
+    /// Returns the id with this number, whether or not an item has it.
     pub const fn from_raw(raw: u32) -> Idx<K>
         ensures { result ≡ raw }
     {
@@ -39,7 +39,7 @@ impl<K> Idx<K> {
         }
     }
 
-    /// The number of the id.
+    /// Returns the number of the id.
     pub const fn into_raw(self) -> u32
         ensures { result ≡ self }
     {
@@ -47,7 +47,7 @@ impl<K> Idx<K> {
     }
 }
 
-/// The kind and the number, as `ExprId(3)`.
+/// Writes the kind and the number, as `ExprId(3)`.
 impl<K: Kind> Display for Idx<K> {
     ghost output = { λ id. Some (id_text K.name id) };
 
@@ -66,7 +66,7 @@ impl<K: Kind> Debug for Idx<K> {
     }
 }
 
-/// The id 0: a small vector of ids fills its unused places with it.
+/// Returns the id 0. A small vector of ids fills its unused places with it.
 impl<K> Default for Idx<K> {
     ghost is_default = { λ id. id ≡ 0 };
 

@@ -3,11 +3,11 @@ ghost use Rattle.std.specs.Prelude.{◌≡◌, List, ℕ};
 
 /// A kind of ids that has a name: with it, an id of the kind has a text.
 ///
-/// It is for the markers of `Id` and `Idx`. A marker without it serves too: its ids have no text then.
+/// The markers of `Id` and `Idx` implement it. A marker need not: then its ids have no text.
 pub trait Kind {
     ghost name: { List ℕ };
 
-    /// What an id of this kind is called, as `FunctionId`.
+    /// Returns the name of the ids of this kind, as `FunctionId`.
     fn name() -> &'static str
         ensures { result.now ≡ name };
 }

@@ -1,5 +1,6 @@
-//! Laws that a reader relies on, and that no call's contract states.
-//! Each but the last two is a function with no body to run: its contract is the law, proved for every value.
+//! Theorems that a reader relies on, and that no call's contract states.
+//! Each but the last two is a function with an empty body: its contract is the theorem, proved for every
+//! value.
 ghost use Rattle.std.specs.Prelude.{◌≡◌, ℕ};
 ghost use Rattle.std.specs.Ordering.{nat_cmp};
 ghost use Rattle.hir_base.specs.Laws.{OrderAgrees};
@@ -7,13 +8,14 @@ ghost use Rattle.hir_base.specs.Laws.{OrderAgrees};
 use crate::{BlockId, Edition, HygieneId, Idx, MOST_ITEMS, PathKind, SyntaxContext};
 use std::hash::Hash;
 
-/// Ids are ordered by their numbers, whatever their kind.
+/// Ids of any kind are ordered by their numbers.
 pub fn idx_order_is_that_of_numbers<K>()
     ensures total { (x y : ℕ) → ⟦<Idx<K> as Ord>⟧.cmp x y ≡ nat_cmp x y }
     ensures partial { (x y : ℕ) → ⟦<Idx<K> as PartialOrd>⟧.partial_cmp x y ≡ Some (nat_cmp x y) }
 {}
 
-/// Ids are equal exactly if their numbers are, exactly if they compare as equal, and then they hash alike, whatever their kind.
+/// Ids of any kind are equal exactly if their numbers are, exactly if they compare as equal, and then they
+/// hash alike.
 pub fn idx_order_agrees_with_eq_and_hash<K>()
     ensures { OrderAgrees ⟦<Idx<K> as PartialEq>⟧.eq ⟦<Idx<K> as Ord>⟧.cmp ⟦<Idx<K> as Hash>⟧.hash_input }
 {}
@@ -24,7 +26,8 @@ pub fn block_order_is_that_of_numbers()
     ensures partial { (x y : ℕ) → ⟦<BlockId as PartialOrd>⟧.partial_cmp x y ≡ Some (nat_cmp x y) }
 {}
 
-/// Blocks are equal exactly if their numbers are, exactly if they compare as equal, and then they hash alike.
+/// Blocks are equal exactly if their numbers are, exactly if they compare as equal, and then they hash
+/// alike.
 pub fn block_order_agrees_with_eq_and_hash()
     ensures { OrderAgrees ⟦<BlockId as PartialEq>⟧.eq ⟦<BlockId as Ord>⟧.cmp ⟦<BlockId as Hash>⟧.hash_input }
 {}
@@ -34,14 +37,16 @@ pub fn most_items_of_an_arena()
     ensures { MOST_ITEMS ≡ 4294967295 }
 {}
 
-/// The kind of paths that begin with `self` is `Super(0)`. (A clause can't name such a constant, so this function answers it.)
+/// Returns the kind of paths that begin with `self`, which is `Super(0)`. (A clause can't name such a
+/// constant.)
 pub fn kind_of_self() -> PathKind
     ensures { result ≡ PathKind.Super 0 }
 {
     PathKind::SELF
 }
 
-/// The hygiene of source text is the context `Root` of edition 2015. (A clause can't name such a constant, so this function returns it.)
+/// Returns the hygiene of source text, which is the context `Root` of edition 2015. (A clause can't name
+/// such a constant.)
 pub fn hygiene_of_source_text() -> HygieneId
     ensures { result ≡ SyntaxContext.Root Edition.Edition2015 }
 {

@@ -1,5 +1,6 @@
-//! The vocabulary of the layers above: ids, arenas, maps, lists, texts, names, pointers into source and operators.
-//! Contracts see each type as what it means: an id as its number, an arena as its list, a text as its bytes.
+//! The vocabulary of the layers above: ids, arenas, maps, lists, texts, names, pointers into source and
+//! operators.
+//! An id is modelled as its number, an arena as its list, a text as its bytes.
 #![tactic(auto)]
 
 mod abi;

@@ -42,8 +42,8 @@ impl TryClone for PathKind {
     ghost clone_is_same = { Prim.search exact };
 }
 
-// A path by the place of its parts. A plain path of one name is an identifier, as most are, and takes no memory. All others lie in memory
-// of their own, so that what holds a path stays small.
+// A path by where its parts are stored. A plain path of one name, as most are, is an identifier and takes no
+// memory. All others are in an allocation of their own, so that what holds a path stays small.
 #[derive(Drop)]
 enum Form {
     Ident(Name),
@@ -57,7 +57,7 @@ struct Parts {
     names: Seq<Name>,
 }
 
-/// A path without arguments, seen as its kind and its segments. It takes 24 bytes.
+/// A path without arguments, modelled as its kind and its segments. It takes 24 bytes.
 ///
 /// A plain path of one name takes no memory but that of the name.
 #[derive(Drop)]
@@ -78,7 +78,7 @@ impl Model for ModPath {
 impl ModPath {
     ghost use Rattle.hir_base.specs.ModPath.{ident_of};
 
-    /// The plain path of this name. It takes no memory.
+    /// Returns the plain path of this name. It takes no memory.
     pub fn from_name(name: Name) -> ModPath
         ensures { result ≡ record { kind = PathKind.Plain; segments = name ∷ [] } }
     {
@@ -87,9 +87,10 @@ impl ModPath {
         }
     }
 
-    /// The path with this kind and these segments. A plain path of one name takes no memory, and any other one piece beside the names.
+    /// Returns the path with this kind and these segments. A plain path of one name takes no memory, and any
+    /// other path one allocation beside the names.
     ///
-    /// Answers an error if that memory was refused: the names are handed back.
+    /// Returns an error if the allocation fails: the error gives the names back.
     pub fn from_segments(
         alloc: Global,
         kind: PathKind,
@@ -113,7 +114,7 @@ impl ModPath {
         }
     }
 
-    /// Where the path begins.
+    /// Returns where the path begins.
     pub fn kind(&self) -> PathKind
         ensures { result ≡ self.now.kind }
     {
@@ -123,7 +124,8 @@ impl ModPath {
         }
     }
 
-    /// The names of the path, first to last. The prefix that its kind says, as `crate`, isn't one of them.
+    /// Returns the names of the path, first to last. The prefix that its kind says, as `crate`, isn't one of
+    /// them.
     pub fn segments(&self) -> &[Name]
         ensures { result.now ≡ self.now.segments }
     {
@@ -133,14 +135,14 @@ impl ModPath {
         }
     }
 
-    /// Whether the path is an identifier: one name, and nothing before it.
+    /// Returns whether the path is an identifier: one name, and nothing before it.
     pub fn is_ident(&self) -> bool
         ensures { IsTrue result ↔ IsSome (ident_of self.now) }
     {
         self.as_ident().is_some()
     }
 
-    /// The name, if the path is an identifier.
+    /// Returns the name, if the path is an identifier.
     pub fn as_ident(&self) -> Option<&Name>
         ensures { option_map (λ name. name.now) result ≡ ident_of self.now }
     {
@@ -150,7 +152,7 @@ impl ModPath {
         }
     }
 
-    /// Whether the path is the identifier `Self`.
+    /// Returns whether the path is the identifier `Self`.
     #[allow(non_snake_case)]
     pub fn is_Self(&self) -> bool
         ensures { IsTrue result ↔ (ident_of self.now ≡ Some (codes "Self")) }
@@ -162,7 +164,7 @@ impl ModPath {
     }
 }
 
-// The name of a list of one name.
+// Returns the name of a list of one name.
 fn only_name(names: Seq<Name>) -> Name
     requires { length names ≡ 1 }
     ensures { names ≡ result ∷ [] }
@@ -223,7 +225,7 @@ impl Clone for ModPath {
     }
 }
 
-// A copy of the parts, in memory of its own.
+// Returns a copy of the parts, in an allocation of its own.
 fn clone_parts(parts: &Box<Parts>) -> Result<Box<Parts>, AllocError>
     ensures { IfOk result (λ copy. (copy.value.kind ≡ parts.now.value.kind)
         × (copy.value.names ≡ parts.now.value.names)) }

@@ -14,16 +14,16 @@ use std::hash::{Hash, Hasher};
 use std::marker::Model;
 use std::{fmt, str};
 
-// Where the text of a name lies: in the value, or in memory of its own.
+// Where the text of a name is stored: in the value, or in an allocation of its own.
 #[derive(Drop)]
 enum Place {
     Inside(ShortText),
     Outside(Box<Text>),
 }
 
-/// The name of a definition, a binding or a segment of a path, seen as its bytes.
+/// The name of a definition, a binding or a segment of a path, modelled as its bytes.
 ///
-/// A name of at most 14 bytes takes no memory of its own.
+/// A name of at most 14 bytes takes no allocation.
 #[derive(Drop)]
 pub struct Name {
     place: Place,
@@ -40,9 +40,10 @@ impl Model for Name {
 }
 
 impl Name {
-    /// The name with this text. One of at most 14 bytes takes no memory, a longer one takes two allocations.
+    /// Returns the name with this text. A name of at most 14 bytes takes no allocation, a longer one takes
+    /// two.
     ///
-    /// Answers an error if that memory was refused.
+    /// Returns an error if an allocation fails.
     pub fn new(alloc: Global, text: &str) -> Result<Name, AllocError>
         ensures ok { IfOk result (λ name. name ≡ text.now) }
         ensures short { length text.now ≤ 14 → IsOk result }
@@ -57,9 +58,10 @@ impl Name {
         })
     }
 
-    /// The name with this text in ASCII, as `new` makes it. Only where there are more than 14 bytes are they tested again.
+    /// Returns the name with this text in ASCII, as `new` makes it. Only a text of more than 14 bytes is
+    /// tested again.
     ///
-    /// Answers an error if memory was refused.
+    /// Returns an error if an allocation fails.
     // Always inlined: see `with_zeros`.
     #[inline(always)]
     pub fn from_ascii(alloc: Global, text: &[u8]) -> Result<Name, AllocError>
@@ -78,9 +80,10 @@ impl Name {
         }
     }
 
-    /// The name with this text. One of at most 14 bytes takes no memory, a longer one takes one allocation.
+    /// Returns the name with this text. A name of at most 14 bytes takes no allocation, a longer one takes
+    /// one.
     ///
-    /// Answers an error if that memory was refused: the text is handed back.
+    /// Returns an error if an allocation fails: the error gives the text back.
     pub fn from_text(alloc: Global, text: Text) -> Result<Name, AllocFailed<Text>>
         ensures ok { IfOk result (λ name. name ≡ text) }
         ensures short { length text ≤ 14 → IsOk result }
@@ -96,7 +99,8 @@ impl Name {
         })
     }
 
-    /// The name of what has none in source code: `[missing name]`. It is short, and never refused.
+    /// Returns the name of what has none in source code: `[missing name]`. It is short, so the call never
+    /// fails.
     pub fn missing(alloc: Global) -> Result<Name, AllocError>
         ensures ok { IfOk result (λ name. name ≡ codes "[missing name]") }
         ensures never_refused { IsOk result }
@@ -104,7 +108,7 @@ impl Name {
         Name::new(alloc, "[missing name]")
     }
 
-    /// The text of the name.
+    /// Returns the text of the name.
     pub fn as_str(&self) -> &str
         ensures { result.now ≡ self.now }
     {
@@ -114,14 +118,14 @@ impl Name {
         }
     }
 
-    /// Whether the name has this text.
+    /// Returns whether the name has this text.
     pub fn has_text(&self, text: &str) -> bool
         ensures { IsTrue result ↔ (self.now ≡ text.now) }
     {
         self.as_str() == text
     }
 
-    // The bytes of the text.
+    // Returns the bytes of the text.
     fn as_bytes(&self) -> &[u8]
         ensures { result.now ≡ self.now }
     {
@@ -132,7 +136,7 @@ impl Name {
     }
 }
 
-/// Its text.
+/// Writes its text.
 impl fmt::Display for Name {
     ghost output = { λ name. Some name };
 

@@ -8,7 +8,7 @@ use crate::{
 };
 
 impl ArithOp {
-    /// The operator as it is written, like `<<`.
+    /// Returns the operator as it is written, like `<<`.
     pub fn as_str(self) -> &'static str
         ensures { result.now ≡ arith_text self }
     {
@@ -40,7 +40,7 @@ impl LogicOp {
 }
 
 impl CmpOp {
-    /// The comparison as it is written, like `<=`.
+    /// Returns the comparison as it is written, like `<=`.
     pub fn as_str(self) -> &'static str
         ensures { result.now ≡ cmp_text self }
     {
@@ -67,7 +67,7 @@ fn comparison(ordering: Ordering, strict: bool) -> &'static str
 }
 
 impl BinaryOp {
-    /// The operator as it is written between two expressions, like `+` or `+=`.
+    /// Returns the operator as it is written between two expressions, like `+` or `+=`.
     pub fn as_str(self) -> &'static str
         ensures { result.now ≡ binary_text self }
     {
@@ -119,7 +119,7 @@ impl RangeOp {
 }
 
 impl UnaryOp {
-    /// The operator as it is written before an expression.
+    /// Returns the operator as it is written before an expression.
     pub fn as_str(self) -> &'static str
         ensures { result.now ≡ unary_text self }
     {
@@ -132,7 +132,7 @@ impl UnaryOp {
 }
 
 impl BuiltinInt {
-    /// The type's name, which is also the suffix of its literals.
+    /// Returns the type's name, which is also the suffix of its literals.
     pub fn as_str(self) -> &'static str
         ensures { result.now ≡ int_text self }
     {
@@ -148,7 +148,7 @@ impl BuiltinInt {
 }
 
 impl BuiltinUint {
-    /// The type's name, which is also the suffix of its literals.
+    /// Returns the type's name, which is also the suffix of its literals.
     pub fn as_str(self) -> &'static str
         ensures { result.now ≡ uint_text self }
     {
@@ -164,7 +164,7 @@ impl BuiltinUint {
 }
 
 impl BuiltinFloat {
-    /// The type's name, which is also the suffix of its literals.
+    /// Returns the type's name, which is also the suffix of its literals.
     pub fn as_str(self) -> &'static str
         ensures { result.now ≡ float_text self }
     {

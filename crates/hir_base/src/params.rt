@@ -39,7 +39,7 @@ pub type LocalLifetimeParamId = Idx<LifetimeParamKind>;
 pub struct TypeOrConstParamId {
     /// What the parameter belongs to.
     pub parent: GenericDefId,
-    /// Its number there.
+    /// The number of the parameter among those of its parent.
     pub local_id: LocalTypeOrConstParamId,
 }
 
@@ -56,7 +56,7 @@ impl TryClone for TypeOrConstParamId {
 pub struct LifetimeParamId {
     /// What the parameter belongs to.
     pub parent: GenericDefId,
-    /// Its number there.
+    /// The number of the parameter among those of its parent.
     pub local_id: LocalLifetimeParamId,
 }
 
@@ -85,21 +85,21 @@ impl Model for TypeParamId {
 }
 
 impl TypeParamId {
-    /// This parameter, which the caller knows to be a type: nothing checks it.
+    /// Returns this parameter, which the caller knows to be a type: nothing checks it.
     pub fn from_unchecked(id: TypeOrConstParamId) -> TypeParamId
         ensures { result ≡ id }
     {
         TypeParamId { type_param: id }
     }
 
-    /// What the parameter belongs to.
+    /// Returns what the parameter belongs to.
     pub fn parent(self) -> GenericDefId
         ensures { result ≡ self.parent }
     {
         self.type_param.parent
     }
 
-    /// Its number there.
+    /// Returns the number of the parameter among those of its parent.
     pub fn local_id(self) -> LocalTypeOrConstParamId
         ensures { result ≡ self.local_id }
     {
@@ -132,21 +132,21 @@ impl Model for ConstParamId {
 }
 
 impl ConstParamId {
-    /// This parameter, which the caller knows to be a constant: nothing checks it.
+    /// Returns this parameter, which the caller knows to be a constant: nothing checks it.
     pub fn from_unchecked(id: TypeOrConstParamId) -> ConstParamId
         ensures { result ≡ id }
     {
         ConstParamId { const_param: id }
     }
 
-    /// What the parameter belongs to.
+    /// Returns what the parameter belongs to.
     pub fn parent(self) -> GenericDefId
         ensures { result ≡ self.parent }
     {
         self.const_param.parent
     }
 
-    /// Its number there.
+    /// Returns the number of the parameter among those of its parent.
     pub fn local_id(self) -> LocalTypeOrConstParamId
         ensures { result ≡ self.local_id }
     {

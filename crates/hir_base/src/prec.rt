@@ -38,14 +38,15 @@ pub enum ExprPrecedence {
     Prefix,
     /// Calls, fields, indexes, `.await` and `?` after an expression.
     Postfix,
-    /// Paths, literals, blocks and whatever else is complete by itself.
+    /// Paths, literals, blocks and all else that is complete by itself.
     Unambiguous,
 }
 
 impl ExprPrecedence {
     ghost use Rattle.hir_base.specs.Precedence.{level, needs_parentheses};
 
-    /// Whether an expression of this precedence needs parentheses as a child of one of the precedence `parent`.
+    /// Returns whether an expression of this precedence needs parentheses as a child of one of the
+    /// precedence `parent`.
     pub fn needs_parentheses_in(self, parent: ExprPrecedence) -> bool
         ensures { result ≡ needs_parentheses self parent }
     {
@@ -72,7 +73,7 @@ impl ExprPrecedence {
         }
     }
 
-    // The place in the order, from 0.
+    // Returns the place in the order, from 0.
     fn level(self) -> u8
         ensures { result ≡ level self }
     {

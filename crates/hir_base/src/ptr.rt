@@ -62,7 +62,7 @@ impl<K> Model for AstPtr<K> {
 }
 
 impl<K> AstPtr<K> {
-    /// The pointer to this node, which the caller knows to be of the kind `K`: nothing checks it.
+    /// Returns the pointer to this node, which the caller knows to be of the kind `K`: nothing checks it.
     pub fn new(node: SyntaxNodePtr) -> AstPtr<K>
         ensures { result ≡ node }
     {
@@ -72,21 +72,21 @@ impl<K> AstPtr<K> {
         }
     }
 
-    /// The node, without the marker of its kind.
+    /// Returns the node, without the marker of its kind.
     pub fn syntax_node_ptr(self) -> SyntaxNodePtr
         ensures { result ≡ self }
     {
         self.node
     }
 
-    /// The same pointer, to a wider kind.
+    /// Returns the same pointer, to a wider kind.
     pub fn upcast<M: Widens<K>>(self) -> AstPtr<M>
         ensures { result ≡ self }
     {
         AstPtr::new(self.node)
     }
 
-    /// The same pointer, to this kind or another.
+    /// Returns the same pointer, to this kind or another.
     pub fn wrap_left<R>(self) -> AstPtr<Either<K, R>>
         ensures { result ≡ self }
     {
@@ -125,7 +125,7 @@ impl<T: TryClone> TryClone for InFile<T> {
 #[derive(Drop, PartialEq, Eq)]
 pub struct SyntheticSyntax;
 
-/// Its name.
+/// Writes the name of the type.
 impl fmt::Debug for SyntheticSyntax {
     ghost debug_output = { λ _. Some (codes "SyntheticSyntax") };
 

@@ -1,5 +1,5 @@
-//! Lists: a `Vec` that contracts see as the list of its items.
-//! A contract also sees the capacity of a `Vec`, so two with the same items can differ; two `Seq`s can't.
+//! Lists: a `Vec` that is modelled as the list of its items.
+//! The model of a `Vec` has its capacity too, so two with the same items can differ; two `Seq`s can't.
 ghost use Rattle.std.specs.Prelude.{◌≡◌, ◌<◌, ◌^◌, [], ◌∷◌, ◌++◌, length, slice_get, IfOk, IsOk, OnOk, OnErr, IfErr, IsTrue, ◌↔◌, Some};
 ghost use Rattle.std.specs.Option.{option_copied};
 ghost use Rattle.std.specs.Borrow.{sem};
@@ -17,7 +17,7 @@ use std::marker::Model;
 use std::ops::{Index, IndexMut};
 use std::slice::Iter;
 
-/// A `Vec` that contracts see as the list of its items.
+/// A `Vec` that is modelled as the list of its items.
 ///
 /// Converting from the `Vec` and back takes no memory.
 #[derive(Drop)]
@@ -39,7 +39,7 @@ impl<T> Model for Seq<T> {
 impl<T> Seq<T> {
     ghost use Rattle.hir_base.specs.Seq.{lends_slice};
 
-    /// A list with no items. It takes its memory from `alloc`, and none yet.
+    /// Returns a list with no items. It takes its memory from `alloc`, and none yet.
     pub fn new(alloc: Global) -> Seq<T>
         ensures { result ≡ [] }
     {
@@ -48,9 +48,9 @@ impl<T> Seq<T> {
         }
     }
 
-    /// A list with no items and with room for `capacity` of them.
+    /// Returns a list with no items and with room for `capacity` of them.
     ///
-    /// Answers an error if memory for that room was refused.
+    /// Returns an error if the allocation fails.
     pub fn with_capacity(alloc: Global, capacity: usize) -> Result<Seq<T>, AllocError>
         ensures ok { IfOk result (λ seq. seq ≡ []) }
         ensures none_wanted { capacity ≡ 0 → IsOk result }
@@ -60,16 +60,16 @@ impl<T> Seq<T> {
         })
     }
 
-    /// The list of the items of this vector.
+    /// Returns the list of the items of this vector.
     pub fn from_vec(items: Vec<T>) -> Seq<T>
         ensures { result ≡ items.items }
     {
         Seq { items }
     }
 
-    /// The list of the items of this array, like `Seq::of(alloc, [a, b])`.
+    /// Returns the list of the items of this array, like `Seq::of(alloc, [a, b])`.
     ///
-    /// Answers an error if memory for it was refused: the items are handed back.
+    /// Returns an error if the allocation fails: the error gives the items back.
     pub fn of<const N: usize>(alloc: Global, items: [T; N]) -> Result<Seq<T>, AllocFailed<[T; N]>>
         ensures ok { IfOk result (λ seq. seq ≡ items) }
         ensures value_returned { IfErr result (λ failed. failed.value ≡ items) }
@@ -79,7 +79,7 @@ impl<T> Seq<T> {
         })
     }
 
-    /// The vector that holds the items.
+    /// Returns the vector that holds the items.
     pub fn into_vec(self) -> Vec<T>
         ensures { result.items ≡ self }
     {
@@ -87,14 +87,14 @@ impl<T> Seq<T> {
         items
     }
 
-    /// The items as a slice.
+    /// Returns the items as a slice.
     pub fn as_slice(&self) -> &[T]
         ensures { result.now ≡ self.now }
     {
         self.items.as_slice()
     }
 
-    /// The items as a slice, to write to.
+    /// Lends the items as a slice for writing.
     pub fn as_mut_slice(&mut self) -> &mut [T]
         ensures* changes_items { sem 𝓛 (lends_slice T.row self.entry result) }
         ensures value { result.now ≡ self.old }
@@ -102,28 +102,28 @@ impl<T> Seq<T> {
         self.items.as_mut_slice()
     }
 
-    /// The number of items.
+    /// Returns the number of items.
     pub fn len(&self) -> usize
         ensures { result ≡ length self.now }
     {
         self.items.len()
     }
 
-    /// Whether there are no items.
+    /// Returns whether there are no items.
     pub fn is_empty(&self) -> bool
         ensures { IsTrue result ↔ (self.now ≡ []) }
     {
         self.items.is_empty()
     }
 
-    /// The item at this index, if there is one.
+    /// Returns the item at this index, if there is one.
     pub fn get(&self, at: usize) -> Option<&T>
         ensures { option_copied result ≡ slice_get self.now at }
     {
         self.items.get(at)
     }
 
-    /// The items in order, from either end.
+    /// Returns the items in order, from either end.
     pub fn iter(&self) -> Iter<'_, T>
         ensures rest { iter_rest result ≡ self.now }
         ensures runs { IterYieldsInOrder T }
@@ -134,7 +134,7 @@ impl<T> Seq<T> {
 
     /// Adds the item at the end.
     ///
-    /// Answers an error if room for it was refused: the item is handed back and the list is unchanged.
+    /// Returns an error if the allocation fails: the error gives the item back, and the list is unchanged.
     pub fn push(&mut self, item: T) -> Result<(), AllocFailed<T>>
         ensures ok { OnOk result (self.new ≡ self.old ++ item ∷ []) }
         ensures err { OnErr result (self.new ≡ self.old) }
@@ -144,7 +144,7 @@ impl<T> Seq<T> {
     }
 }
 
-/// The items in order: `for item in &list`.
+/// Iterates over the items in order: `for item in &list`.
 impl<'a, T> IntoIterator for &'a Seq<T> {
     type Item = &'a T;
 
@@ -158,7 +158,7 @@ impl<'a, T> IntoIterator for &'a Seq<T> {
     }
 }
 
-/// The item at an index, which must be below the length.
+/// Returns the item at an index, which must be below the length.
 impl<T> Index<usize> for Seq<T> {
     type Output = T;
 
@@ -171,7 +171,7 @@ impl<T> Index<usize> for Seq<T> {
     }
 }
 
-/// The item at an index, to write to: no other item changes.
+/// Lends the item at an index for writing: no other item changes.
 impl<T> IndexMut<usize> for Seq<T> {
     ghost use Rattle.hir_base.specs.Seq.{lends_item};
 

@@ -1,5 +1,6 @@
-//! Lists of few items, which lie in the value itself.
-//! `SmallVec` of the crate `smallvec` is the same in 32 bytes, which makes an expression and a pattern larger than all else in them.
+//! Lists of few items, which are stored in the value itself.
+//! `SmallVec` of the crate `smallvec` takes 32 bytes, which makes an expression and a pattern larger than
+//! all else in them.
 ghost use Rattle.std.specs.Prelude.{◌≡◌, ◌<◌, ◌^◌, ◌≤◌, [], ◌∷◌, ◌++◌, length, slice_get, slice_index_or, slice_set, IfOk, IsOk, OnOk, OnErr, IsTrue, ◌↔◌, Some};
 ghost use Rattle.std.specs.Option.{option_copied};
 ghost use Rattle.std.specs.Borrow.{sem, Lends, Array};
@@ -17,10 +18,10 @@ use std::marker::Model;
 use std::ops::{Index, IndexMut};
 use std::slice::Iter;
 
-/// The most items that lie in the value.
+/// The most items that the value itself holds.
 const MOST_INSIDE: usize = 3;
 
-// Where the items of a list lie: in the value, or in memory of their own.
+// Where the items of a list are stored: in the value, or in an allocation of their own.
 #[derive(Drop)]
 enum Place<T> {
     Nothing,
@@ -34,7 +35,7 @@ impl<T> Place<T> {
     ghost use Rattle.hir_base.specs.ShortList.{items_at};
     ghost use Rattle.hir_base.specs.PlaceLends.{lends_item};
 
-    // The item at this index, to write to.
+    // Lends the item at this index for writing.
     fn item_mut(&mut self, at: usize) -> &mut T
         requires { at < length (items_at self.old) }
         ensures* changes_one { sem 𝓛 (lends_item T.row self.entry at result) }
@@ -50,7 +51,7 @@ impl<T> Place<T> {
     }
 }
 
-// The item of an array at this index, to write to.
+// Lends the item of an array at this index for writing.
 fn item_of<T, const N: usize>(items: &mut [T; N], at: usize) -> &mut T
     requires { at < length items.old }
     ensures* writes_back { sem 𝓛
@@ -60,7 +61,7 @@ fn item_of<T, const N: usize>(items: &mut [T; N], at: usize) -> &mut T
     at_mut(items, at)
 }
 
-// The same, where the index is below the array's own number of items: what is proved by hand.
+// Lends the item at an index that is below the array's own number of items. Its proof is written by hand.
 fn at_mut<T, const N: usize>(items: &mut [T; N], at: usize) -> &mut T
     requires { at < N }
     ensures* writes_back { sem 𝓛
@@ -70,10 +71,10 @@ fn at_mut<T, const N: usize>(items: &mut [T; N], at: usize) -> &mut T
     &mut items[at]
 }
 
-/// A list that contracts see as its items, like a `Seq`.
+/// A list that is modelled as its items, like a `Seq`.
 ///
-/// A list of at most three items takes no memory of its own, unless it was made with room for more; the list of ids itself takes 16
-/// bytes.
+/// A list of at most three items takes no allocation, unless it was made with room for more. The value of a
+/// list of ids takes 16 bytes.
 #[derive(Drop)]
 pub struct ShortList<T> {
     place: Place<T>,
@@ -93,7 +94,7 @@ impl<T> Model for ShortList<T> {
 }
 
 impl<T> ShortList<T> {
-    /// A list with no items.
+    /// Returns a list with no items.
     pub fn new() -> ShortList<T>
         ensures { result ≡ [] }
     {
@@ -102,7 +103,7 @@ impl<T> ShortList<T> {
         }
     }
 
-    /// The items as a slice.
+    /// Returns the items as a slice.
     pub fn as_slice(&self) -> &[T]
         ensures { result.now ≡ self.now }
     {
@@ -115,28 +116,28 @@ impl<T> ShortList<T> {
         }
     }
 
-    /// The number of items.
+    /// Returns the number of items.
     pub fn len(&self) -> usize
         ensures { result ≡ length self.now }
     {
         self.as_slice().len()
     }
 
-    /// Whether there are no items.
+    /// Returns whether there are no items.
     pub fn is_empty(&self) -> bool
         ensures { IsTrue result ↔ (self.now ≡ []) }
     {
         self.as_slice().is_empty()
     }
 
-    /// The item at this index, if there is one.
+    /// Returns the item at this index, if there is one.
     pub fn get(&self, at: usize) -> Option<&T>
         ensures { option_copied result ≡ slice_get self.now at }
     {
         self.as_slice().get(at)
     }
 
-    /// The items in order, from either end.
+    /// Returns the items in order, from either end.
     pub fn iter(&self) -> Iter<'_, T>
         ensures rest { iter_rest result ≡ self.now }
         ensures runs { IterYieldsInOrder T }
@@ -146,7 +147,7 @@ impl<T> ShortList<T> {
     }
 }
 
-/// A copy of the items in memory of their own, with room for `capacity` of them.
+/// Returns a copy of the items in an allocation of their own, with room for `capacity` of them.
 fn outside<T: Copy>(alloc: Global, items: &[T], capacity: usize) -> Result<Box<Seq<T>>, AllocError>
     ensures { IfOk result (λ list. list.value ≡ items.now) }
 {
@@ -156,9 +157,9 @@ fn outside<T: Copy>(alloc: Global, items: &[T], capacity: usize) -> Result<Box<S
 }
 
 impl<T: Copy> ShortList<T> {
-    /// A list with no items and with room for `capacity` of them.
+    /// Returns a list with no items and with room for `capacity` of them.
     ///
-    /// Answers an error if memory for that room was refused.
+    /// Returns an error if the allocation fails.
     pub fn with_capacity(alloc: Global, capacity: usize) -> Result<ShortList<T>, AllocError>
         ensures ok { IfOk result (λ list. list ≡ []) }
         ensures few { capacity ≤ 3 → IsOk result }
@@ -172,9 +173,9 @@ impl<T: Copy> ShortList<T> {
         })
     }
 
-    /// The list of these items.
+    /// Returns the list of these items.
     ///
-    /// Answers an error if memory for it was refused.
+    /// Returns an error if the allocation fails.
     pub fn from_slice(alloc: Global, items: &[T]) -> Result<ShortList<T>, AllocError>
         ensures ok { IfOk result (λ list. list ≡ items.now) }
         ensures few { length items.now ≤ 3 → IsOk result }
@@ -189,9 +190,9 @@ impl<T: Copy> ShortList<T> {
         Ok(ShortList { place })
     }
 
-    /// Adds the item at the end. Up to the third item this takes no memory.
+    /// Adds the item at the end. Up to the third item this takes no allocation.
     ///
-    /// Answers an error if room for it was refused: the list is unchanged.
+    /// Returns an error if the allocation fails: the list is unchanged.
     pub fn push(&mut self, alloc: Global, item: T) -> Result<(), AllocError>
         ensures ok { OnOk result (self.new ≡ self.old ++ item ∷ []) }
         ensures err { OnErr result (self.new ≡ self.old) }
@@ -216,7 +217,7 @@ impl<T: Copy> ShortList<T> {
     }
 }
 
-/// The items in order: `for item in &list`.
+/// Iterates over the items in order: `for item in &list`.
 impl<'a, T> IntoIterator for &'a ShortList<T> {
     type Item = &'a T;
 
@@ -230,7 +231,7 @@ impl<'a, T> IntoIterator for &'a ShortList<T> {
     }
 }
 
-/// The item at an index, which must be below the length.
+/// Returns the item at an index, which must be below the length.
 impl<T> Index<usize> for ShortList<T> {
     type Output = T;
 
@@ -243,7 +244,7 @@ impl<T> Index<usize> for ShortList<T> {
     }
 }
 
-/// The item at an index, to write to: no other item changes.
+/// Lends the item at an index for writing: no other item changes.
 impl<T> IndexMut<usize> for ShortList<T> {
     ghost use Rattle.hir_base.specs.ShortListLends.{lends_item};
 

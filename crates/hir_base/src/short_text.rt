@@ -1,5 +1,5 @@
-//! Short texts, which lie in the value itself.
-//! `ArrayString` of the crate `arrayvec` is the same with a length of eight bytes, which makes a `Name` twice as large.
+//! Short texts, which are stored in the value itself.
+//! `ArrayString` of the crate `arrayvec` has a length of eight bytes, which makes a `Name` twice as large.
 ghost use Rattle.std.specs.Prelude.{◌≡◌, ◌≤◌, ◌+◌, length, take};
 ghost use Rattle.std.specs.Str.{IsAscii};
 
@@ -9,7 +9,7 @@ use std::str;
 /// The most bytes that a `ShortText` holds.
 pub(crate) const MOST_BYTES: usize = 14;
 
-/// A text of at most 14 bytes, which takes no memory of its own. Contracts see its bytes.
+/// A text of at most 14 bytes, which takes no allocation. It is modelled as its bytes.
 #[derive(Drop)]
 pub(crate) struct ShortText {
     len: u8,
@@ -27,7 +27,7 @@ impl Model for ShortText {
 }
 
 impl ShortText {
-    /// A copy of the text, which has to be short enough.
+    /// Returns a copy of the text, which has to be short enough.
     pub(crate) fn from_str(text: &str) -> ShortText
         requires { length text.now ≤ 14 }
         ensures { result ≡ text.now }
@@ -38,7 +38,7 @@ impl ShortText {
         }
     }
 
-    /// A copy of the text, which has to be short enough, and in ASCII: then its bytes are UTF-8 as they are.
+    /// Returns a copy of the text, which has to be short enough and in ASCII, so its bytes are UTF-8.
     // Always inlined: see `with_zeros`.
     #[inline(always)]
     pub(crate) fn from_ascii(text: &[u8]) -> ShortText
@@ -52,7 +52,7 @@ impl ShortText {
         }
     }
 
-    /// The same text again.
+    /// Returns the same text again.
     pub(crate) fn copy(&self) -> ShortText
         ensures { result ≡ self.now }
     {
@@ -62,15 +62,16 @@ impl ShortText {
         }
     }
 
-    /// The bytes of the text.
+    /// Returns the bytes of the text.
     pub(crate) fn as_bytes(&self) -> &[u8]
         ensures { result.now ≡ self.now }
     {
         &self.bytes[..self.len as usize]
     }
 
-    /// The text as a slice.
-    // That the bytes are a text is proved, from the invariant. To test them here took a tenth of the instructions of a print.
+    /// Returns the text as a slice.
+    // The invariant proves that the bytes are a text. A test of them took 10 percent of the instructions of
+    // a print.
     pub(crate) fn as_str(&self) -> &str
         ensures { result.now ≡ self.now }
     {
@@ -78,8 +79,9 @@ impl ShortText {
     }
 }
 
-/// Copies the first `N` bytes of a text and the last, which may overlap, to the front.
-// `N` is known where this is compiled, so each copy is a load and a store; a copy of any number of bytes is a call.
+/// Copies the first `N` bytes of a text and the last, which may overlap, to the start.
+// `N` is known where this is compiled, so each copy is a load and a store; a copy of any number of bytes is
+// a call.
 fn copy_ends<const N: usize>(bytes: &mut [u8; MOST_BYTES], text: &[u8])
     requires fits { N ≤ length text.now }
     requires covers { length text.now ≤ N + N }
@@ -91,10 +93,11 @@ fn copy_ends<const N: usize>(bytes: &mut [u8; MOST_BYTES], text: &[u8])
     bytes[rest..text.len()].copy_from_slice(&text[rest..]);
 }
 
-/// The bytes of a short text, and zeros.
-// Always inlined, as all is on the way of a name from its line into its arena: `from_ascii` above and that of `Name`, `Arena::alloc`, and
-// what calls these in the builder and the reader of lines. A name that is handed on through memory is written in pieces and then read as
-// a whole, for which a processor waits. All together take 2 to 8 hundredths of the time of making away, a part of them nothing.
+/// Returns the bytes of a short text, and zeros.
+// Always inlined, as is all that moves a name from its line into its arena: `from_ascii` above and that of
+// `Name`, `Arena::alloc`, and their callers in the builder and the reader of lines. A name that passes
+// through memory is written in pieces and then read as a whole, for which a processor waits. Inlining all of
+// them saves 2 to 8 percent of the time of building, inlining only a part of them nothing.
 #[inline(always)]
 fn with_zeros(text: &[u8]) -> [u8; MOST_BYTES]
     requires { length text.now ≤ 14 }

@@ -1,12 +1,13 @@
-//! A count of steps that only contracts see: it takes no bytes, and counting does nothing at run time.
+//! A count of steps that exists only in contracts: it takes no bytes, and counting does nothing at run time.
 ghost use Rattle.std.specs.Prelude.{◌≡◌, ◌+◌, ℕ};
 
 use std::marker::Model;
 
-/// A count of steps, seen as that number.
+/// A count of steps, modelled as that number.
 ///
-/// It is for contracts that say how much a call does, as how many ends a search reads. A caller makes a count by `new` and passes it
-/// to such a call by `&mut`: the call's contract says what the number is afterwards, and nothing reads it at run time.
+/// It is for contracts that say how much a call does, as how many ends a search reads. A caller makes a
+/// count by `new` and passes it to such a call by `&mut`: the call's contract says what the number is
+/// afterwards, and nothing reads it at run time.
 #[derive(Drop)]
 pub struct Steps {
     ghost count: { ℕ },
@@ -24,7 +25,7 @@ impl Model for Steps {
 }
 
 impl Steps {
-    /// No steps yet.
+    /// Returns a count of no steps.
     pub fn new() -> Steps
         ensures { result ≡ 0 }
     {
@@ -38,7 +39,7 @@ impl Steps {
         *self = Steps::after(self);
     }
 
-    // The two functions that make a count, and so the two whose proofs are written by hand.
+    // Only these two functions make a count, so their proofs are written by hand.
     fn none() -> Steps
         ensures { result ≡ 0 }
     {

@@ -1,5 +1,5 @@
 //! Maps whose keys are any values of our own types: hash tables with a fixed seed.
-//! They take memory only for their entries, whatever the keys are.
+//! They take memory only for their entries, with any keys.
 ghost use Rattle.std.specs.Prelude.{◌≡◌, ◌↔◌, ◌==◌, List, ℕ, IsTrue, OnOk, OnErr, IfErr, IfOk};
 ghost use Rattle.std.specs.Bool.{Decides};
 ghost use Rattle.std.specs.Option.{option_copied, option_copied_mut};
@@ -24,7 +24,7 @@ pub trait HasCode: Eq + Hash {
     ghost code_tells: { (x y : Self) → Decides (Self.eq x y) (code x ≡ code y) };
 }
 
-/// A hash table with a fixed seed, seen as the finite map from the codes of its keys to their values.
+/// A hash table with a fixed seed, modelled as the finite map from the codes of its keys to their values.
 #[derive(Drop)]
 pub struct Table<K: HasCode, V> {
     entries: HashMap<K, V>,
@@ -43,7 +43,7 @@ impl<K: HasCode, V> Model for Table<K, V> {
 }
 
 impl<K: HasCode, V> Table<K, V> {
-    /// A table with no entries. It takes its memory from `alloc`, and none yet.
+    /// Returns a table with no entries. It takes its memory from `alloc`, and none yet.
     pub fn new(alloc: Global) -> Table<K, V>
         ensures { result ≡ map.empty }
     {
@@ -52,14 +52,14 @@ impl<K: HasCode, V> Table<K, V> {
         }
     }
 
-    /// The value of this key, if it has one.
+    /// Returns the value of this key, if it has one.
     pub fn get(&self, key: &K) -> Option<&V>
         ensures { option_copied result ≡ map.get self.now (K.code key.now) }
     {
         self.entries.get(key)
     }
 
-    /// Whether there are no entries.
+    /// Returns whether there are no entries.
     pub fn is_empty(&self) -> bool
         ensures none { IsTrue result ↔ (self.now ≡ map.empty) }
         ensures len { result ≡ (map.len self.now == 0) }
@@ -67,7 +67,7 @@ impl<K: HasCode, V> Table<K, V> {
         self.entries.is_empty()
     }
 
-    /// The entries, each once, in no promised order.
+    /// Returns the entries, each once, in no promised order.
     pub fn iter(&self) -> TableIter<'_, K, V>
         ensures { IsPermutation (by_codes K.code result) (map.entries self.now) }
     {
@@ -79,7 +79,7 @@ impl<K: HasCode, V> Table<K, V> {
 impl<K: HasCode, V> Table<K, V> {
     ghost use Rattle.hir_base.specs.TableLends.{lends_value};
 
-    /// The value of this key, to write to, if it has one: no other entry changes.
+    /// Lends the value of this key for writing, if it has one: no other entry changes.
     pub fn get_mut(&mut self, key: &K) -> Option<&mut V>
         ensures* writes_back { sem 𝓛 (lends_value K.row V.row K.HasCode self.entry (K.code key.now) result) }
         ensures value { option_copied_mut result ≡ map.get self.old (K.code key.now) }
@@ -89,9 +89,10 @@ impl<K: HasCode, V> Table<K, V> {
 }
 
 impl<K: HasCode + Drop, V: Drop> Table<K, V> {
-    /// Gives the key this value, and answers the previous one.
+    /// Gives the key this value, and returns the previous one.
     ///
-    /// Answers an error if room for one more entry was refused: key and value are handed back and the table is unchanged.
+    /// Returns an error if the allocation fails: the error gives key and value back, and the table is
+    /// unchanged.
     pub fn insert(&mut self, key: K, value: V) -> Result<Option<V>, AllocFailed<(K, V)>>
         ensures ok { OnOk result (self.new ≡ map.insert self.old (K.code key) value) }
         ensures old { IfOk result (λ old. old ≡ map.get self.old (K.code key)) }
@@ -103,7 +104,8 @@ impl<K: HasCode + Drop, V: Drop> Table<K, V> {
 
     /// Gives the key this value, in place of the previous one.
     ///
-    /// Answers an error if room for one more entry was refused: key and value are handed back and the table is unchanged.
+    /// Returns an error if the allocation fails: the error gives key and value back, and the table is
+    /// unchanged.
     pub fn put(&mut self, key: K, value: V) -> Result<(), AllocFailed<(K, V)>>
         ensures ok { OnOk result (self.new ≡ map.insert self.old (K.code key) value) }
         ensures err { OnErr result (self.new ≡ self.old) }

@@ -6,7 +6,7 @@ use std::collections::hash_map::Iter;
 use std::iter::FusedIterator;
 use std::marker::Model;
 
-/// The entries of a table, seen as the list of those that are left.
+/// The entries of a table, modelled as the list of those that are left.
 #[derive(Drop)]
 pub struct TableIter<'a, K, V> {
     inner: Iter<'a, K, V>,

@@ -1,5 +1,5 @@
-//! Texts: a `String` that contracts see as its bytes.
-//! A contract also sees the capacity of a `String`, so two with the same text can differ; two `Text`s can't.
+//! Texts: a `String` that is modelled as its bytes.
+//! The model of a `String` has its capacity too, so two with the same text can differ; two `Text`s can't.
 ghost use Rattle.std.specs.Prelude.{◌≡◌, IfOk};
 ghost use Rattle.std.specs.String.{string_bytes};
 ghost use Rattle.std.specs.Cmp.Lexicographic.{pointwise};
@@ -13,7 +13,7 @@ use std::alloc::{AllocError, Global};
 use std::hash::{Hash, Hasher};
 use std::marker::Model;
 
-/// A `String` that contracts see as its bytes.
+/// A `String` that is modelled as its bytes.
 ///
 /// Converting from the `String` and back takes no memory.
 #[derive(Drop)]
@@ -31,14 +31,14 @@ impl Model for Text {
 }
 
 impl Text {
-    /// The text of this string.
+    /// Returns the text of this string.
     pub fn from_string(text: String) -> Text
         ensures { result ≡ string_bytes text }
     {
         Text { text }
     }
 
-    /// The string that holds the text.
+    /// Returns the string that holds the text.
     pub fn into_string(self) -> String
         ensures { string_bytes result ≡ self }
     {
@@ -46,9 +46,9 @@ impl Text {
         text
     }
 
-    /// A copy of the text, in one allocation of its length.
+    /// Returns a copy of the text, in one allocation of its length.
     ///
-    /// Answers an error if that memory was refused.
+    /// Returns an error if the allocation fails.
     pub fn from_str(alloc: Global, text: &str) -> Result<Text, AllocError>
         ensures { IfOk result (λ t. t ≡ text.now) }
     {
@@ -57,7 +57,7 @@ impl Text {
         })
     }
 
-    /// The text as a slice.
+    /// Returns the text as a slice.
     pub fn as_str(&self) -> &str
         ensures { result.now ≡ self.now }
     {

@@ -1,5 +1,5 @@
-//! The answers to a text of lines, for C and for Rust: `include/hir_expr_store.h` declares what this library exports, and says what a
-//! caller owes. Nothing is kept between two calls.
+//! The answers to a text of lines, for C and for Rust: `include/hir_expr_store.h` declares what this library
+//! exports, and says what a caller owes. Nothing is kept between two calls.
 #![tactic(auto)]
 
 ghost use Rattle.hir_c.specs.Report.{IsFrontOfAnswers};
@@ -14,7 +14,8 @@ pub use report::Report;
 use report::Status;
 use std::alloc::Global;
 
-/// Answers the questions of a text of lines into a buffer, as far as it goes; tells the status as a number, and in the report the rest.
+/// Answers the questions of a text of lines into a buffer, as far as it goes; returns the status as a number,
+/// and reports the rest.
 #[unsafe(no_mangle)]
 pub extern "C" fn hir_expr_store_answer(
     alloc: Global,

@@ -3,7 +3,7 @@
 use hir_text::{Answers, Entry, TextFault, answer};
 use std::alloc::Global;
 
-/// The lines before the one that stands at this place.
+/// The lines before the one at this place.
 fn lines_before(bytes: &[u8], place: usize) -> &[u8] {
     let before = bytes.get(..place).unwrap_or(bytes);
     let end = before.iter().rposition(|byte| *byte == b'\n');

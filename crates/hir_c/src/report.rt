@@ -1,8 +1,8 @@
-//! What a caller is told: the status of a text, and a report beside it.
+//! What a call reports to its caller: the status of a text, and a report beside it.
 
 use hir_text::TextFault;
 
-/// What is told beside the status.
+/// What a call reports beside the status.
 #[repr(C)]
 #[derive(Clone, Copy, Drop)]
 pub struct Report {
@@ -10,7 +10,8 @@ pub struct Report {
     pub length: usize,
     /// How many of them were written to the buffer.
     pub written: usize,
-    /// The number of the bad line, or of the first question that was refused, counted from 1; 0 where there is none.
+    /// The number of the bad line, or of the first question that was refused, counted from 1; 0 where there
+    /// is none.
     pub line: usize,
 }
 
@@ -38,7 +39,7 @@ impl Status {
         }
     }
 
-    /// The number that stands for it in C.
+    /// The number of the status in C.
     pub(crate) fn code(self) -> u32 {
         match self {
             Status::Answered => 0,

@@ -1,4 +1,4 @@
--- A name that is found is captured where the scope that brings it in is among the outermost.
+-- A name that is found is captured where the scope that binds it is among the outermost.
 use Rattle.std.proofs.Common.{◌≡◌, ℕ, suc, ◌+◌, ◌<◌, ◌≤◌, ◌-◌, List, [], ◌∷◌, ◌++◌, Option, Some, None, take, drop, length, length-append, refl, ap, sym, ◌∙◌, arith}
 use Rattle.std.proofs.Math.Seq.{take-append-add}
 use Rattle.std.proofs.lemmas.{List.take-append-drop, List.take-append-le, List.Concat.flat_map-append}
@@ -15,7 +15,7 @@ use Rattle.hir_captures.specs.Captures.{outer_entry, resolve_outside}
 
 -- 1. Scopes of a chain
 
--- each of these scopes is there
+-- each of these scopes exists
 abbrev pub AllInRange : List Scope → List ℕ → Type 0
 AllInRange scopes ids = AllByRecursion (λ (s : ℕ). s < length scopes) ids
 
@@ -31,7 +31,7 @@ as_many scopes (s ∷ ids) h =
     let x = item_at scopes s h.0 in
     ap (length {A = Frame}) (one_frame scopes s x.0 ids x.1) ∙ ap suc (as_many scopes ids h.1)
 
--- 2. What is in front of a chain
+-- 2. The prefix of a chain
 
 module _ (n : List ℕ) (h : SyntaxContext) where
   none_in_front : (m : ℕ) (xs : Chain) → resolve xs n h ≡ None → resolve (take m xs) n h ≡ None
@@ -40,11 +40,11 @@ module _ (n : List ℕ) (h : SyntaxContext) where
     at None q = refl
     at (Some x) q = absurd cc
 
-  -- what means nothing captures nothing
+  -- what resolves to nothing captures nothing
   pub none_captured : (m : ℕ) (xs : Chain) → resolve xs n h ≡ None → resolve_outside m xs n h ≡ None
   none_captured m xs e = λ i. outer_entry (none_in_front m xs e i) (e i)
 
-  -- an entry of the first frame is in front
+  -- an entry of the first frame is in the prefix
   found_in_front : (f : Frame) (entry : ScopeEntry) → resolve (f ∷ []) n h ≡ Some entry → (k : ℕ) (fs : Chain) → resolve (take (suc k) (f ∷ fs)) n h ≡ Some entry
   found_in_front f entry e k fs = resolve_append n h (f ∷ []) (take k fs) ∙ ap (λ (o : Option ScopeEntry). option_or o (resolve (take k fs) n h)) e
 

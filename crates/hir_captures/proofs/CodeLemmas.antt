@@ -87,13 +87,13 @@ code_read s fall n a =
     ∙ ap (λ (xs : List Spot). spot n a ∷ xs)
     (of_node (code_under s) (assignment_at s n a) s n ∙ sym (task_code s (assignment_at s n a) (met_in_form (form_of s n))))
 
--- What tasks name is there
+-- What tasks name exists
 
 all_two : {X : Type 0} (P : X → Type 0) (xs ys : List X) → AllByRecursion P xs → AllByRecursion P ys → AllByRecursion P (xs ++ ys)
 all_two P [] ys h k = k
 all_two P (x ∷ xs) ys h k = (h.0, all_two P xs ys h.1 k)
 
--- the nodes of spots are there
+-- the nodes of spots exist
 abbrev HaveNodes : Nodes → List Spot → Type 0
 HaveNodes s xs = AllByRecursion (λ (x : Spot). Has s x.node) xs
 
@@ -115,16 +115,16 @@ tasks_in_range s None (OnPat id ∷ cs) h = (h.0, tasks_in_range s None cs h.1)
 tasks_in_range s (Some a) (OnPat id ∷ cs) h = (h.0, tasks_in_range s (Some a) cs h.1)
 tasks_in_range s a (_ ∷ cs) h = tasks_in_range s a cs h
 
--- the children of a node are there
+-- the children of a node exist
 pub children_in_range : (s : Nodes) → RankDecreases s → (n : NodeId) (a : Option ℕ) (rest : List Task) → Has s n → AreInRange s rest → AreInRange s (tasks_of a (met_in_form (form_of s n)) ++ rest)
 children_in_range s fall n a rest h r =
     let have = child_contexts_in_range s a (child_contexts s n) (λ k m. fall.in_range n h k (child_in_range s n k m)) in
     all_two (λ (t : Task). Has s (task_node t)) (tasks_of a (met_in_form (form_of s n))) rest
     (tasks_in_range s a (met_in_form (form_of s n)) (subst (HaveNodes s) (of_node itself a s n) have)) r
 
--- 2. What is in a closure's code stands on the closure's chain: the chains of its uses are some frames on it.
+-- 2. The code of a closure is on the closure's chain: the chains of its uses are some frames on it.
 
--- What stands on a chain
+-- What is on a chain
 
 -- a reached node has a place whose frames are some put on this chain
 pub record StandsOn (s : Nodes) (entry_nodes : List InContext) (reached_from : List NodeId) (base : Chain) (n : NodeId) : Type 0 where
@@ -171,7 +171,7 @@ module _ (s : Nodes) (entry_nodes : List InContext) (from : List NodeId) (base :
         one ConstScope e = tt
 
   module _ (fall : RankDecreases s) (go : (n k : NodeId) → IsReached s from n → Contains (children_of s n) k → IsReached s from k) where
-    -- a child in the code stands there too
+    -- a child in the code is on it too
     child_on : (n : NodeId) → On n → (x : ChildContext) → Contains (child_contexts s n) x → x.base ≡ Scope → On x.child
     child_on n on x m scope =
         let at = on.at in

@@ -43,7 +43,7 @@ pub no_assignment : (id : ℕ) (x : Expr) → ((target value : ℕ) → x ≡ Ex
 no_assignment id (Expr.Assignment target value) h = absurd (h target value refl)
 no_assignment id _ h = refl
 
--- the pattern of a task is there
+-- the pattern of a task exists
 pub pat_in_range : (s : Nodes) (a : Option ℕ) (id : ℕ) (rest : List Task) → AreInRange s (pat_task a id ∷ rest) → id < length s.pats
 pat_in_range s None id rest h = h.0
 pat_in_range s (Some a) id rest h = h.0
@@ -98,7 +98,7 @@ module _ (code : Code) where
 
 -- The whole
 
--- each reached expression has a scope, along which its frames stand
+-- each reached expression has a scope, along which its frames are
 chains_are : (b : BodyContents) (scopes : Scopes) → ((x : ℕ) → IsSome (map.get scopes.scope_by_expr x) ↔ BodyReaches b (NodeId.Expr x)) → ChainsAreFrames b.store.nodes (entry_nodes_of_body b) scopes → AreChains b (chain_in scopes)
 chains_are b scopes reached chains x r = at (map.get scopes.scope_by_expr x) refl ((reached x).1 r) where
   at : (o : Option ℕ) → map.get scopes.scope_by_expr x ≡ o → IsSome o → HasChain b.store.nodes (entry_nodes_of_body b) x (chain scopes.scopes (map.get scopes.scope_by_expr x))

@@ -30,9 +30,9 @@ impl Model for BindingList {
 }
 
 impl BindingList {
-    /// No bindings, with room for the marks of this many.
+    /// Returns no bindings, with room for the marks of this many.
     ///
-    /// Answers `Memory` where that room was refused.
+    /// Returns `Memory` where an allocation fails.
     pub(crate) fn new(alloc: Global, bindings: usize) -> Result<BindingList, CapturesFault>
         ensures ok { IfOk result (λ found. found ≡ []) }
         ensures memory { OnErr result (result ≡ Err CapturesFault.Memory) }
@@ -43,9 +43,9 @@ impl BindingList {
         })
     }
 
-    /// Appends a binding, where it isn't there yet.
+    /// Appends a binding, unless it is in the list already.
     ///
-    /// Answers `Memory` where room for it was refused.
+    /// Returns `Memory` where an allocation fails.
     pub(crate) fn add(&mut self, binding: BindingId) -> Result<(), CapturesFault>
         ensures ok { OnOk result (self.new ≡ with_new self.old binding) }
         ensures memory { OnErr result (result ≡ Err CapturesFault.Memory) }
@@ -60,7 +60,7 @@ impl BindingList {
         Ok(())
     }
 
-    /// The bindings.
+    /// Returns the bindings.
     pub(crate) fn into_bindings(self) -> Vec<BindingId>
         ensures { result.items ≡ self }
     {

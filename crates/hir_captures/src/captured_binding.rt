@@ -8,7 +8,7 @@ use hir_node::BindingId;
 use hir_scope::laws::{a_chain_goes_outward, chains_are_short};
 use hir_scope::{ExprScopes, ScopeId};
 
-/// How many scopes there are along the chain of a scope.
+/// Returns the number of scopes along the chain of a scope.
 pub(crate) fn depth(scopes: &ExprScopes, scope: ScopeId) -> usize
     requires { scope < length scopes.now.scopes }
     ensures { result ≡ length (chain scopes.now.scopes (Some scope)) }
@@ -24,9 +24,9 @@ pub(crate) fn depth(scopes: &ExprScopes, scope: ScopeId) -> usize
     depth
 }
 
-/// The binding that a use of this name and hygiene in this scope captures: the one that it resolves to, where the entry is in one of
-/// the outermost scopes of the chain, of which there are this many.
-// The chain is gone along once: up to where the name is found by its entries, and from there on by its parents.
+/// Returns the binding that a use of this name and hygiene in this scope captures: the one that it resolves
+/// to, where the entry is in one of this number of outermost scopes of the chain.
+// The chain is walked once: by its entries up to where the name is found, and from there on by its parents.
 pub(crate) fn captured_binding(
     scopes: &ExprScopes,
     scope: ScopeId,

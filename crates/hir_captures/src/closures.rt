@@ -6,18 +6,18 @@ ghost use Rattle.hir_items.specs.Bodies.{BodyReaches};
 ghost use Rattle.hir_scope.specs.BodyScopes.{ChainsAreFrames, entry_nodes_of_body};
 ghost use Rattle.hir_captures.specs.Captures.{AreCaptures, IsClosure, IsReachedClosure};
 
-use crate::captured_binding::depth;
 use crate::binding_list::BindingList;
+use crate::captured_binding::depth;
 use crate::code::Code;
 use crate::fault::CapturesFault;
 use crate::tasks::{Task, Tasks};
-use hir_store_core::ExpressionStore;
 use hir_items::Body;
 use hir_node::{BindingId, Expr, ExprId};
 use hir_scope::{ExprScopes, ScopeId};
+use hir_store_core::ExpressionStore;
 use std::alloc::Global;
 
-/// The scope of an expression, where it is a closure.
+/// Returns the scope of an expression, where it is a closure.
 fn scope_of_closure(
     store: &ExpressionStore,
     scopes: &ExprScopes,
@@ -39,13 +39,13 @@ fn scope_of_closure(
     None
 }
 
-/// The bindings that a closure captures: those of outside that its code uses, in the order of their first use, each once. What is in
-/// a constant or a type isn't the closure's code.
+/// Returns the bindings that a closure captures: those of outside that its code uses, in the order of their
+/// first use, each once. What is in a constant or a type isn't the closure's code.
 ///
-/// Answers `NotAClosure` exactly where the expression isn't a closure that the body reaches, also where it isn't there, and `Memory`
-/// where room was refused. `scopes` have to be those of the body, as `ExprScopes::new_body` makes them. It takes time in the number of
-/// nodes under the closure, the bindings of the store, and the scopes and entries of the chains in which names are looked up, and
-/// doesn't recurse.
+/// Returns `NotAClosure` exactly where the expression isn't a closure that the body reaches, also where it
+/// doesn't exist, and `Memory` where an allocation fails. `scopes` have to be those of the body, as
+/// `ExprScopes::new_body` makes them. It takes time in the number of nodes under the closure, the bindings of
+/// the store, and the scopes and entries of the chains in which names are looked up, and doesn't recurse.
 pub fn captures(
     alloc: Global,
     body: &Body,

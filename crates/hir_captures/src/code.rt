@@ -8,26 +8,27 @@ ghost use Rattle.hir_captures.specs.Uses.{if_assignment, use_of, uses_at};
 ghost use Rattle.hir_captures.specs.walk.Pending.{AreInRange, pat_task};
 ghost use Rattle.hir_captures.specs.walk.Reading.{with_uses, with_code, ReadsTask};
 
-use crate::captured_binding::captured_binding;
 use crate::binding_list::BindingList;
+use crate::captured_binding::captured_binding;
 use crate::fault::CapturesFault;
 use crate::tasks::{Task, Tasks};
 use hir_base::HygieneId;
-use hir_store_core::ExpressionStore;
-use hir_store_core::laws::rank_decreases;
 use hir_node::{Expr, ExprId, Pat, PatId, Path};
 use hir_scope::{ExprScopes, local_name};
+use hir_store_core::ExpressionStore;
+use hir_store_core::laws::rank_decreases;
 
-/// Where a closure's code is read: in this store and these scopes, which are those of its body.
+/// The store and the scopes in which a closure's code is read. The scopes are those of its body.
 #[derive(Drop)]
 pub(crate) struct Code<'a> {
     pub(crate) store: &'a ExpressionStore,
     pub(crate) scopes: &'a ExprScopes,
-    /// How many scopes there are along the closure's own chain: what they bring in comes from outside.
+    /// The number of scopes along the closure's own chain: what they bind comes from outside.
     pub(crate) outermost: usize,
 }
 
-/// The assignment in whose target the patterns of an expression are: itself, where it is one.
+/// Returns the assignment in whose target the patterns of an expression are: the expression itself, where it
+/// is one.
 fn if_assignment(id: ExprId, expr: &Expr) -> Option<ExprId>
     ensures { result ≡ if_assignment id (Some expr.now) }
 {
@@ -38,7 +39,8 @@ fn if_assignment(id: ExprId, expr: &Expr) -> Option<ExprId>
 }
 
 impl<'a> Code<'a> {
-    /// Adds what a path captures, where it may name a variable: it is resolved in the chain of this expression.
+    /// Adds the binding that a path captures, where it may name a variable: it is resolved in the chain of
+    /// this expression.
     fn ask(
         &self,
         found: &mut BindingList,
@@ -62,7 +64,8 @@ impl<'a> Code<'a> {
         }
     }
 
-    /// Adds what an expression itself captures: where it is a path, it asks in its own chain.
+    /// Adds the binding that an expression itself captures: where it is a path, it is resolved in its own
+    /// chain.
     fn ask_expr(&self, found: &mut BindingList, id: ExprId) -> Result<(), CapturesFault>
         requires in_range { id < length self.now.store.now.nodes.exprs }
         ensures found { OnOk result (found.new ≡ with_uses self.now found.old
@@ -75,7 +78,8 @@ impl<'a> Code<'a> {
         Ok(())
     }
 
-    /// Adds what a pattern captures: where it is a path in the target of an assignment, it asks in the assignment's chain.
+    /// Adds the binding that a pattern captures: where it is a path in the target of an assignment, it is
+    /// resolved in the assignment's chain.
     fn ask_pat(
         &self,
         found: &mut BindingList,
@@ -124,14 +128,15 @@ impl<'a> Code<'a> {
         id: PatId,
         assignment: Option<ExprId>,
     ) -> Result<(), CapturesFault>
-        requires in_range { AreInRange self.now.store.now.nodes (pat_task assignment id ∷ unread.old.stack.items) }
+        requires in_range { AreInRange self.now.store.now.nodes
+            (pat_task assignment id ∷ unread.old.stack.items) }
         ensures reads { OnOk result (ReadsTask self.now found.old
             (pat_task assignment id ∷ unread.old.stack.items) found.new unread.new.stack.items) }
         ensures memory { OnErr result (result ≡ Err CapturesFault.Memory) }
     {
         self.store.has_no_fault();
         rank_decreases();
-        // (a copy: the prover's borrow checker takes an option that was handed on for one without a value)
+        // (a copy: the prover's borrow checker takes an option that was passed on for one without a value)
         let target = assignment;
         self.ask_pat(found, id, assignment)?;
         unread.push_pat(&self.store[id], target)?;
@@ -157,7 +162,7 @@ impl<'a> Code<'a> {
         }
     }
 
-    /// Reads all that is still to be read, and adds what it captures.
+    /// Reads all nodes that are still to be read, and adds the bindings that they capture.
     pub(crate) fn read_all(
         &self,
         unread: &mut Tasks,

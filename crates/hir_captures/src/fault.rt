@@ -1,4 +1,4 @@
-//! Why captures were not answered.
+//! The faults with which captures fail.
 ghost use Rattle.std.specs.Prelude.{◌≡◌};
 ghost use Rattle.hir_base.specs.Exact.{exact};
 
@@ -6,13 +6,13 @@ use hir_base::ExactEq;
 use std::alloc::AllocError;
 use thiserror::Error;
 
-/// Why the captures of an expression were not answered. Its text is its name.
+/// Why a call returned no captures. Its text is its name.
 #[derive(Clone, Copy, Debug, Drop, PartialEq, Eq, Error)]
 pub enum CapturesFault {
     /// The expression isn't a closure that the body reaches.
     #[error("NotAClosure")]
     NotAClosure,
-    /// Memory was refused.
+    /// An allocation failed.
     #[error("Memory")]
     Memory,
 }

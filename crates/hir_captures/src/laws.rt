@@ -1,4 +1,4 @@
-//! Laws that a reader relies on. Each is a function that does nothing: its contract is the law.
+//! Theorems that a reader relies on. Each is a function that does nothing: its contract is the theorem.
 ghost use Rattle.std.specs.Prelude.{◌≡◌, ℕ, List, None, Option};
 ghost use Rattle.std.specs.List.{All};
 ghost use Rattle.hir_node.specs.declared.node_id.NodeId.{NodeId};
@@ -8,10 +8,11 @@ ghost use Rattle.hir_scope.specs.Frames.{Chain};
 ghost use Rattle.hir_captures.specs.Captures.{AreCaptures, AreChains, IsOn, IsReachedClosure};
 ghost use Rattle.hir_captures.specs.Uses.{code_step, code_under, uses_in};
 
-use hir_store_core::laws::{rank_decreases, children_of_reached_are_reached};
 use hir_scope::laws::a_reached_node_has_one_chain;
+use hir_store_core::laws::{children_of_reached_are_reached, rank_decreases};
 
-/// The code under a node is the node, and then the code under its children, in the order in which scopes are made.
+/// The code under a node is the node, and then the code under its children, in the order in which scopes are
+/// made.
 pub fn code_under_unfold()
     ensures { (c : Contents) → contents_fault c None → (n : NodeId) (assignment : Option ℕ)
         → code_under c.nodes n assignment ≡ code_step c.nodes (code_under c.nodes) n assignment }
@@ -30,7 +31,7 @@ pub fn uses_stand_on_their_closure()
     a_reached_node_has_one_chain();
 }
 
-/// A closure of a body has one list of captures.
+/// The list of captures of a closure of a body is unique.
 pub fn captures_unique()
     ensures { (b : BodyContents) → contents_fault b.store None → body_fault b None
         → (closure : ℕ) → IsReachedClosure b closure → (xs ys : List ℕ)

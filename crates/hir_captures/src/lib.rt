@@ -1,8 +1,8 @@
 //! Captured variables: the bindings from outside that a closure's code uses.
 #![tactic(auto)]
 
-mod captured_binding;
 mod binding_list;
+mod captured_binding;
 mod closures;
 mod code;
 mod fault;

@@ -1,4 +1,4 @@
-//! What is still to be read of a closure's code.
+//! The nodes of a closure's code that are still to be read.
 #![tactic(auto, using(hir_node::proofs::RunLemmas::freely))]
 
 ghost use Rattle.std.specs.Prelude.{◌≡◌, [], ◌∷◌, ◌++◌, Err, None, OnErr, OnOk};
@@ -15,7 +15,8 @@ use hir_stack::Stack;
 use std::alloc::Global;
 
 /// A node of a closure's code that is still to be read.
-// Flat, ids alone: the prover cannot build a function that borrows a list of values with records or options in them.
+// Flat, ids alone: the prover cannot build a function that borrows a list of values with records or options
+// in them.
 #[derive(Clone, Copy)]
 pub(crate) enum Task {
     /// An expression.
@@ -30,7 +31,7 @@ pub(crate) enum Task {
 #[derive(Drop)]
 pub(crate) struct Tasks {
     pub(crate) stack: Stack<Task>,
-    /// The assignment in whose target the patterns are whose turn it is, where they are in one.
+    /// The assignment in whose target the patterns are that are read now, where they are in one.
     assignment: Option<ExprId>,
 }
 
@@ -57,7 +58,7 @@ impl StoreVisitor for Tasks {
 }
 
 impl Tasks {
-    /// Nothing to read. It allocates from `alloc`, and nothing now.
+    /// Returns an empty list of nodes to read, which allocates from `alloc` once a node comes.
     pub(crate) fn new(alloc: Global) -> Tasks
         ensures { result.stack.items ≡ [] }
     {
@@ -67,7 +68,8 @@ impl Tasks {
         }
     }
 
-    /// Pushes what is in an expression, the first on top. Its patterns are in the target of this assignment, or in none.
+    /// Pushes what is in an expression, the first on top. Its patterns are in the target of this assignment,
+    /// or in none.
     pub(crate) fn push_expr(
         &mut self,
         expr: &Expr,

@@ -1,5 +1,5 @@
--- What the tables have for a definition that may have generic parameters, for one that may have a body, and for the
--- owner of a store.
+-- The entries of the tables for a definition that may have generic parameters, for one that may have a body,
+-- and for the owner of a store.
 use Rattle.std.specs.Prelude.{ℕ, [], ◌∷◌, Option}
 use Rattle.std.specs.Option.{option_map}
 use Rattle.std.specs.FinMap as map
@@ -34,7 +34,7 @@ Tables =
     TablesOf
     FunctionParts StructParts PlainParts VariantParts BodyContents ExpressionStoreSourceMap BodySourceMap
 
--- what a lookup answers from the signature of a function, of a struct and of another definition
+-- the result of a lookup, from the signature of a function, of a struct and of another definition
 abbrev pub function_entry : FunctionParts × ExpressionStoreSourceMap → SignatureAndSources
 function_entry e = (e.0.generic_params, e.0.store, e.1)
 
@@ -44,7 +44,7 @@ struct_entry e = (e.0.generic_params, e.0.store, e.1)
 abbrev pub plain_entry : PlainParts × ExpressionStoreSourceMap → SignatureAndSources
 plain_entry e = (e.0.generic_params, e.0.store, e.1)
 
--- a constant or a static has no parameters
+-- the result of a lookup of a constant or a static, which has no parameters
 abbrev pub value_entry : PlainParts × ExpressionStoreSourceMap → SignatureAndSources
 value_entry e = (empty, e.0.store, e.1)
 
@@ -54,7 +54,7 @@ of_adt structs plains (adt.EnumId id) = option_map plain_entry (map.get plains (
 of_adt structs plains (adt.StructId id) = option_map struct_entry (map.get structs (id ∷ []))
 of_adt structs plains (adt.UnionId id) = option_map plain_entry (map.get plains (plain_code (plain.Union id)))
 
--- what a lookup answers of a definition
+-- the result of a lookup of a definition's signature
 abbrev pub signature_entry : Tables → GenericDefId → Option SignatureAndSources
 signature_entry t (generic.AdtId id) = of_adt t.structs t.plains id
 signature_entry t (generic.ConstId id) = option_map value_entry
@@ -82,7 +82,7 @@ owner_entry t (owner.Body def) = option_map (λ e. (e.0.store, e.1.store)) (body
 owner_entry t (owner.VariantFields variant) =
     option_map (λ e. (e.0.store, e.1)) (map.get t.fields (fields_code variant))
 
--- what is missing where an owner has no entry
+-- the missing fact where an owner has no entry
 abbrev pub missing_owner : ExpressionStoreOwnerId → Missing
 missing_owner (owner.Signature def) = missing.Signature def
 missing_owner (owner.Body def) = missing.Body def

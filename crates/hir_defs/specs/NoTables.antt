@@ -3,7 +3,7 @@ use Rattle.std.specs.FinMap as map
 use Rattle.hir_base.specs.RawWords.{no_words}
 use Rattle.hir_defs.specs.declared.tables.TablesOf.{TablesOf}
 
--- of entries of any types
+-- the model of tables without an entry, of any types
 abbrev pub no_tables : {F S P V B M N : Type 0} → TablesOf F S P V B M N
 no_tables = record {
   names = map.empty;

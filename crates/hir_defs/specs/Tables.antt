@@ -8,7 +8,7 @@ use Rattle.hir_base.specs.Keys.{read_back_tells}
 use Rattle.hir_defs.specs.declared.plain_def.PlainDef.{PlainDef}
 use Rattle.hir_defs.specs.declared.plain_def.PlainDef.TheVariants as plain
 
--- a number for the kind, and the id
+-- the code of a definition: a number for the kind, and the id
 abbrev pub plain_code : PlainDef → List ℕ
 plain_code (plain.Enum id) = 0 ∷ id ∷ []
 plain_code (plain.Union id) = 1 ∷ id ∷ []

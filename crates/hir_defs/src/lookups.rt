@@ -1,4 +1,4 @@
-//! The signature and the body of a definition, and the store of an owner, looked up in the tables.
+//! Lookups in the tables: the signature and the body of a definition, and the store of an owner.
 //!
 //! The private lookups borrow one table, since a function that borrows all of them is costly to prove.
 
@@ -19,12 +19,12 @@ use crate::tables::{Tables, entry};
 use hir_base::{
     AdtId, DefWithBodyId, ExpressionStoreOwnerId, FunctionId, GenericDefId, StructId, Table,
 };
-use hir_store_core::{ExpressionStore, Missing};
 use hir_items::{
     Bodies, BodyEntry, FunctionSignature, PlainSignature, SignatureEntry, Signatures,
     StructSignature,
 };
 use hir_source_map::ExpressionStoreSourceMap;
+use hir_store_core::{ExpressionStore, Missing};
 
 fn of_function<'a>(
     functions: &'a Table<FunctionId, (FunctionSignature, ExpressionStoreSourceMap)>,
@@ -72,7 +72,7 @@ fn of_plain<'a>(
     Ok((signature.generic_params(), signature.store(), source_map))
 }
 
-/// The entry of a constant or a static, which has no parameters.
+/// Returns the entry of a constant or a static, which has no parameters.
 fn of_value<'a>(
     plains: &'a Table<PlainDef, (PlainSignature, ExpressionStoreSourceMap)>,
     no_generics: &'a NoGenerics,
@@ -137,25 +137,25 @@ impl Bodies for Tables {
     }
 }
 
-/// Looks up a store by its owner.
+/// A lookup of a store by its owner.
 pub trait StoreOf {
     // what the tables have for an owner
     ghost entry: { Tables → ExpressionStoreOwnerId → Option (Self × ExpressionStoreSourceMap) };
 
-    /// The store of the owner.
+    /// Returns the store of the owner.
     ///
-    /// Where the tables have nothing of the owner, answers `Missing::Signature` or `Missing::Body` of its definition, or
-    /// `Missing::Fields` of its variant, as the owner is.
+    /// Where the tables have nothing of the owner, returns `Missing::Signature` or `Missing::Body` of its
+    /// definition, or `Missing::Fields` of its variant, as the owner is.
     fn of(tables: &Tables, owner: ExpressionStoreOwnerId) -> Result<&Self, Missing>
         ensures found { IfOk result (λ found.
             option_map (λ e. e.0) (entry tables.now owner) ≡ Some found.now) }
         ensures absent { IfErr result (λ absent.
             (absent ≡ missing_owner owner) × (entry tables.now owner ≡ None)) };
 
-    /// The store of the owner, and where it comes from.
+    /// Returns the store of the owner, and where it comes from.
     ///
-    /// Where the tables have nothing of the owner, answers `Missing::Signature` or `Missing::Body` of its definition, or
-    /// `Missing::Fields` of its variant, as the owner is.
+    /// Where the tables have nothing of the owner, returns `Missing::Signature` or `Missing::Body` of its
+    /// definition, or `Missing::Fields` of its variant, as the owner is.
     fn with_source_map(
         tables: &Tables,
         owner: ExpressionStoreOwnerId,

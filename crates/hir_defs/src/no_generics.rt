@@ -22,14 +22,14 @@ impl Model for NoGenerics {
 }
 
 impl NoGenerics {
-    /// It takes no memory.
+    /// Returns the empty parameters, without an allocation.
     pub(crate) fn new(alloc: Global) -> NoGenerics {
         NoGenerics {
             none: GenericParams::empty(alloc),
         }
     }
 
-    /// The empty parameters.
+    /// Returns the empty parameters.
     pub(crate) fn params(&self) -> &GenericParams
         ensures { result.now ≡ empty }
     {

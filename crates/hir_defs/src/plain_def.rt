@@ -22,7 +22,7 @@ pub enum PlainDef {
 }
 
 impl PlainDef {
-    /// The same definition, as one that may have generic parameters.
+    /// Returns the same definition, as one that may have generic parameters.
     pub fn generic_def(self) -> GenericDefId
         ensures { result ≡ generic_def self }
     {
@@ -63,7 +63,7 @@ pub struct Repr {
     pub pack: Option<u64>,
 }
 
-/// What a struct has where no `#[repr(..)]` is written.
+/// The layout of a struct for which no `#[repr(..)]` is written.
 impl Default for Repr {
     ghost is_default = { λ repr. repr ≡ record { c = false; align = None; pack = None } };
 

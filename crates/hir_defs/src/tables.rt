@@ -1,4 +1,4 @@
-//! What is known of definitions outside of a store, as one finite map for each kind.
+//! The facts about definitions outside of a store, as one finite map for each kind.
 
 ghost use Rattle.std.specs.Prelude.{◌≡◌, ◌∷◌, [], None, Some, IfOk, IfErr, OnOk, OnErr};
 ghost use Rattle.std.specs.Option.{option_map, option_copied};
@@ -17,14 +17,14 @@ use hir_base::{
     AdtId, CrateId, DefWithBodyId, Edition, EnumId, EnumVariantId, FunctionId, GenericDefId,
     HasCode, NamedDef, RawWords, Seq, StructId, Table, Text, VariantId,
 };
-use hir_store_core::Missing;
 use hir_items::{
     Body, BodySourceMap, FunctionSignature, PlainSignature, StructSignature, VariantFields,
 };
 use hir_source_map::ExpressionStoreSourceMap;
+use hir_store_core::Missing;
 use std::alloc::{AllocFailed, Global};
 
-/// What is known of the definitions outside. A later entry replaces an earlier one.
+/// The facts about the definitions outside. A later entry replaces an earlier one.
 pub type Tables = TablesOf<
     FunctionSignature,
     StructSignature,
@@ -35,8 +35,9 @@ pub type Tables = TablesOf<
     BodySourceMap,
 >;
 
-/// Tables of signatures of functions `F`, of structs `S` and of other definitions `P`, of fields `V` and of bodies `B`, with source
-/// maps `M`, and those of bodies `N`. What these are makes no difference to how they are kept, so the calls are proved for any.
+/// Tables of signatures of functions `F`, of structs `S` and of other definitions `P`, of fields `V` and of
+/// bodies `B`, with source maps `M`, and source maps of bodies `N`. The calls keep entries of any types
+/// alike, so they are proved for any.
 pub struct TablesOf<F, S, P, V, B, M, N> {
     names: Table<NamedDef, Option<Text>>,
     variant_parents: Table<EnumVariantId, EnumId>,
@@ -51,7 +52,8 @@ pub struct TablesOf<F, S, P, V, B, M, N> {
     pub(crate) no_generics: NoGenerics,
 }
 
-/// Drops its parts one after the other. It is here so that it is proved once, and is a call wherever a value is dropped.
+/// Drops its parts one after the other. This `impl` exists so that the drop is proved once, and is a call
+/// where a value is dropped.
 impl<F: Drop, S: Drop, P: Drop, V: Drop, B: Drop, M: Drop, N: Drop> Drop
     for TablesOf<F, S, P, V, B, M, N> {
     fn drop(self) {
@@ -71,7 +73,7 @@ impl<F: Drop, S: Drop, P: Drop, V: Drop, B: Drop, M: Drop, N: Drop> Drop
     }
 }
 
-/// The value of this key. Answers `wanted`, as what is missing, where it has none.
+/// Returns the value of this key, or `wanted`, as what is missing, where it has none.
 ///
 /// It borrows one table, since a function that borrows all of them is costly to prove.
 pub(crate) fn entry<'a, K: HasCode, V>(
@@ -90,7 +92,7 @@ pub(crate) fn entry<'a, K: HasCode, V>(
 }
 
 impl<F: Drop, S: Drop, P: Drop, V: Drop, B: Drop, M: Drop, N: Drop> TablesOf<F, S, P, V, B, M, N> {
-    /// Tables without an entry. It takes no memory.
+    /// Returns tables without an entry, without an allocation.
     pub fn new(alloc: Global) -> TablesOf<F, S, P, V, B, M, N>
         ensures { result ≡ no_tables }
     {
@@ -111,7 +113,7 @@ impl<F: Drop, S: Drop, P: Drop, V: Drop, B: Drop, M: Drop, N: Drop> TablesOf<F, 
 
     /// Records the name of the definition, or that it has none.
     ///
-    /// Where memory for the entry is refused, it is handed back and nothing has changed.
+    /// Where an allocation fails, the error gives the entry back and nothing has changed.
     pub fn add_name(
         &mut self,
         def: NamedDef,
@@ -127,7 +129,7 @@ impl<F: Drop, S: Drop, P: Drop, V: Drop, B: Drop, M: Drop, N: Drop> TablesOf<F, 
 
     /// Records the enum of the variant.
     ///
-    /// Where memory for the entry is refused, it is handed back and nothing has changed.
+    /// Where an allocation fails, the error gives the entry back and nothing has changed.
     pub fn add_variant_parent(
         &mut self,
         variant: EnumVariantId,
@@ -143,7 +145,7 @@ impl<F: Drop, S: Drop, P: Drop, V: Drop, B: Drop, M: Drop, N: Drop> TablesOf<F, 
 
     /// Records the name of the crate, or that it has none.
     ///
-    /// Where memory for the entry is refused, it is handed back and nothing has changed.
+    /// Where an allocation fails, the error gives the entry back and nothing has changed.
     pub fn add_crate_name(
         &mut self,
         id: CrateId,
@@ -159,7 +161,7 @@ impl<F: Drop, S: Drop, P: Drop, V: Drop, B: Drop, M: Drop, N: Drop> TablesOf<F, 
 
     /// Records how the struct lies in memory.
     ///
-    /// Where memory for the entry is refused, it is handed back and nothing has changed.
+    /// Where an allocation fails, the error gives the entry back and nothing has changed.
     pub fn add_repr(
         &mut self,
         id: StructId,
@@ -175,7 +177,7 @@ impl<F: Drop, S: Drop, P: Drop, V: Drop, B: Drop, M: Drop, N: Drop> TablesOf<F, 
 
     /// Gives the function this signature.
     ///
-    /// Where memory for the entry is refused, it is handed back and nothing has changed.
+    /// Where an allocation fails, the error gives the entry back and nothing has changed.
     pub fn add_function(
         &mut self,
         id: FunctionId,
@@ -192,7 +194,7 @@ impl<F: Drop, S: Drop, P: Drop, V: Drop, B: Drop, M: Drop, N: Drop> TablesOf<F, 
 
     /// Gives the struct this signature.
     ///
-    /// Where memory for the entry is refused, it is handed back and nothing has changed.
+    /// Where an allocation fails, the error gives the entry back and nothing has changed.
     pub fn add_struct(
         &mut self,
         id: StructId,
@@ -209,7 +211,7 @@ impl<F: Drop, S: Drop, P: Drop, V: Drop, B: Drop, M: Drop, N: Drop> TablesOf<F, 
 
     /// Gives the definition this signature.
     ///
-    /// Where memory for the entry is refused, it is handed back and nothing has changed.
+    /// Where an allocation fails, the error gives the entry back and nothing has changed.
     pub fn add_plain(
         &mut self,
         def: PlainDef,
@@ -227,7 +229,7 @@ impl<F: Drop, S: Drop, P: Drop, V: Drop, B: Drop, M: Drop, N: Drop> TablesOf<F, 
 
     /// Gives the struct, the union or the variant these fields.
     ///
-    /// Where memory for the entry is refused, it is handed back and nothing has changed.
+    /// Where an allocation fails, the error gives the entry back and nothing has changed.
     pub fn add_fields(
         &mut self,
         variant: VariantId,
@@ -245,7 +247,7 @@ impl<F: Drop, S: Drop, P: Drop, V: Drop, B: Drop, M: Drop, N: Drop> TablesOf<F, 
 
     /// Gives the definition this body.
     ///
-    /// Where memory for the entry is refused, it is handed back and nothing has changed.
+    /// Where an allocation fails, the error gives the entry back and nothing has changed.
     pub fn add_body(
         &mut self,
         def: DefWithBodyId,
@@ -260,30 +262,30 @@ impl<F: Drop, S: Drop, P: Drop, V: Drop, B: Drop, M: Drop, N: Drop> TablesOf<F, 
         self.bodies.put(def, (body, source_map))
     }
 
-    /// Gives the edition these words that are written with `r#`, in place of the ones that it had.
+    /// Sets the words of this edition that are written with `r#`, in place of the ones that it had.
     pub fn set_raw_words(&mut self, edition: Edition, words: Seq<Text>)
         ensures { self.new ≡ record self.old { words = with_words self.old.words edition words } }
     {
         self.words.set_words(edition, words);
     }
 
-    /// The words of this edition that are written with `r#`: none where none were given.
+    /// Returns the words of this edition that are written with `r#`: none where none were given.
     pub fn raw_words(&self, edition: Edition) -> &[Text]
         ensures { result.now ≡ words_of self.now.words edition }
     {
         self.words.words(edition)
     }
 
-    /// How the struct lies in memory, where that was recorded.
+    /// Returns how the struct lies in memory, where that was recorded.
     pub fn repr(&self, id: StructId) -> Option<Repr>
         ensures { result ≡ map.get self.now.reprs (id ∷ []) }
     {
         self.reprs.get(&id).copied()
     }
 
-    /// What the definition is called; None where it has no name.
+    /// Returns the name of the definition, and `None` where it has no name.
     ///
-    /// Answers `Missing::Name` of the definition where the tables don't say whether it has a name.
+    /// Returns `Missing::Name` of the definition where the tables don't say whether it has a name.
     pub fn name(&self, def: NamedDef) -> Result<Option<&Text>, Missing>
         ensures found { IfOk result (λ found.
             map.get self.now.names (named_code def) ≡ Some (option_copied found)) }
@@ -295,9 +297,9 @@ impl<F: Drop, S: Drop, P: Drop, V: Drop, B: Drop, M: Drop, N: Drop> TablesOf<F, 
         Ok(found.as_ref())
     }
 
-    /// The enum of the variant.
+    /// Returns the enum of the variant.
     ///
-    /// Answers `Missing::Variant` of the variant where the tables don't say of which enum it is.
+    /// Returns `Missing::Variant` of the variant where the tables don't say of which enum it is.
     pub fn variant_parent(&self, variant: EnumVariantId) -> Result<EnumId, Missing>
         ensures found { IfOk result (λ found.
             map.get self.now.variant_parents (variant ∷ []) ≡ Some found) }
@@ -309,9 +311,9 @@ impl<F: Drop, S: Drop, P: Drop, V: Drop, B: Drop, M: Drop, N: Drop> TablesOf<F, 
         Ok(*found)
     }
 
-    /// What the crate is called; None where it has no name.
+    /// Returns the name of the crate, and `None` where it has no name.
     ///
-    /// Answers `Missing::Crate` of the crate where the tables don't say whether it has a name.
+    /// Returns `Missing::Crate` of the crate where the tables don't say whether it has a name.
     pub fn crate_name(&self, id: CrateId) -> Result<Option<&Text>, Missing>
         ensures found { IfOk result (λ found.
             map.get self.now.crate_names (id ∷ []) ≡ Some (option_copied found)) }
@@ -323,9 +325,9 @@ impl<F: Drop, S: Drop, P: Drop, V: Drop, B: Drop, M: Drop, N: Drop> TablesOf<F, 
         Ok(found.as_ref())
     }
 
-    /// The signature of the function.
+    /// Returns the signature of the function.
     ///
-    /// Answers `Missing::Signature` of the function where the tables have none of it.
+    /// Returns `Missing::Signature` of the function where the tables have none of it.
     pub fn function_signature(&self, id: FunctionId) -> Result<&F, Missing>
         ensures found { IfOk result (λ found.
             option_map (λ entry. entry.0) (map.get self.now.functions (id ∷ [])) ≡ Some found.now) }
@@ -338,9 +340,9 @@ impl<F: Drop, S: Drop, P: Drop, V: Drop, B: Drop, M: Drop, N: Drop> TablesOf<F, 
         Ok(found)
     }
 
-    /// The signature of the struct.
+    /// Returns the signature of the struct.
     ///
-    /// Answers `Missing::Signature` of the struct where the tables have none of it.
+    /// Returns `Missing::Signature` of the struct where the tables have none of it.
     pub fn struct_signature(&self, id: StructId) -> Result<&S, Missing>
         ensures found { IfOk result (λ found.
             option_map (λ entry. entry.0) (map.get self.now.structs (id ∷ [])) ≡ Some found.now) }
@@ -353,9 +355,9 @@ impl<F: Drop, S: Drop, P: Drop, V: Drop, B: Drop, M: Drop, N: Drop> TablesOf<F, 
         Ok(found)
     }
 
-    /// The signature of the definition.
+    /// Returns the signature of the definition.
     ///
-    /// Answers `Missing::Signature` of the definition where the tables have none of it.
+    /// Returns `Missing::Signature` of the definition where the tables have none of it.
     pub fn plain_signature(&self, def: PlainDef) -> Result<&P, Missing>
         ensures found { IfOk result (λ found.
             option_map (λ entry. entry.0) (map.get self.now.plains (plain_code def)) ≡ Some found.now) }
@@ -368,9 +370,9 @@ impl<F: Drop, S: Drop, P: Drop, V: Drop, B: Drop, M: Drop, N: Drop> TablesOf<F, 
         Ok(found)
     }
 
-    /// The fields of the struct, the union or the variant.
+    /// Returns the fields of the struct, the union or the variant.
     ///
-    /// Answers `Missing::Fields` of the struct, the union or the variant where the tables have none of it.
+    /// Returns `Missing::Fields` of the struct, the union or the variant where the tables have none of it.
     pub fn variant_fields(&self, variant: VariantId) -> Result<&V, Missing>
         ensures found { IfOk result (λ found.
             option_map (λ entry. entry.0) (map.get self.now.fields (fields_code variant)) ≡ Some found.now) }

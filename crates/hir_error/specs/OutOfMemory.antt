@@ -1,4 +1,4 @@
--- Which errors are want of memory.
+-- Which errors say that an allocation failed.
 use Rattle.std.specs.Prelude.{◌≡◌}
 use Rattle.hir_base.specs.declared.arena.ArenaFault.TheVariants as arena
 use Rattle.hir_validate.specs.declared.fault.FinishFault.TheVariants as finish
@@ -10,7 +10,7 @@ use Rattle.hir_captures.specs.declared.fault.CapturesFault.TheVariants as captur
 use Rattle.hir_error.specs.declared.error.HirError.{HirError}
 use Rattle.hir_error.specs.declared.error.HirError.TheVariants as error
 
--- the refusal that the error is of is want of memory; a missing definition never is
+-- the refusal that the error is of is a failed allocation; a missing definition never is
 abbrev pub IsOutOfMemory : HirError → Type 0
 IsOutOfMemory (error.Arena fault) = fault ≡ arena.Memory
 IsOutOfMemory (error.Store fault) = fault ≡ finish.Memory

@@ -6,21 +6,22 @@ ghost use Rattle.hir_error.specs.OutOfMemory.{IsOutOfMemory};
 use crate::missing_text::MissingText;
 use hir_base::{ArenaFault, ExactEq};
 use hir_captures::CapturesFault;
-use hir_store_core::Missing;
 use hir_items::{BodyFault, SignatureFault};
 use hir_pretty::PrintFault;
 use hir_scope::ScopesFault;
 use hir_store::FinishFault;
+use hir_store_core::Missing;
 use std::fmt::{self, Display};
 
-/// The refusal of a call of the crates of the store, of definitions, scopes, captures and printing (not of `hir_show_io`, `hir_show_grammar` and
-/// `hir_show_run`). Its text is that of the refusal; of a definition that is missing it says what is missing, as
-/// `no signature of FunctionId(7)`.
+/// The refusal of a call of the crates of the store, of definitions, scopes, captures and printing (not of
+/// `hir_show_io`, `hir_show_grammar` and `hir_show_run`). Its text is that of the refusal; of a definition
+/// that is missing it says what is missing, as `no signature of FunctionId(7)`.
 ///
-/// A refusal that hands something back (a builder, the parts of a body, an item) drops it when it turns into this error.
+/// A refusal that gives something back (a builder, the parts of a body, an element) drops it when it turns
+/// into this error.
 #[derive(Clone, Copy, Debug, Drop, PartialEq, Eq)]
 pub enum HirError {
-    /// An item, a name, a list or an entry of a table wasn't made or added.
+    /// An element, a name, a list or an entry of a table wasn't made or added.
     Arena(ArenaFault),
     /// The builder isn't a well-formed store.
     Store(FinishFault),
@@ -61,7 +62,7 @@ impl Display for HirError {
 impl std::error::Error for HirError {}
 
 impl HirError {
-    /// Whether it is want of memory, of whichever call.
+    /// Whether it says that an allocation failed, in any call.
     pub fn is_out_of_memory(self) -> bool
         ensures { IsTrue result ↔ IsOutOfMemory self }
     {

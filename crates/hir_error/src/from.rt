@@ -7,11 +7,11 @@ ghost use Rattle.hir_error.specs.declared.error.HirError.TheVariants as error;
 use crate::HirError;
 use hir_base::ArenaFault;
 use hir_captures::CapturesFault;
-use hir_store_core::Missing;
 use hir_items::{BodyFault, RefusedBody, RefusedSignature, SignatureFault};
 use hir_pretty::PrintFault;
 use hir_scope::ScopesFault;
 use hir_store::{FinishFault, Refused};
+use hir_store_core::Missing;
 use std::alloc::{AllocError, AllocFailed};
 
 impl From<ArenaFault> for HirError {
@@ -86,7 +86,7 @@ impl From<AllocError> for HirError {
     }
 }
 
-/// The value that is handed back is dropped.
+/// The value that is given back is dropped.
 impl<T: Drop> From<AllocFailed<T>> for HirError {
     ghost from_gives = { λ _ made. made ≡ error.Arena Memory };
 
@@ -95,7 +95,7 @@ impl<T: Drop> From<AllocFailed<T>> for HirError {
     }
 }
 
-/// The item that is handed back is dropped.
+/// The element that is given back is dropped.
 impl<T: Drop> From<(ArenaFault, T)> for HirError {
     ghost from_gives = { λ refused made. made ≡ error.Arena refused.0 };
 
@@ -104,7 +104,7 @@ impl<T: Drop> From<(ArenaFault, T)> for HirError {
     }
 }
 
-/// The builder that is handed back is dropped.
+/// The builder that is given back is dropped.
 impl From<Refused> for HirError {
     ghost from_gives = { λ refused made. made ≡ error.Store refused.fault };
 
@@ -113,7 +113,7 @@ impl From<Refused> for HirError {
     }
 }
 
-/// The parts that are handed back are dropped.
+/// The parts that are given back are dropped.
 impl From<RefusedBody> for HirError {
     ghost from_gives = { λ refused made. made ≡ error.Body refused.fault };
 
@@ -122,7 +122,7 @@ impl From<RefusedBody> for HirError {
     }
 }
 
-/// The parts that are handed back are dropped.
+/// The parts that are given back are dropped.
 impl<P: Drop> From<RefusedSignature<P>> for HirError {
     ghost from_gives = { λ refused made. made ≡ error.Signature refused.fault };
 

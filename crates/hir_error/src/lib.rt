@@ -1,5 +1,5 @@
-//! One error for every refusal of the crates up to printing, so that `?` works in a function that builds a store, finishes it, makes its
-//! scopes and prints it.
+//! One error for every refusal of the crates up to printing, so that `?` works in a function that builds a
+//! store, finishes it, makes its scopes and prints it.
 #![tactic(auto)]
 
 mod error;

@@ -89,7 +89,7 @@ module _ (g : List (List ℕ)) (parents : List (Option ℕ)) (h : HasParents g p
   meets_none marked at un none (r, m, (zero, e)) = false≢true (sym un ∙ subst (Marks marked) (sym e) m)
   meets_none marked at un none (r, m, (suc k, u)) = is_top at none u.0 u.1
 
-  -- who lies properly under a marked node has a parent whose chain meets one
+  -- a descendant of a marked node has a parent whose chain contains one
   pub under_next : (marked : List Bool) (node parent : ℕ) → get_or parents node None ≡ Some parent → LiesUnderMarked g marked node ↔ MeetsMarked g marked parent
   under_next marked node parent is = (
     λ l. (l.0, l.1, (l.2.0, subst (λ (q : ℕ). Climbs g l.2.0 q l.0) (only_parent l.2.1.0 parent node l.2.1.1 (has_child node parent is)) l.2.1.2)),

@@ -1,4 +1,4 @@
--- The parts of the first fault, that one answer at most is right, and what a fault names.
+-- The parts of the first fault, that it is unique, and what a fault names.
 use Rattle.std.proofs.Common.{ℕ, ◌<◌, Option, Some, None, List, length, inl, ⊎_elim, sym, subst, All}
 use Rattle.std.specs.List.{concat}
 use Rattle.hir_forest.specs.declared.roots.Ends.{Ends}

@@ -1,4 +1,4 @@
--- No way up or down a forest is as long as there are nodes, so its heights fall; and a graph without a fault is a forest.
+-- No path up or down a forest is as long as there are nodes, so its heights decrease; and a graph without a fault is a forest.
 use Rattle.std.proofs.Common.{◌≡◌, ℕ, zero, suc, ◌+◌, ◌<◌, ◌≤◌, ◌⊎◌, false, eqb, List, [], ◌∷◌, length, get_or, map, None, inl, inr, ⊎_elim, refl, ap, sym, ◌∙◌, subst, arith, zero-add, suc-add, All, Contains}
 use Rattle.std.proofs.lemmas.Bool.{eqb-true, false_from_ne_true}
 use Rattle.std.proofs.lemmas.List.Elements.{Contains-get_or, All-contains}

@@ -1,4 +1,4 @@
--- Who lies properly under a marked node, from parent to parent, and what is noted of it.
+-- Which nodes are descendants of a marked node, from parent to parent, and what is noted of them.
 use Rattle.std.proofs.Common.{◌≡◌, ℕ, zero, suc, ◌<◌, ◌↔◌, Bool, true, false, List, Option, Some, None, length, get_or, set, replicate, inl, inr, refl, sym, ◌∙◌, subst}
 use Rattle.std.proofs.lemmas.Bool.{cases_eq, false≢true}
 use Rattle.std.proofs.lemmas.List.{get_or-set_same, get_or-set_other}
@@ -7,11 +7,11 @@ use Rattle.hir_forest.specs.Parents.{HasParents, AreKnown}
 use Rattle.hir_forest.proofs.ChainLemmas.{only_parent, has_child}
 
 module _ (g : List (List ℕ)) (parents : List (Option ℕ)) (h : HasParents g parents) (marked : List Bool) where
-  -- a node whose parent is marked lies under it
+  -- a node whose parent is marked is a descendant of it
   pub under_parent : (at parent : ℕ) → get_or parents at None ≡ Some parent → Marks marked parent → LiesUnderMarked g marked at
   under_parent at parent is m = (parent, m, (zero, (parent, has_child g parents h at parent is, refl)))
 
-  -- and where it isn't, the node lies under a marked one exactly where its parent does
+  -- a node whose parent isn't marked is a descendant of a marked one exactly if its parent is
   pub under_same : (at parent : ℕ) → get_or parents at None ≡ Some parent → get_or marked parent false ≡ false → LiesUnderMarked g marked at ↔ LiesUnderMarked g marked parent
   under_same at parent is un = (
     λ l. above l.0 l.1 l.2.0 l.2.1.0 (only_parent g parents h l.2.1.0 parent at l.2.1.1 (has_child g parents h at parent is)) l.2.1.2,

@@ -1,4 +1,4 @@
--- Verdicts that change with what they ask, and verdicts with one answer at most.
+-- Verdicts that change with their conditions, and verdicts that hold of one result alone.
 use Rattle.std.proofs.Common.{◌≡◌, ℕ, ◌<◌, ◌↔◌, Option, Some, None, inl, inr, ⊎_elim, arith, refl, ap, sym, subst, ◌∙◌}
 use Rattle.std.proofs.lemmas.Bool.{cases_order}
 use Rattle.hir_forest.specs.Verdict.{◌unless◌, ◌before◌, first_below, in_words}
@@ -24,7 +24,7 @@ pub before-second : {F : Type 0} (v w : Option F → Type 0) → v None → (a :
 before-second v w n None h = (n, h)
 before-second v w n (Some f) h = inr (n, h)
 
--- a verdict has one answer at most
+-- a verdict holds of at most one result
 abbrev pub IsOne : {F : Type 0} → (Option F → Type 0) → Type 0
 IsOne v = (a b : Option _) → v a → v b → a ≡ b
 

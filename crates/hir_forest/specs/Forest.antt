@@ -1,5 +1,6 @@
--- A graph of nodes numbered from 0, given by the list of each node's children, and when it is a forest.
--- An edge leads from a node to one of its children; edges go in order by parent, and then by place among its children.
+-- Defines when a graph of nodes numbered from 0, given by the list of each node's children, is a forest.
+-- An edge leads from a node to one of its children; edges are ordered by parent, and then by place among its
+-- children.
 use Rattle.std.specs.Prelude.{◌≡◌, ℕ, zero, suc, ◌<◌, ◌↔◌, Bool, true, false, List, [], length, take, slice_index, slice_index_or, Contains}
 use Rattle.std.specs.List.{concat}
 
@@ -20,15 +21,15 @@ IsTop g p = (q : ℕ) → IsChild g q p → ⊥
 abbrev pub ChainEnds : List (List ℕ) → ℕ → Type 0
 ChainEnds g c = (k : ℕ) × (p : ℕ) × Climbs g k c p × IsTop g p
 
--- c lies properly under r
+-- c is a descendant of r
 abbrev pub LiesUnder : List (List ℕ) → ℕ → ℕ → Type 0
 LiesUnder g c r = (k : ℕ) × Climbs g (suc k) c r
 
--- each node has one parent at most
+-- each node has at most one parent
 abbrev pub HasOneParent : List (List ℕ) → Type 0
 HasOneParent g = (p q c : ℕ) → IsChild g p c → IsChild g q c → p ≡ q
 
--- no child is twice among the children of all edges
+-- no child occurs twice among the children of all edges
 abbrev pub HasEachOnce : List (List ℕ) → Type 0
 HasEachOnce g = (e : ℕ) → e < length (concat g) → Contains (take e (concat g)) (slice_index (concat g) e) → ⊥
 
@@ -36,7 +37,7 @@ HasEachOnce g = (e : ℕ) → e < length (concat g) → Contains (take e (concat
 abbrev pub HasChildrenWithin : List (List ℕ) → Type 0
 HasChildrenWithin g = (p c : ℕ) → IsChild g p c → c < length g
 
--- each node has one parent at most and is its child once, and its chain of parents ends
+-- each node has at most one parent and is its child once, and its chain of parents ends
 pub record IsForest (g : List (List ℕ)) : Type 0 where
   pub one_parent : HasOneParent g
   pub each_once : HasEachOnce g
@@ -55,6 +56,6 @@ MarksAll table xs = (c : ℕ) → Marks table c ↔ Contains xs c
 abbrev pub MarksRoots : List Bool → ℕ → List ℕ → Type 0
 MarksRoots table limit roots = (c : ℕ) → Marks table c ↔ (Contains roots c × (c < limit))
 
--- c lies properly under a node that the table marks
+-- c is a descendant of a node that the table marks
 abbrev pub LiesUnderMarked : List (List ℕ) → List Bool → ℕ → Type 0
 LiesUnderMarked g marked c = (r : ℕ) × Marks marked r × LiesUnder g c r

@@ -1,4 +1,5 @@
--- The parents of a graph's nodes, as far as its rows have been read, and the chains of parents.
+-- Defines the parents of a graph's nodes, as far as their lists of children have been read, and the chains of
+-- parents.
 use Rattle.std.specs.Prelude.{◌≡◌, ℕ, zero, suc, ◌≤◌, ◌↔◌, Bool, List, Option, Some, None, map, length, slice_index_or}
 use Rattle.std.specs.List.{concat}
 use Rattle.hir_forest.specs.declared.parent_table.Numbers.{Numbers}
@@ -9,7 +10,7 @@ use Rattle.hir_forest.specs.Verdict.{first_below}
 use Rattle.hir_forest.specs.Forest.{IsChild, Climbs, Marks, LiesUnderMarked}
 use Rattle.hir_forest.specs.Faults.{edge_fault}
 
--- the parent that a number of the table stands for: 0 stands for none
+-- the parent that a number of the table encodes: 0 encodes none
 abbrev pub parent_of : ℕ → Option ℕ
 parent_of zero = None
 parent_of (suc p) = Some p
@@ -35,7 +36,8 @@ pub record HasParents (g : List (List ℕ)) (parents : List (Option ℕ)) : Type
   pub nodes : length parents ≡ length g
   pub children : (c p : ℕ) → HasParent parents c p ↔ IsChild g p c
 
--- so many rows of a graph, the parents of its nodes, and the child of the first edge that leads to the child of an earlier one
+-- the number of lists of children that a graph has so far, the parents of its nodes, and the child of the
+-- first edge that leads to the child of an earlier one
 pub record Parentage : Type 0 where
   pub rows : ℕ
   pub parents : List (Option ℕ)
@@ -45,7 +47,7 @@ abbrev pub shared_fault : Option ℕ → Option ForestFault
 shared_fault None = None
 shared_fault (Some child) = Some (SharedChild child)
 
--- it is that of the graph with these rows; where a child is shared, the parents say nothing
+-- t is the parentage of the graph g; if a child is shared, the parents of t are arbitrary
 pub record IsParentageOf (g : List (List ℕ)) (t : Parentage) : Type 0 where
   pub rows : t.rows ≡ length g
   pub shared : first_below (length (concat g)) (edge_fault (concat g)) (shared_fault t.shared)
@@ -59,10 +61,10 @@ IsOnChain g c r = (k : ℕ) × Climbs g k c r
 abbrev pub MeetsMarked : List (List ℕ) → List Bool → ℕ → Type 0
 MeetsMarked g marked c = (r : ℕ) × Marks marked r × IsOnChain g c r
 
--- no marked node is on the chain of a node that is clear
+-- no marked node is on the chain of a clear node
 abbrev pub AreClear : List (List ℕ) → List Bool → List Bool → Type 0
 AreClear g marked clear = (c : ℕ) → Marks clear c → MeetsMarked g marked c → ⊥
 
--- what is noted of each known node is right: whether it lies properly under a marked one
+-- the table under says of each known node whether it is a descendant of a marked one
 abbrev pub AreKnown : List (List ℕ) → List Bool → List Bool → List Bool → Type 0
 AreKnown g marked known under = (c : ℕ) → Marks known c → Marks under c ↔ LiesUnderMarked g marked c

@@ -1,5 +1,6 @@
-//! Chains of parents: whether the chain from a node ends, and whether a listed node is on it. What is found out of a chain
-//! is marked on its way, so that all nodes together take no more steps than there are nodes.
+//! Chains of parents: whether the chain from a node ends, and whether a listed node is on it. A climb marks
+//! what it finds of the nodes of a chain, so that all nodes together take no more steps than there are
+//! nodes.
 
 ghost use Rattle.std.specs.Prelude.{◌≡◌, ◌⊎◌, ℕ, ◌<◌, ◌≤◌, ◌↔◌, Bool, List, [], length, IsTrue, IsFalse};
 ghost use Rattle.hir_forest.specs.Verdict.{first_below};
@@ -10,7 +11,7 @@ ghost use Rattle.hir_forest.specs.Parents.{HasParents, IsOnChain, MeetsMarked, A
 use crate::ForestFault;
 use crate::parent_table::ParentTable;
 
-/// Whether the chain of parents from a node ends, if the chains of all marked nodes do.
+/// Returns whether the chain of parents from a node ends, if the chains of all marked nodes do.
 fn chain_ends(parents: &ParentTable, ends: &[bool], node: usize) -> bool
     requires node { node < length parents.now }
     requires nodes { length ends.now ≡ length parents.now }
@@ -31,7 +32,7 @@ fn chain_ends(parents: &ParentTable, ends: &[bool], node: usize) -> bool
     false
 }
 
-/// Marks the chain of parents from a node up to the first node that is marked already.
+/// Marks the chain of parents from a node up to the first node that is already marked.
 fn mark_chain(parents: &ParentTable, marked: &mut [bool], node: usize)
     requires node { node < length parents.now }
     requires nodes { length marked.old ≡ length parents.now }
@@ -52,7 +53,8 @@ fn mark_chain(parents: &ParentTable, marked: &mut [bool], node: usize)
 
 /// Marks each node from `from` up to `to` that has no parent or a marked one, the last node first.
 ///
-/// Most parents stand behind their children, so going from the last node down finds them marked, and few nodes are left to climb from.
+/// Most parents come after their children, so a pass from the last node down finds them marked, and few nodes
+/// are left to climb from.
 fn mark_down(parents: &ParentTable, ends: &mut [bool], from: usize, to: usize)
     requires nodes { length ends.old ≡ length parents.now }
     requires to { to ≤ length parents.now }
@@ -68,9 +70,10 @@ fn mark_down(parents: &ParentTable, ends: &mut [bool], from: usize, to: usize)
     }
 }
 
-/// The least node whose chain of parents doesn't end.
+/// Returns the least node whose chain of parents doesn't end.
 ///
-/// The nodes below `split` are marked first, since most others have a parent among them, or one behind themselves.
+/// The nodes below `split` are marked first, since most others have a parent among these, or one after
+/// themselves.
 pub(crate) fn first_cycle(
     parents: &ParentTable,
     ends: &mut [bool],
@@ -95,7 +98,8 @@ pub(crate) fn first_cycle(
     None
 }
 
-/// Whether a listed node is on the chain of parents from a node, if none is on the chains of nodes that are clear.
+/// Returns whether a listed node is on the chain of parents from a node, if none is on the chains of nodes
+/// that are clear.
 fn meets_listed(parents: &ParentTable, listed: &[bool], clear: &[bool], node: usize) -> bool
     requires node { node < length parents.now }
     requires listed { length listed.now ≡ length parents.now }
@@ -119,7 +123,7 @@ fn meets_listed(parents: &ParentTable, listed: &[bool], clear: &[bool], node: us
     false
 }
 
-/// Whether a node is properly under a listed one. If it isn't, the nodes above it become clear.
+/// Returns whether a node is a descendant of a listed one. If it isn't, its ancestors become clear.
 pub(crate) fn is_under(
     parents: &ParentTable,
     listed: &[bool],

@@ -1,5 +1,5 @@
-//! The first fault of a graph and its roots: shared children show while the parents are noted, cycles and roots by climbing from parent
-//! to parent.
+//! The first fault of a graph and its roots: shared children are found while the parents are noted, cycles
+//! and faults of roots by climbing from parent to parent.
 
 ghost use Rattle.std.specs.Prelude.{◌≡◌, ℕ, ◌<◌, ◌≤◌, List, [], length, IfNone, IfOk};
 ghost use Rattle.hir_forest.specs.Verdict.{◌before◌, first_below};
@@ -13,7 +13,7 @@ use crate::parents::Parents;
 use crate::{Ends, ForestFault, Root};
 use std::alloc::{AllocError, Global};
 
-/// Marks each root that may be one.
+/// Marks each listed root that is in range.
 fn mark_roots(limit: u32, roots: &[Root], marked: &mut [bool])
     requires within { limit ≤ length marked.old }
     requires unmarked { MarksAll marked.old [] }
@@ -26,7 +26,7 @@ fn mark_roots(limit: u32, roots: &[Root], marked: &mut [bool])
     }
 }
 
-/// The first fault of a root in a forest whose listed roots are known.
+/// Returns the first fault of a root in a forest whose listed roots are known.
 fn first_root_fault(
     lengths: Ends,
     roots: &[Root],
@@ -72,7 +72,8 @@ fn first_root_fault(
     None
 }
 
-/// The fault of a root that is listed alone: in a forest it is neither repeated nor under another one, so no tables are needed.
+/// Returns the fault of a root that is listed alone: in a forest it is neither repeated nor a descendant of
+/// another root, so no tables are needed.
 fn lone_root_fault(lengths: Ends, roots: &[Root]) -> Option<ForestFault>
     requires { length roots.now < 2 }
     ensures { (g : List (List ℕ)) → ((n : ℕ) → n < lengths.exprs → LiesUnder g n n → ⊥)
@@ -96,7 +97,7 @@ fn lone_root_fault(lengths: Ends, roots: &[Root]) -> Option<ForestFault>
     None
 }
 
-/// The first cycle, or else the first fault of a root, where no child is shared.
+/// Returns the first cycle, or else the first fault of a root, where no child is shared.
 fn first_chain_fault(
     alloc: Global,
     parents: &ParentTable,
@@ -117,7 +118,7 @@ fn first_chain_fault(
     if roots.len() < 2 {
         return Ok(lone_root_fault(lengths, roots));
     }
-    // The roots' marks take the room of the chains'.
+    // The marks of roots take the memory of the marks of chains.
     marks.fill(false);
     mark_roots(lengths.exprs, roots, &mut marks);
     let mut seen = vec![in alloc; false; lengths.exprs as usize]?;
@@ -126,13 +127,16 @@ fn first_chain_fault(
 }
 
 impl Parents {
-    /// The first fault of the graph and its roots, or `None` if the graph is a forest and the roots are right. Each node must have its row.
+    /// Returns the first fault of the graph and its roots, or `None` if the graph is a forest and the roots
+    /// have no fault. Each node must have its list of children.
     ///
-    /// A fault's number is that of a node, or the index of a root. Where there is none, these are the parents of the nodes of a forest.
-    /// `lengths` has the lengths of the three arenas; nodes below `lengths.exprs` may be roots, so there are at least as many nodes.
+    /// The number of a fault is that of a node, or the index of a root. If there is none, these are the
+    /// parents of the nodes of a forest.
+    /// `lengths` has the lengths of the three arenas; nodes below `lengths.exprs` may be roots, so there are
+    /// at least as many nodes.
     ///
-    /// It takes time linear in nodes and roots, and tables with three marks for each node, or with one where fewer than two roots are
-    /// listed. `AllocError` only if memory for these is refused.
+    /// It takes time linear in nodes and roots, and tables with three marks for each node, or with one if
+    /// fewer than two roots are listed. It returns `AllocError` only if their allocation fails.
     pub fn first_fault(
         &self,
         alloc: Global,

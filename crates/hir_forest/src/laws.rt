@@ -1,5 +1,5 @@
-//! What is true of every graph, its faults and its roots, as contracts of functions that do nothing.
-//! A crate above cites a law by its definition's name and needs nothing of its proof.
+//! Theorems of every graph, its faults and its roots, as contracts of functions with empty bodies.
+//! A crate above cites a theorem by its function and needs nothing of its proof.
 
 ghost use Rattle.std.specs.Prelude.{◌≡◌, ℕ, ◌<◌, ◌≤◌, List, [], ◌∷◌, ◌++◌, Option, None, Some, All, length};
 ghost use Rattle.std.specs.Bool.{Decides};
@@ -18,7 +18,7 @@ pub fn roots_are_compared_by_all_fields()
     ensures faults { (x y : ForestFault) → Decides (⟦<ForestFault as PartialEq>⟧.eq x y) (x ≡ y) }
 {}
 
-/// A graph with its roots has one first fault at most.
+/// The first fault of a graph with its roots is unique.
 pub fn fault_unique()
     ensures { (g : List (List ℕ)) (lengths : Ends) (roots : List Root) (a b : Option ForestFault)
         → forest_fault g lengths roots a → forest_fault g lengths roots b → a ≡ b }
@@ -31,30 +31,31 @@ pub fn fault_is_within()
         → IsWithin (length g) (length roots) fault }
 {}
 
-/// A graph without a fault is a forest: each node has one parent at most and is its child once,
-/// and each chain of parents ends.
+/// A graph without a fault is a forest: each node has at most one parent and is its child once, and each
+/// chain of parents ends.
 pub fn faultless_is_forest()
     ensures { (g : List (List ℕ)) (lengths : Ends) (roots : List Root)
         → All (λ c. c < length g) (concat g) → forest_fault g lengths roots None → IsForest g }
 {}
 
-/// In a forest the height falls from each node to its children.
+/// In a forest the height decreases from each node to its children.
 pub fn children_are_lower()
     ensures { (g : List (List ℕ)) → IsForest g → (p c : ℕ) → IsChild g p c → height g c < height g p }
 {}
 
-/// No node is higher than there are nodes.
+/// The height of a node is at most the number of nodes.
 pub fn heights_are_bounded()
     ensures { (g : List (List ℕ)) (n : ℕ) → height g n ≤ length g }
 {}
 
-/// In a forest no way up has as many steps as there are nodes.
+/// In a forest the number of steps from a node to an ancestor is less than the number of nodes.
 pub fn ways_are_short()
     ensures { (g : List (List ℕ)) → IsForest g
         → (k c p : ℕ) → c < length g → Climbs g k c p → k < length g }
 {}
 
-/// Adding children to the last row in parts is adding them at once, a new row takes them all, and no row is added.
+/// Children that are added to the last list in parts are added as if at once. Children that are added to a
+/// new list are that list. The number of lists stays.
 pub fn child_rows_add_up()
     ensures more { (rows : List (List ℕ)) (some more : List ℕ)
         → with_children (with_children rows some) more ≡ with_children rows (some ++ more) }

@@ -1,6 +1,6 @@
-//! The parents of a graph of numbered nodes, noted edge by edge; the first fault of the graph and its roots, in time linear in nodes,
-//! edges and roots and without recursion; the laws of a graph that has none, a forest; and the table of what lies under marked nodes.
-//! It knows nothing of what the nodes are.
+//! The parents of a graph of numbered nodes, noted edge by edge; the first fault of the graph and its roots,
+//! in time linear in nodes, edges and roots and without recursion; the theorems of a graph that has none, a
+//! forest; and the table of the descendants of marked nodes. It knows nothing of what the nodes are.
 #![tactic(auto)]
 
 mod chains;

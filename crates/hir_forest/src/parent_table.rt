@@ -1,4 +1,4 @@
-//! The parent of each node of a graph, in 32 bits a node where there are few enough of them.
+//! The parent of each node of a graph, in 32 bits a node if there are at most `u32::MAX` nodes.
 
 ghost use Rattle.std.specs.Prelude.{◌≡◌, ◌<◌, [], None, Some, length, replicate, IfOk, IfSome, slice_index_or, set};
 ghost use Rattle.hir_forest.specs.Parents.{parent_of};
@@ -6,14 +6,14 @@ ghost use Rattle.hir_forest.specs.Parents.{parent_of};
 use std::alloc::{AllocError, Global};
 use std::marker::Model;
 
-/// A number for each node: 0 where it has no parent, else one more than its parent.
+/// A number for each node: 0 if it has no parent, else one more than the number of its parent.
 #[derive(Drop, Clone)]
 enum Numbers {
     Narrow(Vec<u32>),
     Wide(Vec<usize>),
 }
 
-/// The parent of each node that has one. It is seen as the list of the nodes' parents.
+/// The parent of each node that has one. It is modelled as the list of the nodes' parents.
 #[derive(Drop)]
 pub(crate) struct ParentTable {
     numbers: Numbers,
@@ -31,7 +31,7 @@ impl Model for ParentTable {
 }
 
 impl ParentTable {
-    /// So many nodes, none of which has a parent.
+    /// Returns the table of the given number of nodes, none of which has a parent.
     pub(crate) fn new(alloc: Global, nodes: usize) -> Result<ParentTable, AllocError>
         ensures { IfOk result (λ table. table ≡ replicate nodes None) }
     {
@@ -45,7 +45,7 @@ impl ParentTable {
         })
     }
 
-    /// The table of no nodes. It takes no memory.
+    /// Returns the table of no nodes. It takes no memory.
     pub(crate) fn empty(alloc: Global) -> ParentTable
         ensures { result ≡ [] }
     {
@@ -54,7 +54,7 @@ impl ParentTable {
         }
     }
 
-    /// The number of nodes.
+    /// Returns the number of nodes.
     pub(crate) fn len(&self) -> usize
         ensures { result ≡ length self.now }
     {
@@ -64,7 +64,7 @@ impl ParentTable {
         }
     }
 
-    /// The parent of a node.
+    /// Returns the parent of a node.
     pub(crate) fn parent(&self, node: usize) -> Option<usize>
         requires { node < length self.now }
         ensures parent { result ≡ slice_index_or self.now node None }
@@ -99,7 +99,7 @@ impl Clone for ParentTable {
     }
 }
 
-/// The node that a number of the table stands for.
+/// Returns the node that a number of the table stands for.
 fn node_of(number: usize) -> Option<usize>
     ensures { result ≡ parent_of number }
 {

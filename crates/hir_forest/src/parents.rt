@@ -1,7 +1,8 @@
-//! The parents of a graph's nodes, noted edge by edge: the first child that is shared shows at once, and no children are kept.
-//! Rows are begun one after the other, and children added to the last.
+//! The parents of a graph's nodes, noted edge by edge: the first child that is shared is found at once, and
+//! no list of children is kept.
+//! The lists of the nodes' children are begun one after the other, and children are added to the last list.
 
-ghost use Rattle.std.specs.Prelude.{◌≡◌, ℕ, ◌+◌, ◌<◌, ◌^◌, ◌↔◌, List, [], ◌∷◌, ◌++◌, None, length, IfOk, IsTrue};
+ghost use Rattle.std.specs.Prelude.{◌≡◌, ℕ, ◌+◌, ◌<◌, ◌^◌, ◌↔◌, List, [], ◌∷◌, ◌++◌, None, length, IfOk, IsTrue, slice_index_or};
 ghost use Rattle.hir_forest.specs.Rows.{with_children};
 ghost use Rattle.hir_forest.specs.Forest.{Marks};
 ghost use Rattle.hir_forest.specs.Parents.{HasParent, IsParentageOf};
@@ -10,8 +11,8 @@ use crate::parent_table::ParentTable;
 use std::alloc::{AllocError, Global};
 use std::marker::Model;
 
-/// The parents of a graph's nodes, as far as its rows have been read, and the first child that is shared. A node costs 4 bytes,
-/// or 8 where there are more than `u32::MAX` nodes.
+/// The parents of a graph's nodes, as far as their lists of children have been read, and the first child that
+/// is shared. A node takes 4 bytes, or 8 if there are more than `u32::MAX` nodes.
 #[derive(Drop)]
 pub struct Parents {
     pub(crate) table: ParentTable,
@@ -31,9 +32,9 @@ impl Model for Parents {
 }
 
 impl Parents {
-    /// The parents of so many nodes, before the first row.
+    /// Returns the parents of the given number of nodes, before the first list of children.
     ///
-    /// `AllocError` only if memory for the table is refused.
+    /// Returns `AllocError` only if the allocation of the table fails.
     pub fn new(alloc: Global, nodes: usize) -> Result<Parents, AllocError>
         ensures none { IfOk result (λ parents. IsParentageOf [] parents) }
         ensures room { IfOk result (λ parents. length parents.parents ≡ nodes) }
@@ -41,7 +42,7 @@ impl Parents {
         Ok(Parents::of(ParentTable::new(alloc, nodes)?))
     }
 
-    /// The parents of no nodes. It takes no memory.
+    /// Returns the parents of no nodes. It takes no memory.
     pub fn none(alloc: Global) -> Parents
         ensures none { IsParentageOf [] result }
         ensures room { result.parents ≡ [] }
@@ -49,7 +50,7 @@ impl Parents {
         Parents::of(ParentTable::empty(alloc))
     }
 
-    /// These parents, before the first row.
+    /// Returns these parents, before the first list of children.
     fn of(table: ParentTable) -> Parents
         requires { length table < 2 ^ 64 }
         ensures { result ≡ record { rows = 0; parents = table; shared = None } }
@@ -61,7 +62,7 @@ impl Parents {
         }
     }
 
-    /// Begins the row of the next node, which must be one of those that there is room for.
+    /// Begins the list of children of the next node, which must be one of the nodes that there is room for.
     pub fn begin_row(&mut self)
         requires { self.old.rows < length self.old.parents }
         ensures noted { (g : List (List ℕ)) → IsParentageOf g self.old
@@ -72,7 +73,8 @@ impl Parents {
         self.rows += 1;
     }
 
-    /// Adds a child at the end of the last row. There must be a row, and the child must be one of the nodes.
+    /// Adds a child at the end of the last list. There must be a list, and the child must be one of the
+    /// nodes.
     pub fn push_child(&mut self, child: usize)
         requires some { 0 < self.old.rows }
         requires within { child < length self.old.parents }
@@ -88,7 +90,18 @@ impl Parents {
         self.table.set_parent(child, self.rows - 1);
     }
 
-    /// Whether no marked node has a parent. There must be a mark for each node.
+    /// Returns the parent of a node, which must be one of those that there is room for: `None` if no list so
+    /// far has the node.
+    ///
+    /// If `first_fault` found none, it is the node whose child this one is, by `HasParents`.
+    pub fn parent(&self, node: usize) -> Option<usize>
+        requires { node < length self.now.parents }
+        ensures { result ≡ slice_index_or self.now.parents node None }
+    {
+        self.table.parent(node)
+    }
+
+    /// Returns whether no marked node has a parent. There must be a mark for each node.
     pub fn marked_have_none(&self, marks: &[bool]) -> bool
         requires { length marks.now ≡ length self.now.parents }
         ensures { IsTrue result ↔ ((c p : ℕ) → Marks marks.now c → HasParent self.now.parents c p → ⊥) }

@@ -1,4 +1,5 @@
-//! Roots, with the lengths of the arenas at the time when each was listed, and the faults of a graph and its roots.
+//! Roots, with the lengths of the arenas at the time when each was listed, and the faults of a graph and its
+//! roots.
 //! Nodes are numbered from 0; those below a given limit, the number of expressions, may be roots.
 
 ghost use Rattle.std.specs.Prelude.{◌↔◌, IsTrue};
@@ -13,7 +14,8 @@ pub struct Ends {
 }
 
 impl Ends {
-    /// Whether each of the three ends is at least the end in `earlier` and at most that in `lengths`.
+    /// Returns whether each of the three ends is at least the end in `earlier` and at most that in
+    /// `lengths`.
     pub fn fit(self, earlier: Ends, lengths: Ends) -> bool
         ensures { IsTrue result ↔ EndsFit lengths earlier self }
     {
@@ -33,22 +35,25 @@ pub struct Root {
     pub ends: Ends,
 }
 
-/// What can be wrong with a graph and its roots, in the order in which `first_fault` looks for faults. Of the roots it takes
-/// the first in the list that has a fault, and then that root's first fault in this order.
+/// What can be wrong with a graph and its roots, in the order in which `first_fault` looks for faults. Of
+/// the roots it takes the first in the list that has a fault, and then that root's first fault in this
+/// order.
 ///
 /// `SharedChild` and `Cycle` have the number of a node, the others the index of a root in the list.
 #[derive(Clone, Copy, PartialEq, Eq, Drop)]
 pub enum ForestFault {
-    /// The node is the child of two edges; it is the child of the first edge whose child is one of an earlier edge.
+    /// The node is the child of two edges; it is the child of the first edge whose child is one of an
+    /// earlier edge.
     SharedChild(usize),
-    /// No number of steps to a parent leads from the node to one without a parent; it is the least such node.
-    /// It is on a cycle or hangs on one.
+    /// No number of steps to a parent leads from the node to one without a parent; it is the least such
+    /// node.
+    /// It is on a cycle, or a descendant of a node on one.
     Cycle(usize),
     /// The root's number is not below the number of expressions.
     RootOutOfRange(usize),
-    /// The root is listed already.
+    /// The root is listed earlier.
     RootRepeated(usize),
-    /// The root lies properly under a listed root, earlier or later.
+    /// The root is a descendant of a listed root, earlier or later.
     RootUnderRoot(usize),
     /// An end of the root is past its arena, or less than that of the root before.
     RootEnds(usize),

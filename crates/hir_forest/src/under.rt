@@ -1,5 +1,6 @@
-//! Which nodes of a forest lie properly under a marked one, found by going from parent to parent. What is found out of a chain of
-//! parents is noted on its way, so that all nodes together take no more steps than twice as many as there are nodes.
+//! Which nodes of a forest are descendants of a marked one, found by going from parent to parent. A climb
+//! notes what it finds of the nodes of a chain of parents, so that all nodes together take at most twice as
+//! many steps as there are nodes.
 
 ghost use Rattle.std.specs.Prelude.{◌≡◌, ℕ, ◌<◌, ◌↔◌, List, [], length, IfOk, IsTrue};
 ghost use Rattle.hir_forest.specs.Forest.{ChainEnds, Marks, MarksAll, LiesUnderMarked};
@@ -9,7 +10,7 @@ use crate::parent_table::ParentTable;
 use crate::parents::Parents;
 use std::alloc::{AllocError, Global};
 
-/// Whether a node lies properly under a marked one, by what is noted of the known nodes.
+/// Returns whether a node is a descendant of a marked one, by what is noted of the known nodes.
 fn is_under_marked(
     parents: &ParentTable,
     marked: &[bool],
@@ -43,8 +44,8 @@ fn is_under_marked(
     false
 }
 
-/// Notes of a node whether it lies properly under a marked one, and the same of the nodes above it, up to the first that is marked or
-/// known.
+/// Notes of a node and of its ancestors, up to the first that is marked or known, whether each is a
+/// descendant of a marked one.
 fn note_chain(
     parents: &ParentTable,
     marked: &[bool],
@@ -79,7 +80,7 @@ fn note_chain(
     }
 }
 
-/// Notes of each node whether it lies properly under a marked one, where nothing is known before.
+/// Notes of each node whether it is a descendant of a marked one, if nothing is known before.
 fn note_all(parents: &ParentTable, marked: &[bool], known: &mut [bool], under: &mut [bool])
     requires marked { length marked.now ≡ length parents.now }
     requires known { length known.old ≡ length parents.now }
@@ -98,10 +99,11 @@ fn note_all(parents: &ParentTable, marked: &[bool], known: &mut [bool], under: &
 }
 
 impl Parents {
-    /// Which nodes of a forest lie properly under a marked node, as a table by number. There must be a mark for each node. A marked
-    /// node is under none unless it lies under another one.
+    /// Returns which nodes of a forest are descendants of a marked node, as a table by number. There must be
+    /// a mark for each node. A marked node is one only if it is a descendant of another marked node.
     ///
-    /// It takes time linear in nodes, and two tables with a mark for each. `AllocError` only if memory for these is refused.
+    /// It takes time linear in nodes, and two tables with a mark for each. It returns `AllocError` only if
+    /// their allocation fails.
     pub fn under_marked(&self, alloc: Global, marked: &[bool]) -> Result<Vec<bool>, AllocError>
         requires { length marked.now ≡ length self.now.parents }
         ensures length { IfOk result (λ under. length under.items ≡ length self.now.parents) }

@@ -1,2 +1,4 @@
+-- the parts of a generic parameter
 pub mod Params
+-- proofs alone, of equality
 pub mod same

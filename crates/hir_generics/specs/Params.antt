@@ -1,5 +1,5 @@
--- What a generic parameter has: its name, its default, the parameter of its kind, whether it is the Self of a trait,
--- and how it is bound.
+-- Defines the parts of a generic parameter: its name, its default, the parameter of its kind, whether it is
+-- the Self of a trait, and how it is bound.
 use Rattle.std.specs.Prelude.{ℕ, List, Bool, true, false, Option, Some, None}
 use Rattle.std.specs.Option.{is_some}
 use Rattle.hir_generics.specs.declared.data.TypeParamData.{TypeParamData}

@@ -29,7 +29,7 @@ impl TryClone for TypeParamProvenance {
 pub struct TypeParamData {
     /// Its name. An `impl Trait` in argument position has none.
     pub name: Option<Name>,
-    /// What it is if no argument is given.
+    /// The default, which is taken if no argument is given.
     pub default: Option<TypeRefId>,
     pub provenance: TypeParamProvenance,
 }
@@ -71,7 +71,7 @@ pub struct LifetimeParamData {
 impl LifetimeParamData {
     ghost use Rattle.hir_generics.specs.Params.{is_bound};
 
-    /// Whether it is late bound.
+    /// Returns whether it is late bound.
     pub fn is_late_bound(&self) -> bool
         ensures { result ≡ is_bound LifetimeBoundType.LateBound self.now }
     {
@@ -81,7 +81,7 @@ impl LifetimeParamData {
         }
     }
 
-    /// Whether it is early bound.
+    /// Returns whether it is early bound.
     pub fn is_early_bound(&self) -> bool
         ensures { result ≡ is_bound LifetimeBoundType.EarlyBound self.now }
     {
@@ -106,7 +106,7 @@ pub struct ConstParamData {
     pub name: Name,
     /// The type of the constant.
     pub ty: TypeRefId,
-    /// What it is if no argument is given.
+    /// The default, which is taken if no argument is given.
     pub default: Option<ConstRef>,
 }
 

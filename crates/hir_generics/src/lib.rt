@@ -1,4 +1,5 @@
-//! Generic parameters and the predicates of `where` clauses: the data that a definition's generic parameters are made of.
+//! Generic parameters and the predicates of `where` clauses: the data that a definition's generic parameters
+//! are made of.
 //! A parameter names types, constants and lifetimes of its definition's store by their ids alone.
 #![tactic(auto)]
 

@@ -26,7 +26,7 @@ impl TypeOrConstParamData {
         }
     }
 
-    /// Whether it has a default.
+    /// Returns whether it has a default.
     pub fn has_default(&self) -> bool
         ensures { result ≡ has_default self.now }
     {
@@ -36,7 +36,7 @@ impl TypeOrConstParamData {
         }
     }
 
-    /// The type parameter, if it is one.
+    /// Returns the type parameter, if it is one.
     pub fn type_param(&self) -> Option<&TypeParamData>
         ensures { option_copied result ≡ type_of self.now }
     {
@@ -46,7 +46,7 @@ impl TypeOrConstParamData {
         }
     }
 
-    /// The constant parameter, if it is one.
+    /// Returns the constant parameter, if it is one.
     pub fn const_param(&self) -> Option<&ConstParamData>
         ensures { option_copied result ≡ const_of self.now }
     {
@@ -56,7 +56,7 @@ impl TypeOrConstParamData {
         }
     }
 
-    /// Whether it is the `Self` of a trait.
+    /// Returns whether it is the `Self` of a trait.
     pub fn is_trait_self(&self) -> bool
         ensures { result ≡ is_trait_self self.now }
     {
@@ -126,7 +126,7 @@ impl GenericParamData {
         }
     }
 
-    /// The type parameter, if it is one.
+    /// Returns the type parameter, if it is one.
     pub fn type_param(&self) -> Option<&TypeParamData>
         ensures { option_copied result ≡ any_type_of self.now }
     {
@@ -136,7 +136,7 @@ impl GenericParamData {
         }
     }
 
-    /// The constant parameter, if it is one.
+    /// Returns the constant parameter, if it is one.
     pub fn const_param(&self) -> Option<&ConstParamData>
         ensures { option_copied result ≡ any_const_of self.now }
     {
@@ -146,7 +146,7 @@ impl GenericParamData {
         }
     }
 
-    /// The lifetime parameter, if it is one.
+    /// Returns the lifetime parameter, if it is one.
     pub fn lifetime_param(&self) -> Option<&LifetimeParamData>
         ensures { option_copied result ≡ any_lifetime_of self.now }
     {

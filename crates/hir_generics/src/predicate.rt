@@ -8,14 +8,14 @@ use hir_path::{LifetimeRefId, TypeBound, TypeRefId};
 /// One predicate of a `where` clause. `where T: Foo + Bar` has two.
 #[derive(Drop, Clone, PartialEq, Eq, Hash)]
 pub enum WherePredicate {
-    /// A type meets a bound.
+    /// A type has to fulfil a bound.
     TypeBound {
-        /// The lifetimes of a `for<..>` before it, if there is one.
+        /// The lifetimes of a `for<..>` before the type, if there is one.
         lifetimes: Option<Seq<Name>>,
         target: TypeRefId,
         bound: TypeBound,
     },
-    /// A lifetime outlives another.
+    /// A lifetime has to outlive another.
     Lifetime {
         target: LifetimeRefId,
         bound: LifetimeRefId,

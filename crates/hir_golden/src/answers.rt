@@ -6,7 +6,8 @@ use crate::rows::Row;
 use hir_text::{Answers, Entry, TextFault, answer};
 use std::alloc::{AllocError, Global};
 
-/// A line that makes or asks something, and the answer lines that stand behind it. The title is asked nothing.
+/// A line that makes or asks something, and the answer lines that stand behind it. The title is asked
+/// nothing.
 #[derive(Drop)]
 struct Question<'a> {
     index: usize,
@@ -24,7 +25,8 @@ fn is_read(line: &str) -> bool {
     !line.is_empty() && !line.starts_with('#') && !is_of_answer(line)
 }
 
-/// How many lines of a row are compared: those before a bad line, and where memory ran out, those that were answered.
+/// How many lines of a row are compared: those before a bad line, and where memory ran out, those that were
+/// answered.
 fn compared_lines(outcome: Result<(), TextFault>, entries: &[Entry]) -> usize {
     match outcome {
         Ok(()) => usize::MAX,

@@ -1,4 +1,5 @@
-//! The files of rows that the arguments name: each is read and compared, and the report is written behind each.
+//! The files of rows that the arguments name: each is read and compared, and the report is written behind
+//! each.
 
 use crate::halt::Halt;
 use crate::report::Report;
@@ -81,9 +82,9 @@ fn compare_named<R: Files + Env + Print + AllocGlobal>(
     write(rt, report)
 }
 
-/// Compares the rows of all files that the arguments name, and answers the exit status: 0 where nothing differs, 1 where a row
-/// differs or a file has no rows to compare, 3 where the arguments can't be read or the report can't be written, and 4 where
-/// memory ran out and nothing before differs.
+/// Compares the rows of all files that the arguments name, and answers the exit status: 0 where nothing
+/// differs, 1 where a row differs or a file has no rows to compare, 3 where the arguments can't be read or
+/// the report can't be written, and 4 where memory ran out and nothing before differs.
 pub(crate) fn compare_all<R: Files + Env + Print + AllocGlobal>(rt: &R) -> u8 {
     let mut report = Report::new(rt.alloc());
     let outcome = compare_named(rt, &mut report);

@@ -1,5 +1,5 @@
-//! Lines of a file that stand for more: `* N LINE` for N lines, `+ N TEXT` for N texts at the end of the line before. In both `@K` is the
-//! number K and how many came before.
+//! Lines of a file that stand for more: `* N LINE` for N lines, `+ N TEXT` for N texts at the end of the line
+//! before. In both `@K` is the number K and how many came before.
 
 use std::alloc::AllocError;
 

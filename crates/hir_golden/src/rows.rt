@@ -70,7 +70,8 @@ fn compare_row(alloc: Global, row: &Row<'_>, report: &mut Report) -> Result<(), 
     }
 }
 
-/// Compares the rows of a file with this text. A row begins at a line that begins with `#` behind one that doesn't.
+/// Compares the rows of a file with this text. A row begins at a line that begins with `#` behind one that
+/// doesn't.
 pub(crate) fn compare_rows(
     alloc: Global,
     file: &str,

@@ -22,11 +22,11 @@ use Rattle.hir_items.specs.declared.body_fault.BodyFault.TheVariants.{NoRoot, Se
 use Rattle.hir_items.specs.Bodies.{BodyContents, formals_of, user_written_of, last_root, entry_nodes_of, entry_nodes, AreBelow, range_fault, repeated_fault, under_fault, fault_at_root, apart_fault, body_fault, GainsAll}
 use Rattle.hir_items.proofs.BodyLemmas.{pat_of_node, node_of_pat}
 
--- where a node lies under two nodes, one of the two lies under the other
+-- where a node is a descendant of two nodes, one of the two is a descendant of the other
 abbrev pub OneIsUnderOther : Nodes → Type 0
 OneIsUnderOther s = (n a b : NodeId) → Has s a → Has s b → Under s n a → Under s n b → Under s a b ⊎ Under s b a
 
--- the last root is an expression that is there
+-- the last root is an expression that exists
 pub root_in_range : (c : Contents) → RootsStandApart (rooted_of c) → (root : ℕ) → last_root c ≡ Some root → root < length c.nodes.exprs
 root_in_range c stand root e =
     let xs = root_nodes c.roots in
@@ -34,7 +34,7 @@ root_in_range c stand root e =
     let h = slice_get_within xs i root e in
     subst (λ (n : ℕ). n < length c.nodes.exprs) (get_or_from_slice_get xs i root 0 e) (stand.in_range i (omega (arith, length-map c.roots (λ r. r.node))))
 
--- each formal is there
+-- each formal exists
 pub all_in_range : (limit : ℕ) (params : List (Param ℕ)) → ((i : ℕ) → i < length params → range_fault limit params i None) → All (λ p. p.formal < limit) params
 all_in_range limit params none = λ i d h. subst (λ (n : ℕ). n < limit) (get_or-map (λ p. p.formal) params i d 0 h) (none i h).0
 
@@ -80,7 +80,7 @@ module _ (s : Nodes) (params : List (Param ℕ)) (root : ℕ) (old mid new : Mar
         λ m. more.1 (⊎_elim (λ f. inl (before.1 (inr f))) (λ e. inr (sym e)) (Contains-push_cases fs (node.Expr root) n m)),
       )
 
-  -- where no child is in the set, none of these lies under another
+  -- where no child is in the set, none of these is a descendant of another
   module _ (falls : RankDecreases s) (apart : NoChildIn s new) where
     pub none_under : All (λ p. p.formal < length s.pats) params → first_below (length params) (under_fault (LiesUnderOther s (Contains (entry_nodes_of params root))) (formals_of params)) None
     none_under in_range = λ i h l.
@@ -196,7 +196,7 @@ module _ (c : Contents) (params : List (Param ℕ)) (root : ℕ) (in_range : All
     unfolding apart_fault
     parts = (none.0, none.1.0, none.1.1)
 
-    -- none lies under another
+    -- none is a descendant of another
     lone : (x : NodeId) → Contains (entry_nodes_of params root) x → LiesUnderOther c.nodes (Contains (entry_nodes_of params root)) x → ⊥
     lone x m l =
         ⊎_elim
@@ -257,7 +257,7 @@ module _ (b : BodyContents) (stand : RootsStandApart (rooted_of b.store)) (none 
       let at = fault_is_at_root b none in
       rw at.1 (apart b.store b.params at.0 (all_in_range (length b.store.nodes.pats) b.params at.2.1.0) (root_in_range b.store stand at.0 at.1) at.2.1.1 under_two)
 
--- what a body without a fault names is there; `now` is the body as a caller sees it
+-- what a body without a fault names exists; `now` is the body as a caller sees it
 module _ (b : BodyContents) (none : body_fault b None) (now : BodyContents) (same : b ≡ now) where
   pub params_in_range : (params : List (Param ℕ)) → params ≡ b.params → All (AreBelow (length now.store.nodes.pats)) params
   params_in_range params e =

@@ -33,7 +33,7 @@ pub no_fault : (a b : Bool) → a ≡ true → b ≡ true → ids_fault a b None
 unfolding ids_fault
 no_fault a b e f = (e, f)
 
--- without a fault all ids are there, and what is named as a path is one
+-- without a fault all ids exist, and what is named as a path is one
 faultless : (a b : Bool) → ids_fault a b None → (a ≡ true) × (b ≡ true)
 unfolding ids_fault
 faultless a b none = none
@@ -82,7 +82,7 @@ generics_fit s g in_range paths =
       λ i d h. predicate_fits s _ (predicates i d h) (named i d h),
     )
 
--- what a signature without a fault names is there; `now` is the signature as a caller sees it
+-- what a signature without a fault names exists; `now` is the signature as a caller sees it
 module _ (p : FunctionParts) (none : function_fault p None) (now : FunctionParts) (same : p ≡ now) where
   lists : (generics_in_range p.store.nodes p.generic_params ≡ true) × (types_in_range p.store.nodes p.params ≡ true)
   lists = both _ _ (both _ _ (faultless _ _ none).0).0

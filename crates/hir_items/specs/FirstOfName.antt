@@ -1,4 +1,4 @@
--- What it means to be the first type, constant or lifetime of a name.
+-- The first type, constant or lifetime of a name.
 use Rattle.std.specs.Prelude.{◌≡◌, ℕ, List, ◌∷◌, ◌++◌, length, Option, Some}
 use Rattle.std.specs.List.{All}
 use Rattle.std.specs.Option.{MatchOption}
@@ -6,7 +6,7 @@ use Rattle.hir_generics.specs.declared.data.LifetimeParamData.{LifetimeParamData
 use Rattle.hir_generics.specs.declared.param.TypeOrConstParamData.{TypeOrConstParamData}
 use Rattle.hir_generics.specs.declared.param.TypeOrConstParamData.TheVariants.{TypeParamData, ConstParamData}
 
--- some members for which P doesn't hold, and after them, in the place at, one for which it does
+-- some members for which P doesn't hold, and after them, at the index `at`, one for which it does
 pub record FirstAt {X : Type 0} (P : X → Type 0) (xs : List X) (at : ℕ) : Type 0 where
   pub before : List X
   pub member : X
@@ -16,7 +16,7 @@ pub record FirstAt {X : Type 0} (P : X → Type 0) (xs : List X) (at : ℕ) : Ty
   pub none_before : All (λ x. P x → ⊥) before
   pub holds : P member
 
--- the place of the first member for which P holds, or none where it holds for no member
+-- the index of the first member for which P holds, or none where it holds for no member
 abbrev pub IsFirst : {X : Type 0} → (X → Type 0) → List X → Option ℕ → Type 0
 IsFirst P xs r = MatchOption r (All (λ x. P x → ⊥) xs) (FirstAt P xs)
 

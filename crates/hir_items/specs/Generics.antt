@@ -1,4 +1,4 @@
--- The generic parameters of a definition, as lists; the first of a name, and the index of a lifetime.
+-- The model of generic parameters, as lists; the first of a name, and the index of a lifetime.
 use Rattle.std.specs.Prelude.{ℕ, nat_eq, List, [], ◌∷◌, length, take, slice_get, Bool, false, cond, Option, Some, None}
 use Rattle.std.specs.List.{filter, enumerate_from, position}
 use Rattle.std.specs.Option.{option_map}
@@ -20,7 +20,7 @@ pub record Generics : Type 0 where
   pub lifetimes : List LifetimeParamData
   pub predicates : List WherePredicate
 
--- the parameters of these
+-- the model of these lists
 abbrev pub generics_of : List TypeOrConstParamData → List LifetimeParamData → List WherePredicate → Generics
 generics_of type_or_consts lifetimes predicates =
     record { type_or_consts = type_or_consts; lifetimes = lifetimes; predicates = predicates }
@@ -28,11 +28,11 @@ generics_of type_or_consts lifetimes predicates =
 abbrev pub empty : Generics
 empty = record { type_or_consts = []; lifetimes = []; predicates = [] }
 
--- how many lifetimes are bound in this way
+-- the number of lifetimes that are bound in this way
 abbrev pub count_bound : LifetimeBoundType → List LifetimeParamData → ℕ
 count_bound way lifetimes = length (filter (is_bound way) lifetimes)
 
--- the lifetimes that are bound in this way, each after its place among all
+-- the lifetimes that are bound in this way, each after its index among all
 abbrev pub entries_bound : LifetimeBoundType → List LifetimeParamData → List (ℕ × LifetimeParamData)
 entries_bound way lifetimes = filter (λ entry. is_bound way entry.1) (enumerate_from 0 lifetimes)
 
@@ -51,15 +51,15 @@ is_const_named name (ConstParamData p) = same_name name (Some p.name)
 abbrev pub is_lifetime_named : List ℕ → LifetimeParamData → Bool
 is_lifetime_named name lifetime = same_name name (Some lifetime.name)
 
--- the parameter in this place, of this parent
+-- the parameter of this index, of this parent
 abbrev pub of_parent : GenericDefId → ℕ → TypeOrConstParamId
 of_parent parent at = record { parent = parent; local_id = at }
 
 abbrev pub lifetime_of_parent : GenericDefId → ℕ → LifetimeParamId
 lifetime_of_parent parent at = record { parent = parent; local_id = at }
 
--- the first type of this name, the first constant, the first lifetime: position is the place of the first member
--- that passes
+-- the first type of this name, the first constant, the first lifetime: `position` is the index of the first
+-- member that passes
 abbrev pub first_type : List ℕ → GenericDefId → List TypeOrConstParamData → Option TypeOrConstParamId
 first_type name parent params = option_map (of_parent parent) (position (is_type_named name) params)
 
@@ -75,7 +75,7 @@ abbrev pub self_of_trait : List TypeOrConstParamData → Option ℕ
 self_of_trait [] = None
 self_of_trait (param ∷ params) = cond (is_trait_self param) (Some 0) None
 
--- how many earlier lifetimes are bound as this one is, and whether it is late bound
+-- the number of earlier lifetimes that are bound as this one is, and whether it is late bound
 abbrev pub index_of : List LifetimeParamData → ℕ → LifetimeParamData → ℕ × Bool
 index_of lifetimes id lifetime =
     (count_bound lifetime.bound_type (take id lifetimes), is_bound LateBound lifetime)

@@ -1,4 +1,4 @@
--- What is looked up of a definition that may have generic parameters.
+-- The results of lookups of a definition that may have generic parameters, and of one that may have a body.
 use Rattle.std.specs.Prelude.{ℕ}
 use Rattle.hir_source_map.specs.declared.source_map.ExpressionStoreSourceMap.{ExpressionStoreSourceMap}
 use Rattle.hir_store_core.specs.Contents.{Contents}

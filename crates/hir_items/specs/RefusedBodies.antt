@@ -1,11 +1,12 @@
--- What a refused body hands back.
-use Rattle.std.specs.Prelude.{ℕ, List, Option}
+-- The parts that the refusal of a body gives back.
+use Rattle.std.specs.Prelude.{List, Option}
+use Rattle.hir_path.specs.NodeIds.{PatId, BindingId}
 use Rattle.hir_store_core.specs.Contents.{Contents}
 use Rattle.hir_items.specs.declared.body.RefusedBody.{RefusedBody}
 use Rattle.hir_items.specs.declared.body_fault.BodyFault.{BodyFault}
 use Rattle.hir_items.specs.declared.formals.Param.{Param}
 
 -- the fault, and the parts as they were
-abbrev pub refused_body : BodyFault → Contents → List (Param ℕ) → Option (Param ℕ) → RefusedBody
+abbrev pub refused_body : BodyFault → Contents → List (Param PatId) → Option (Param BindingId) → RefusedBody
 refused_body fault store params self_param =
     record { fault = fault; store = store; params = params; self_param = self_param }

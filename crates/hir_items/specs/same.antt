@@ -1,4 +1,4 @@
--- Proofs alone: that each `==` of this crate decides whether two values are the same. A reader may skip this
+-- Only proofs that each `==` of this crate decides whether two values are the same. A reader may skip this
 -- folder.
 pub mod SameBodies
 pub mod SameGenerics

@@ -6,20 +6,21 @@ ghost use Rattle.hir_items.specs.Bodies.{body_of, body_fault, last_root, AreBelo
 use crate::body_fault::{BodyFault, first_fault, last_root};
 use crate::formals::Param;
 use hir_base::{ExactEq, Seq};
+use hir_node::{BindingId, ExprId, PatId};
 use hir_store_core::ExpressionStore;
 use hir_store_core::laws::roots_stand_apart;
-use hir_node::{BindingId, ExprId, PatId};
 use std::alloc::{AllocError, Global};
 use std::fmt::{self, Display};
 use std::marker::Model;
 
-/// The body of a function, a constant, a static or an enum variant: what is in its store, the patterns of its parameters and the
-/// binding of its `self`. It has no fault: there is a root, what the parameters name is there, and neither a formal nor the last
-/// root is under another of them.
+/// The body of a function, a constant, a static or an enum variant: its store, the patterns of its parameters
+/// and the binding of its `self`. It has no fault: it has a root, what the parameters name exists, and
+/// neither a formal nor the last root is a descendant of another of them.
 ///
-/// The last root is what the body evaluates to. Earlier roots are expressions in the patterns of parameters, whose types are inferred by
-/// themselves: in `fn f(Wrap::<{ 1 + 1 }>(x): Wrap<2>) -> u8 { x }` the roots are `{ 1 + 1 }`, which is under the formal pattern, and
-/// then `{ x }`. A body is *reached* from its formals and its last root: an earlier root that is under no formal isn't.
+/// The last root is what the body evaluates to. Earlier roots are expressions in the patterns of parameters,
+/// whose types are inferred by themselves: in `fn f(Wrap::<{ 1 + 1 }>(x): Wrap<2>) -> u8 { x }` the roots are
+/// `{ 1 + 1 }`, which is under the formal pattern, and then `{ x }`. A body is *reached* from its formals and
+/// its last root: an earlier root that is under no formal isn't.
 #[derive(PartialEq, Eq)]
 pub struct Body {
     store: ExpressionStore,
@@ -27,7 +28,8 @@ pub struct Body {
     self_param: Option<Param<BindingId>>,
 }
 
-/// Drops the parts one after the other. It is written out so that it is proved once, and each drop of a value calls it.
+/// Drops the parts one after the other. This `impl` exists so that the drop is proved once, and is a call
+/// where a value is dropped.
 impl Drop for Body {
     fn drop(self) {
         let Body {
@@ -69,7 +71,7 @@ pub struct RefusedBody {
     pub self_param: Option<Param<BindingId>>,
 }
 
-/// The text of its fault.
+/// Writes the text of its fault.
 impl Display for RefusedBody {
     ghost use Rattle.hir_items.specs.FaultTexts.{body_fault_text};
 
@@ -93,14 +95,14 @@ struct UntestedBody {
 impl UntestedBody {
     ghost use Rattle.hir_items.specs.RefusedBodies.{refused_body};
 
-    /// The first fault.
+    /// Returns the first fault.
     fn first_fault(&self, alloc: Global) -> Result<Option<BodyFault>, AllocError>
         ensures { IfOk result (body_fault (body_of self.now.store self.now.params self.now.self_param)) }
     {
         first_fault(alloc, &self.store, self.params.as_slice(), self.self_param)
     }
 
-    /// The body, which has no fault.
+    /// Returns the body, which has no fault.
     fn into_body(self) -> Body
         requires { body_fault (body_of self.store self.params self.self_param) None }
         ensures { result ≡ body_of self.store self.params self.self_param }
@@ -117,7 +119,7 @@ impl UntestedBody {
         }
     }
 
-    /// Hands the parts back with this fault.
+    /// Gives the parts back with this fault.
     fn into_refusal(self, fault: BodyFault) -> RefusedBody
         ensures { result ≡ refused_body fault self.store self.params self.self_param }
     {
@@ -136,8 +138,8 @@ impl UntestedBody {
 }
 
 impl Body {
-    /// Makes a body of these parts where they have no fault. Else answers the first fault, or `Memory` where a growth was refused, and
-    /// hands the parts back as they were.
+    /// Returns a body of these parts where they have no fault, and else the first fault, or `Memory` where an
+    /// allocation fails, and the parts as they were.
     ///
     /// It takes time in the number of nodes and parameters, and doesn't recurse.
     pub fn new(
@@ -173,14 +175,14 @@ impl Body {
         let _ = &self.store;
     }
 
-    /// The nodes and roots.
+    /// Returns the nodes and roots.
     pub fn store(&self) -> &ExpressionStore
         ensures { result.now ≡ self.now.store }
     {
         &self.store
     }
 
-    /// The parameters in their order, without `self`. Both patterns of each are in the store.
+    /// Returns the parameters in their order, without `self`. Both patterns of each are in the store.
     pub fn params(&self) -> &[Param<PatId>]
         ensures params { result.now ≡ self.now.params }
         ensures in_range { All (AreBelow (length self.now.store.nodes.pats)) result.now }
@@ -188,7 +190,7 @@ impl Body {
         self.params.as_slice()
     }
 
-    /// The `self` parameter, where there is one. Both bindings of it are in the store.
+    /// Returns the `self` parameter, where the body has one. Both bindings of it are in the store.
     pub fn self_param(&self) -> Option<Param<BindingId>>
         ensures self_param { result ≡ self.now.self_param }
         ensures in_range { IfSome result (AreBelow (length self.now.store.nodes.bindings)) }
@@ -196,7 +198,8 @@ impl Body {
         self.self_param
     }
 
-    /// What the body evaluates to: the last root, which is in the store. Earlier roots belong to the patterns of parameters.
+    /// Returns what the body evaluates to: the last root, which is in the store. Earlier roots belong to the
+    /// patterns of parameters.
     pub fn root_expr(&self) -> ExprId
         ensures last { Some result ≡ last_root self.now.store }
         ensures in_range { result < length self.now.store.nodes.exprs }
@@ -209,7 +212,7 @@ impl Body {
         }
     }
 
-    /// Whether this is the binding of `self`: the formal or the one that the user wrote.
+    /// Returns whether this is the binding of `self`: the formal or the one that the user wrote.
     pub fn is_any_self_param(&self, binding: BindingId) -> bool
         ensures { IsTrue result ↔ IsAnySelf self.now binding }
     {

@@ -5,29 +5,30 @@ ghost use Rattle.hir_items.specs.Bodies.{body_of, last_root, apart_fault, body_f
 
 use crate::formals::{Param, add_formals, first_out_of_range, first_under, self_is_in_range};
 use hir_base::ExactEq;
+use hir_node::{BindingId, ExprId, PatId};
 use hir_store_core::ExpressionStore;
 use hir_store_core::laws::{rank_decreases, roots_stand_apart};
-use hir_node::{BindingId, ExprId, PatId};
 use std::alloc::{AllocError, Global};
 use std::fmt::{self, Display};
 
-/// Why a body is refused: the first of its faults, in this order, and among faults of one kind the one with the least index. A
-/// parameter is named by its index in the list. The text is the name and, after a space, the index.
+/// Why a body is refused: the first of its faults, in this order, and among faults of one kind the one with
+/// the least index. A parameter is named by its index in the list. The text is the name and, after a space,
+/// the index.
 #[derive(Clone, Copy, Debug, PartialEq, Eq)]
 pub enum BodyFault {
     /// The store has no root.
     NoRoot,
-    /// A binding of the self parameter isn't there.
+    /// A binding of the self parameter doesn't exist.
     SelfOutOfRange,
-    /// A pattern of the parameter isn't there.
+    /// A pattern of the parameter doesn't exist.
     ParamOutOfRange(usize),
     /// The parameter's formal pattern is that of an earlier one.
     ParamRepeated(usize),
-    /// The parameter's formal pattern is properly under another formal, or under the last root.
+    /// The parameter's formal pattern is a descendant of another formal, or of the last root.
     ParamUnder(usize),
-    /// The last root is under a formal.
+    /// The last root is a descendant of a formal.
     RootInParam,
-    /// Memory for the test was refused. It may come in place of any answer.
+    /// An allocation of the test failed. It may come in place of any result.
     Memory,
 }
 
@@ -58,14 +59,15 @@ impl ExactEq for BodyFault {
     ghost eq_decides = { Prim.search exact };
 }
 
-/// The last root, where there is one.
+/// Returns the last root, where the store has one.
 pub(crate) fn last_root(store: &ExpressionStore) -> Option<ExprId>
     ensures { result ≡ last_root store.now }
 {
     store.expr_roots().next_back()
 }
 
-/// The first fault of formals that are there and of the last root: one that repeats, or is under another.
+/// Returns the first fault of formals that exist and of the last root: one that repeats, or is a descendant
+/// of another.
 fn first_meeting(
     alloc: Global,
     store: &ExpressionStore,
@@ -83,7 +85,8 @@ fn first_meeting(
         return Ok(Some(fault));
     }
     entry_nodes.add_expr(root);
-    // What is no child lies under no other node. So it is with most bodies, and the table of all children isn't made.
+    // A node that is no child is a descendant of no other node. So it is with most bodies, and the table of
+    // all children isn't made.
     if store.no_child_is_in(&entry_nodes) {
         return Ok(None);
     }
@@ -97,7 +100,7 @@ fn first_meeting(
     Ok(None)
 }
 
-/// The first fault of a body's parts.
+/// Returns the first fault of a body's parts.
 pub(crate) fn first_fault(
     alloc: Global,
     store: &ExpressionStore,

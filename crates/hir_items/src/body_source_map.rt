@@ -12,7 +12,8 @@ pub struct BodySourceMap {
     self_param_syntax: Option<InFile<SelfParamPtr>>,
 }
 
-/// Drops the parts one after the other. It is written out so that it is proved once, and each drop of a value calls it.
+/// Drops the parts one after the other. This `impl` exists so that the drop is proved once, and is a call
+/// where a value is dropped.
 impl Drop for BodySourceMap {
     fn drop(self) {
         let BodySourceMap {
@@ -23,7 +24,7 @@ impl Drop for BodySourceMap {
 }
 
 impl BodySourceMap {
-    /// The source map of a body: that of its store, and the source of its `self`.
+    /// Returns the source map of a body: that of its store, and the source of its `self`.
     pub fn new(
         store: ExpressionStoreSourceMap,
         self_param_syntax: Option<InFile<SelfParamPtr>>,
@@ -36,14 +37,14 @@ impl BodySourceMap {
         }
     }
 
-    /// The source map of the store.
+    /// Returns the source map of the store.
     pub fn store(&self) -> &ExpressionStoreSourceMap
         ensures { result.now ≡ self.now.store }
     {
         &self.store
     }
 
-    /// The source of `self`, where there is one.
+    /// Returns the source of `self`, where the body has one.
     pub fn self_param_syntax(&self) -> Option<InFile<SelfParamPtr>>
         ensures { result ≡ self.now.self_param_syntax }
     {

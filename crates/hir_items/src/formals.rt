@@ -10,17 +10,17 @@ ghost use Rattle.hir_items.specs.Bodies.{AreBelow, formals_of, range_fault, repe
 
 use crate::body_fault::BodyFault;
 use hir_base::{ExactEq, TryClone};
-use hir_store_core::{ExpressionStore, NodeSet};
 use hir_node::{BindingId, PatId};
+use hir_store_core::{ExpressionStore, NodeSet};
 
 /// A parameter as the body has it, and as the user wrote it.
 ///
-/// The two differ where a body copies its parameters into local variables, as that of an `async fn` does.
+/// The two differ where a body copies its parameters into local variables, as the body of an `async fn` does.
 #[derive(Clone, Copy, PartialEq, Eq)]
 pub struct Param<Id> {
     /// The parameter itself: the id that the analysis of a body uses.
     pub formal: Id,
-    /// What the user wrote: the id that an editor uses.
+    /// The id of what the user wrote, which an editor uses.
     pub user_written: Id,
 }
 
@@ -32,8 +32,11 @@ impl<Id: TryClone> TryClone for Param<Id> {
     ghost clone_is_same = { Prim.search (exact, Id.clone_is_same) };
 }
 
-/// Whether both bindings of the self parameter are there; without one there is nothing to ask.
-pub(crate) fn self_is_in_range(store: &ExpressionStore, self_param: Option<Param<BindingId>>) -> bool
+/// Returns whether both bindings of the self parameter exist; without one there is nothing to test.
+pub(crate) fn self_is_in_range(
+    store: &ExpressionStore,
+    self_param: Option<Param<BindingId>>,
+) -> bool
     ensures { IsTrue result ↔ IfSome self_param (AreBelow (length store.now.nodes.bindings)) }
 {
     match self_param {
@@ -42,14 +45,14 @@ pub(crate) fn self_is_in_range(store: &ExpressionStore, self_param: Option<Param
     }
 }
 
-/// Whether both patterns of a parameter are there.
+/// Returns whether both patterns of a parameter exist.
 fn param_is_in_range(store: &ExpressionStore, param: Param<PatId>) -> bool
     ensures { IsTrue result ↔ AreBelow (length store.now.nodes.pats) param }
 {
     store.has_pat(param.formal) && store.has_pat(param.user_written)
 }
 
-/// The first parameter with a pattern that isn't there.
+/// Returns the first parameter with a pattern that doesn't exist.
 pub(crate) fn first_out_of_range(
     store: &ExpressionStore,
     params: &[Param<PatId>],
@@ -80,7 +83,7 @@ pub(crate) fn add_formals(params: &[Param<PatId>], set: &mut NodeSet) -> Option<
     None
 }
 
-/// The first formal that is among the nodes under others.
+/// Returns the first formal that is among the nodes under others.
 pub(crate) fn first_under(params: &[Param<PatId>], under: &NodeSet) -> Option<BodyFault>
     requires in_range { All (λ p. p.formal < under.now.sizes.pats) params.now }
     ensures { first_below (length params.now) (under_fault (IsIn under.now) (formals_of params.now)) result }

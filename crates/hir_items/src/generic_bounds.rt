@@ -5,7 +5,7 @@ ghost use Rattle.hir_items.specs.Generics.{count_bound};
 
 use hir_generics::{LifetimeBoundType, LifetimeParamData};
 
-/// Whether the lifetime is bound in this way.
+/// Returns whether the lifetime is bound in this way.
 pub(crate) fn is_bound(param: &LifetimeParamData, bound_type: &LifetimeBoundType) -> bool
     ensures { result ≡ is_bound bound_type.now param.now }
 {
@@ -15,7 +15,7 @@ pub(crate) fn is_bound(param: &LifetimeParamData, bound_type: &LifetimeBoundType
     }
 }
 
-/// How many of the lifetimes are bound in this way.
+/// Returns the number of lifetimes that are bound in this way.
 pub(crate) fn count_bound(lifetimes: &[LifetimeParamData], bound_type: &LifetimeBoundType) -> usize
     ensures { result ≡ count_bound bound_type.now lifetimes.now }
 {

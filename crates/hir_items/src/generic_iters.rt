@@ -10,7 +10,8 @@ use std::alloc::AllocError;
 use std::iter::FusedIterator;
 use std::marker::Model;
 
-/// The early bound lifetimes with their ids, or the late bound ones, seen as the list of those that are left.
+/// The early bound lifetimes with their ids, or the late bound ones, modelled as the list of those that are
+/// left.
 #[derive(Drop)]
 pub struct BoundLifetimes<'a> {
     lifetimes: ArenaIter<'a, LifetimeParamKind, LifetimeParamData>,

@@ -1,5 +1,5 @@
-//! Laws of generic parameters that a reader relies on, and that no call's contract states.
-//! Each is a function with no body to run: its contract is the law, proved for every value.
+//! Theorems on generic parameters that a reader relies on, and that no call's contract states. Each is a
+//! function with no body to run: its contract is the theorem, proved for every value.
 ghost use Rattle.std.specs.Prelude.{◌≡◌, ◌+◌, List, ℕ, length};
 ghost use Rattle.std.specs.List.{position};
 ghost use Rattle.hir_items.specs.Generics.{count_bound, is_type_named, is_const_named, is_lifetime_named};
@@ -14,8 +14,8 @@ pub fn lifetimes_are_early_or_late()
         → count_bound EarlyBound lifetimes + count_bound LateBound lifetimes ≡ length lifetimes }
 {}
 
-/// A find by name answers the place of the first type, constant or lifetime of that name: no earlier one has it. Where it answers
-/// `None`, none has that name.
+/// A find by name returns the index of the first type, constant or lifetime of that name: no earlier one has
+/// it. Where it returns `None`, none has that name.
 pub fn finds_answer_the_first()
     ensures types { (name : List ℕ) (params : List TypeOrConstParamData)
         → IsFirst (IsTypeNamed name) params (position (is_type_named name) params) }

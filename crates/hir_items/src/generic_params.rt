@@ -1,5 +1,5 @@
-//! The generic parameters of a definition, and the predicates of its `where` clause.
-//! Early bound lifetimes are counted once, when the value is made.
+//! The generic parameters of a definition, and the predicates of its `where` clause. Early bound lifetimes
+//! are counted once, when the value is made.
 ghost use Rattle.std.specs.Prelude.{◌≡◌, ◌+◌, ◌<◌, ◌≤◌, [], ◌↔◌, IsTrue, length, slice_get, Some};
 ghost use Rattle.std.specs.List.{enumerate_from};
 ghost use Rattle.hir_items.specs.Generics.{Generics, generics_of, empty, count_bound, is_type_named, is_const_named, first_type, first_const, first_lifetime, self_of_trait, lifetime_index, entries_bound};
@@ -17,7 +17,8 @@ use std::alloc::Global;
 use std::marker::Model;
 use std::ops::Index;
 
-/// The generic parameters of a definition: types and constants in one list, lifetimes in another; and the predicates on them.
+/// The generic parameters of a definition: types and constants in one list, lifetimes in another; and the
+/// predicates on them.
 #[derive(PartialEq, Eq, Hash)]
 pub struct GenericParams {
     type_or_consts: Arena<TypeOrConstParamKind, TypeOrConstParamData>,
@@ -26,7 +27,8 @@ pub struct GenericParams {
     early_bound_lifetimes_len: usize,
 }
 
-/// Drops the parts one after the other. It is written out so that it is proved once, and each drop of a value calls it.
+/// Drops the parts one after the other. This `impl` exists so that the drop is proved once, and is a call
+/// where a value is dropped.
 impl Drop for GenericParams {
     fn drop(self) {
         let GenericParams {
@@ -63,7 +65,7 @@ impl Model for GenericParams {
         × (length p.lifetimes ≤ MOST_ITEMS) };
 }
 
-/// Whether it is a type of this name.
+/// Returns whether it is a type of this name.
 fn is_type_named(param: &TypeOrConstParamData, name: &Name) -> bool
     ensures { result ≡ is_type_named name.now param.now }
 {
@@ -76,7 +78,7 @@ fn is_type_named(param: &TypeOrConstParamData, name: &Name) -> bool
     }
 }
 
-/// Whether it is a constant of this name.
+/// Returns whether it is a constant of this name.
 fn is_const_named(param: &TypeOrConstParamData, name: &Name) -> bool
     ensures { result ≡ is_const_named name.now param.now }
 {
@@ -87,7 +89,7 @@ fn is_const_named(param: &TypeOrConstParamData, name: &Name) -> bool
 }
 
 impl GenericParams {
-    /// Makes generic parameters of these lists. It counts the early bound lifetimes, in one pass.
+    /// Returns generic parameters of these lists. It counts the early bound lifetimes, in one pass.
     pub fn new(
         type_or_consts: Arena<TypeOrConstParamKind, TypeOrConstParamData>,
         lifetimes: Arena<LifetimeParamKind, LifetimeParamData>,
@@ -107,7 +109,7 @@ impl GenericParams {
         }
     }
 
-    /// No parameters and no predicates.
+    /// Returns no parameters and no predicates.
     pub fn empty(alloc: Global) -> GenericParams
         ensures { result ≡ empty }
     {
@@ -119,21 +121,21 @@ impl GenericParams {
         }
     }
 
-    /// The number of parameters.
+    /// Returns the number of parameters.
     pub fn len(&self) -> usize
         ensures { result ≡ length self.now.type_or_consts + length self.now.lifetimes }
     {
         self.len_type_or_consts() + self.len_lifetimes()
     }
 
-    /// The number of parameters that are not late bound lifetimes.
+    /// Returns the number of parameters that are not late bound lifetimes.
     pub fn len_no_late(&self) -> usize
         ensures { result ≡ length self.now.type_or_consts + count_bound EarlyBound self.now.lifetimes }
     {
         self.len_type_or_consts() + self.early_bound_lifetimes_len
     }
 
-    /// The number of lifetimes.
+    /// Returns the number of lifetimes.
     pub fn len_lifetimes(&self) -> usize
         ensures len { result ≡ length self.now.lifetimes }
         ensures most { length self.now.lifetimes ≤ MOST_ITEMS }
@@ -141,21 +143,21 @@ impl GenericParams {
         self.lifetimes.len()
     }
 
-    /// The number of early bound lifetimes.
+    /// Returns the number of early bound lifetimes.
     pub fn len_early_bound_lifetimes(&self) -> usize
         ensures { result ≡ count_bound EarlyBound self.now.lifetimes }
     {
         self.early_bound_lifetimes_len
     }
 
-    /// The number of late bound lifetimes.
+    /// Returns the number of late bound lifetimes.
     pub fn len_late_bound_lifetimes(&self) -> usize
         ensures { result ≡ count_bound LateBound self.now.lifetimes }
     {
         self.len_lifetimes() - self.early_bound_lifetimes_len
     }
 
-    /// The number of types and constants.
+    /// Returns the number of types and constants.
     pub fn len_type_or_consts(&self) -> usize
         ensures len { result ≡ length self.now.type_or_consts }
         ensures most { length self.now.type_or_consts ≤ MOST_ITEMS }
@@ -163,77 +165,77 @@ impl GenericParams {
         self.type_or_consts.len()
     }
 
-    /// Whether there are no parameters. There may be predicates.
+    /// Returns whether the lists have no parameters. They may have predicates.
     pub fn is_empty(&self) -> bool
         ensures { IsTrue result ↔ ((self.now.type_or_consts ≡ []) × (self.now.lifetimes ≡ [])) }
     {
         self.type_or_consts.is_empty() && self.lifetimes.is_empty()
     }
 
-    /// Whether there are no predicates.
+    /// Returns whether the list has no predicates.
     pub fn has_no_predicates(&self) -> bool
         ensures { IsTrue result ↔ (self.now.predicates ≡ []) }
     {
         self.where_predicates.is_empty()
     }
 
-    /// Whether a type or a constant has this id.
+    /// Returns whether a type or a constant has this id.
     pub fn has_type_or_const(&self, id: LocalTypeOrConstParamId) -> bool
         ensures { IsTrue result ↔ id < length self.now.type_or_consts }
     {
         self.type_or_consts.has(id)
     }
 
-    /// Whether a lifetime has this id.
+    /// Returns whether a lifetime has this id.
     pub fn has_lifetime(&self, id: LocalLifetimeParamId) -> bool
         ensures { IsTrue result ↔ id < length self.now.lifetimes }
     {
         self.lifetimes.has(id)
     }
 
-    /// The types and constants, in their order.
+    /// Returns the types and constants, in their order.
     pub(crate) fn type_or_consts(&self) -> &[TypeOrConstParamData]
         ensures { result.now ≡ self.now.type_or_consts }
     {
         self.type_or_consts.as_slice()
     }
 
-    /// The predicates, in their order.
+    /// Returns the predicates, in their order.
     pub fn where_predicates(&self) -> &[WherePredicate]
         ensures { result.now ≡ self.now.predicates }
     {
         self.where_predicates.as_slice()
     }
 
-    /// The types and constants with their ids, in their order. The iterator is double-ended.
+    /// Returns the types and constants with their ids, in their order. The iterator is double-ended.
     pub fn iter_type_or_consts(&self) -> ArenaIter<'_, TypeOrConstParamKind, TypeOrConstParamData>
         ensures { result ≡ enumerate_from 0 self.now.type_or_consts }
     {
         self.type_or_consts.iter()
     }
 
-    /// The lifetimes with their ids, in their order. The iterator is double-ended.
+    /// Returns the lifetimes with their ids, in their order. The iterator is double-ended.
     pub fn iter_lt(&self) -> ArenaIter<'_, LifetimeParamKind, LifetimeParamData>
         ensures { result ≡ enumerate_from 0 self.now.lifetimes }
     {
         self.lifetimes.iter()
     }
 
-    /// The early bound lifetimes with their ids, in their order. The iterator is double-ended.
+    /// Returns the early bound lifetimes with their ids, in their order. The iterator is double-ended.
     pub fn iter_early_bound_lt(&self) -> BoundLifetimes<'_>
         ensures { result ≡ entries_bound EarlyBound self.now.lifetimes }
     {
         BoundLifetimes::new(&self.lifetimes, LifetimeBoundType::EarlyBound)
     }
 
-    /// The late bound lifetimes with their ids, in their order. The iterator is double-ended.
+    /// Returns the late bound lifetimes with their ids, in their order. The iterator is double-ended.
     pub fn iter_late_bound_lt(&self) -> BoundLifetimes<'_>
         ensures { result ≡ entries_bound LateBound self.now.lifetimes }
     {
         BoundLifetimes::new(&self.lifetimes, LifetimeBoundType::LateBound)
     }
 
-    /// The first type of this name, as a parameter of `parent`.
+    /// Returns the first type of this name, as a parameter of `parent`.
     pub fn find_type_by_name(&self, name: &Name, parent: GenericDefId) -> Option<TypeParamId>
         ensures { result ≡ first_type name.now parent self.now.type_or_consts }
     {
@@ -246,7 +248,7 @@ impl GenericParams {
         None
     }
 
-    /// The first constant of this name, as a parameter of `parent`.
+    /// Returns the first constant of this name, as a parameter of `parent`.
     pub fn find_const_by_name(&self, name: &Name, parent: GenericDefId) -> Option<ConstParamId>
         ensures { result ≡ first_const name.now parent self.now.type_or_consts }
     {
@@ -259,7 +261,7 @@ impl GenericParams {
         None
     }
 
-    /// The first lifetime of this name, as a parameter of `parent`.
+    /// Returns the first lifetime of this name, as a parameter of `parent`.
     pub fn find_lifetime_by_name(
         &self,
         name: &Name,
@@ -275,7 +277,8 @@ impl GenericParams {
         None
     }
 
-    /// The id of the `Self` of a trait, which only its place names: parameter 0, where that is `Self`.
+    /// Returns the id of the `Self` of a trait, which only its index names: parameter 0, where that is
+    /// `Self`.
     pub fn trait_self_param(&self) -> Option<LocalTypeOrConstParamId>
         ensures { result ≡ self_of_trait self.now.type_or_consts }
     {
@@ -287,17 +290,18 @@ impl GenericParams {
         }
     }
 
-    /// The id of the `Self` among the parameters of a trait: 0.
+    /// Returns the id of the `Self` among the parameters of a trait: 0.
     pub const fn self_param_id_in_self() -> LocalTypeOrConstParamId
         ensures { result ≡ 0 }
     {
         LocalTypeOrConstParamId::from_raw(0)
     }
 
-    /// How many earlier lifetimes are bound as the one with this id is, and whether it is late bound. `None` where no lifetime
-    /// has the id.
+    /// Returns the number of earlier lifetimes that are bound as the one with this id is, and whether it is
+    /// late bound, and `None` where no lifetime has the id.
     ///
-    /// Early bound and late bound lifetimes are numbered apart. This takes time in the number of earlier lifetimes.
+    /// Early bound and late bound lifetimes are numbered separately. This takes time in the number of earlier
+    /// lifetimes.
     pub fn lifetime_param_idx(
         &self,
         lifetime_param_id: &LocalLifetimeParamId,
@@ -312,7 +316,7 @@ impl GenericParams {
     }
 }
 
-/// The type or constant with an id, which has to be there: `has_type_or_const` tests it.
+/// Gives the type or constant with an id, which has to exist: `has_type_or_const` tests it.
 impl Index<LocalTypeOrConstParamId> for GenericParams {
     type Output = TypeOrConstParamData;
 
@@ -325,7 +329,7 @@ impl Index<LocalTypeOrConstParamId> for GenericParams {
     }
 }
 
-/// The lifetime with an id, which has to be there: `has_lifetime` tests it.
+/// Gives the lifetime with an id, which has to exist: `has_lifetime` tests it.
 impl Index<LocalLifetimeParamId> for GenericParams {
     type Output = LifetimeParamData;
 

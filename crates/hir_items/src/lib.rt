@@ -1,4 +1,5 @@
-//! What definitions are: bodies over accepted stores, generic parameters, and signatures; and how they are looked up.
+//! The parts of definitions: bodies over accepted stores, generic parameters, and signatures; and how they
+//! are looked up.
 #![tactic(auto)]
 
 mod body;

@@ -1,4 +1,4 @@
-//! Looks up the generic parameters and the body of a definition.
+//! Lookups of the generic parameters and the body of a definition.
 
 ghost use Rattle.std.specs.Prelude.{◌≡◌, Option, None, Some, IfOk, IfErr};
 ghost use Rattle.std.specs.Option.{option_map};
@@ -11,8 +11,8 @@ use crate::body::Body;
 use crate::body_source_map::BodySourceMap;
 use crate::generic_params::GenericParams;
 use hir_base::{DefWithBodyId, GenericDefId};
-use hir_store_core::{ExpressionStore, Missing};
 use hir_source_map::ExpressionStoreSourceMap;
+use hir_store_core::{ExpressionStore, Missing};
 
 /// The generic parameters of a definition, the store that they name, and where that comes from.
 pub type SignatureEntry<'a> = (
@@ -24,14 +24,14 @@ pub type SignatureEntry<'a> = (
 /// The body of a definition, and where it comes from.
 pub type BodyEntry<'a> = (&'a Body, &'a BodySourceMap);
 
-/// Holds the signatures of definitions.
+/// A holder of signatures of definitions.
 pub trait Signatures {
     // what is held for a definition
     ghost signature_entry: { Self → GenericDefId → Option SignatureAndSources };
 
-    /// The generic parameters of the definition, the store that they name, and where that comes from.
+    /// Returns the generic parameters of the definition, the store that they name, and where that comes from.
     ///
-    /// Answers `Missing::Signature` of the definition where it has no signature.
+    /// Returns `Missing::Signature` of the definition where it has no signature.
     fn signature_of(&self, def: GenericDefId) -> Result<SignatureEntry<'_>, Missing>
         ensures found { IfOk result (λ found.
             signature_entry self.now def ≡ Some (found.0.now, found.1.now, found.2.now)) }
@@ -39,25 +39,25 @@ pub trait Signatures {
             (absent ≡ missing.Signature def) × (signature_entry self.now def ≡ None)) };
 }
 
-/// Holds the bodies of definitions.
+/// A holder of bodies of definitions.
 pub trait Bodies {
     // what is held for a definition
     ghost body_entry: { Self → DefWithBodyId → Option BodyAndSources };
 
-    /// The body of the definition, and where it comes from.
+    /// Returns the body of the definition, and where it comes from.
     ///
-    /// Answers `Missing::Body` of the definition where it has no body.
+    /// Returns `Missing::Body` of the definition where it has no body.
     fn body_of(&self, def: DefWithBodyId) -> Result<BodyEntry<'_>, Missing>
         ensures found { IfOk result (λ found. body_entry self.now def ≡ Some (found.0.now, found.1.now)) }
         ensures absent { IfErr result (λ absent.
             (absent ≡ missing.Body def) × (body_entry self.now def ≡ None)) };
 }
 
-/// Looking up the generic parameters of a definition.
+/// Lookups of the generic parameters of a definition.
 impl GenericParams {
-    /// The parameters of the definition.
+    /// Returns the parameters of the definition.
     ///
-    /// Answers `Missing::Signature` of the definition where it has no signature.
+    /// Returns `Missing::Signature` of the definition where it has no signature.
     pub fn of<T: Signatures>(tables: &T, def: GenericDefId) -> Result<&GenericParams, Missing>
         ensures found { IfOk result (λ found.
             option_map (λ entry. entry.0) (T.signature_entry tables.now def) ≡ Some found.now) }
@@ -68,9 +68,9 @@ impl GenericParams {
         Ok(params)
     }
 
-    /// The parameters of the definition, and the store that they name.
+    /// Returns the parameters of the definition, and the store that they name.
     ///
-    /// Answers `Missing::Signature` of the definition where it has no signature.
+    /// Returns `Missing::Signature` of the definition where it has no signature.
     pub fn with_store<T: Signatures>(
         tables: &T,
         def: GenericDefId,
@@ -85,9 +85,9 @@ impl GenericParams {
         Ok((params, store))
     }
 
-    /// The parameters of the definition, the store that they name, and where that comes from.
+    /// Returns the parameters of the definition, the store that they name, and where that comes from.
     ///
-    /// Answers `Missing::Signature` of the definition where it has no signature.
+    /// Returns `Missing::Signature` of the definition where it has no signature.
     pub fn with_source_map<T: Signatures>(
         tables: &T,
         def: GenericDefId,
@@ -101,11 +101,11 @@ impl GenericParams {
     }
 }
 
-/// Looking up the body of a definition.
+/// Lookups of the body of a definition.
 impl Body {
-    /// The body of the definition.
+    /// Returns the body of the definition.
     ///
-    /// Answers `Missing::Body` of the definition where it has no body.
+    /// Returns `Missing::Body` of the definition where it has no body.
     pub fn of<T: Bodies>(tables: &T, def: DefWithBodyId) -> Result<&Body, Missing>
         ensures found { IfOk result (λ found.
             option_map (λ entry. entry.0) (T.body_entry tables.now def) ≡ Some found.now) }
@@ -116,9 +116,9 @@ impl Body {
         Ok(body)
     }
 
-    /// The body of the definition, and where it comes from.
+    /// Returns the body of the definition, and where it comes from.
     ///
-    /// Answers `Missing::Body` of the definition where it has no body.
+    /// Returns `Missing::Body` of the definition where it has no body.
     pub fn with_source_map<T: Bodies>(
         tables: &T,
         def: DefWithBodyId,

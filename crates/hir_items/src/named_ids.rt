@@ -1,4 +1,4 @@
-//! Whether the ids that parameters, predicates and fields name are there.
+//! Tests of whether the ids that parameters, predicates and fields name exist.
 
 ghost use Rattle.std.specs.Prelude.{◌≡◌, nat_lt, length};
 ghost use Rattle.std.specs.List.{list_all};
@@ -8,9 +8,9 @@ ghost use Rattle.hir_items.specs.Signatures.{param_calls, predicate_calls, predi
 
 use crate::generic_params::GenericParams;
 use crate::signatures::FieldData;
-use hir_store_core::ExpressionStore;
 use hir_generics::{TypeOrConstParamData, WherePredicate};
 use hir_node::{ExprId, LifetimeRefId, TypeRefId};
+use hir_store_core::ExpressionStore;
 
 fn has_expr(store: &ExpressionStore, id: ExprId) -> bool
     ensures { result ≡ nat_lt id (length store.now.nodes.exprs) }
@@ -30,7 +30,7 @@ fn has_lifetime(store: &ExpressionStore, id: LifetimeRefId) -> bool
     store.has_lifetime(id)
 }
 
-/// Whether the type, if any, is there.
+/// Returns whether the type, if any, exists.
 pub(crate) fn has_type_opt(store: &ExpressionStore, id: Option<TypeRefId>) -> bool
     ensures { result ≡ all_in_range store.now.nodes (opt t id) }
 {
@@ -40,7 +40,7 @@ pub(crate) fn has_type_opt(store: &ExpressionStore, id: Option<TypeRefId>) -> bo
     }
 }
 
-/// Whether the expression, if any, is there.
+/// Returns whether the expression, if any, exists.
 fn has_expr_opt(store: &ExpressionStore, id: Option<ExprId>) -> bool
     ensures { result ≡ all_in_range store.now.nodes (opt a id) }
 {
@@ -91,7 +91,7 @@ fn has_predicates(store: &ExpressionStore, predicates: &[WherePredicate]) -> boo
         .all(|predicate| has_predicate(store, predicate))
 }
 
-/// Whether each id of the parameters and predicates is there.
+/// Returns whether each id of the parameters and predicates exists.
 pub(crate) fn has_generics(store: &ExpressionStore, generics: &GenericParams) -> bool
     ensures { result ≡ generics_in_range store.now.nodes generics.now }
 {
@@ -124,14 +124,14 @@ fn predicates_name_paths(store: &ExpressionStore, predicates: &[WherePredicate])
         .all(|predicate| names_paths(store, predicate))
 }
 
-/// Whether what the predicates name as paths are paths.
+/// Returns whether what the predicates name as paths are paths.
 pub(crate) fn generics_name_paths(store: &ExpressionStore, generics: &GenericParams) -> bool
     ensures { result ≡ generics_name_paths store.now.nodes generics.now }
 {
     predicates_name_paths(store, generics.where_predicates())
 }
 
-/// Whether each type is there.
+/// Returns whether each type exists.
 pub(crate) fn has_types(store: &ExpressionStore, ids: &[TypeRefId]) -> bool
     ensures { result ≡ types_in_range store.now.nodes ids.now }
 {
@@ -144,7 +144,7 @@ fn has_field(store: &ExpressionStore, field: &FieldData) -> bool
     has_type(store, field.type_ref) && has_expr_opt(store, field.default_value)
 }
 
-/// Whether each id of the fields is there.
+/// Returns whether each id of the fields exists.
 pub(crate) fn has_fields(store: &ExpressionStore, fields: &[FieldData]) -> bool
     ensures { result ≡ list_all (λ f. all_in_range store.now.nodes (field_calls f)) fields.now }
 {

@@ -12,7 +12,7 @@ pub enum SignatureFault {
     IdOutOfRange,
     /// A bound of a predicate names as a path a type that isn't one.
     NotAPath,
-    /// Memory was refused. The tests take none, so no constructor answers it.
+    /// An allocation failed. The tests take no memory, so no constructor returns it.
     Memory,
 }
 
@@ -48,7 +48,7 @@ pub struct RefusedSignature<P> {
     pub parts: P,
 }
 
-/// The text of its fault.
+/// Writes the text of its fault.
 impl<P> Display for RefusedSignature<P> {
     ghost use Rattle.std.specs.Prelude.{Some};
     ghost use Rattle.hir_items.specs.FaultTexts.{signature_fault_text};
@@ -62,7 +62,7 @@ impl<P> Display for RefusedSignature<P> {
 
 impl<P: Drop> std::error::Error for RefusedSignature<P> {}
 
-/// The first fault, by whether all ids are there and whether what is named as a path is one.
+/// Returns the first fault, by whether all ids exist and whether what is named as a path is one.
 pub(crate) fn ids_fault(in_range: bool, paths: bool) -> Option<SignatureFault>
     ensures { ids_fault in_range paths result }
 {

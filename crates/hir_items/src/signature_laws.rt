@@ -1,5 +1,5 @@
-//! Laws of signatures that a reader relies on, and that no call's contract states.
-//! Each is a function that does nothing: its contract is the law. `ExpressionStore::has_no_fault` gives what they require.
+//! Theorems on signatures that a reader relies on, and that no call's contract states. Each is a function
+//! that does nothing: its contract is the theorem. `ExpressionStore::has_no_fault` gives what they require.
 
 ghost use Rattle.std.specs.Prelude.{◌≢◌, ◌⊎◌, ◌↔◌, None, Contains};
 ghost use Rattle.std.specs.List.{AllPairs};
@@ -11,8 +11,9 @@ use hir_store_core::laws::{
     reached_is_decided, reached_is_listed, reached_is_listed_once, roots_are_disjoint,
 };
 
-/// `signature_nodes` lists what a signature over a store reaches, and nothing else, each node once; so each node is reached or it
-/// isn't. These are under the roots of the store: a body is reached from its formals too, and from the last root alone.
+/// `signature_nodes` lists the nodes that a signature over a store reaches, and no others, each once; so each
+/// node is reached or it isn't. These are under the roots of the store: a body is reached from its formals
+/// too, and from the last root alone.
 pub fn what_a_signature_reaches_is_listed()
     ensures listed { (c : Contents) → contents_fault c None
         → (n : NodeId) → Contains (signature_nodes c) n ↔ SignatureReaches c n }

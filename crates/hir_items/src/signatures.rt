@@ -1,4 +1,5 @@
-//! Signatures of definitions, and the fields of variants. Each holds the store in which its ids are, and no id that isn't there.
+//! Signatures of definitions, and the fields of variants. Each holds the store in which its ids are, and no
+//! id that doesn't exist.
 
 ghost use Rattle.std.specs.Prelude.{◌≡◌, ◌<◌, All, None, Some, IfOk, IfErr, IfSome, length};
 ghost use Rattle.std.specs.Option.{option_map};
@@ -9,8 +10,8 @@ use crate::generic_params::GenericParams;
 use crate::named_ids::{generics_name_paths, has_fields, has_generics, has_type_opt, has_types};
 use crate::signature_fault::{RefusedSignature, SignatureFault, ids_fault};
 use hir_base::{ExactEq, ExternAbi, ModPath, Name, Seq};
-use hir_store_core::ExpressionStore;
 use hir_node::{ExprId, TypeRefId};
+use hir_store_core::ExpressionStore;
 use std::marker::Model;
 
 /// How fields are written: `{ .. }`, `( .. )`, or not at all.
@@ -27,7 +28,7 @@ impl ExactEq for FieldsShape {
     ghost eq_decides = { shapes_decide };
 }
 
-/// Where a field is visible.
+/// The visibility of a field.
 #[derive(Drop, PartialEq, Eq)]
 pub enum RawVisibility {
     /// `pub(in path)`, or private: from this module.
@@ -87,7 +88,7 @@ pub struct FunctionParts {
     pub is_unsafe: bool,
     /// Whether it is written `safe`.
     pub is_explicit_safe: bool,
-    /// The places of the arguments for constant parameters, where there are any.
+    /// The indices of the arguments for constant parameters, where the function has any.
     pub legacy_const_indices: Option<Seq<u32>>,
 }
 
@@ -117,7 +118,8 @@ pub struct FunctionSignature {
     function: FunctionParts,
 }
 
-/// Drops the parts one after the other. It is written out so that it is proved once, and each drop of a value calls it.
+/// Drops the parts one after the other. This `impl` exists so that the drop is proved once, and is a call
+/// where a value is dropped.
 impl Drop for FunctionSignature {
     fn drop(self) {
         let FunctionSignature { function } = self;
@@ -150,7 +152,8 @@ impl Model for FunctionSignature {
 }
 
 impl FunctionSignature {
-    /// Makes a signature of these parts, or answers their first fault and the parts as they were. It takes no memory.
+    /// Returns a signature of these parts, or their first fault and the parts as they were, without an
+    /// allocation.
     pub fn new(parts: FunctionParts) -> Result<FunctionSignature, RefusedSignature<FunctionParts>>
         ensures ok { IfOk result (λ made. (made ≡ parts) × function_fault parts None) }
         ensures err { IfErr result (λ refused.
@@ -169,14 +172,14 @@ impl FunctionSignature {
         let _ = &self.function;
     }
 
-    /// Its name.
+    /// Returns its name.
     pub fn name(&self) -> &Name
         ensures { result.now ≡ self.now.name }
     {
         &self.function.name
     }
 
-    /// Its generic parameters. What they name is in the store.
+    /// Returns its generic parameters. What they name is in the store.
     pub fn generic_params(&self) -> &GenericParams
         ensures generic_params { result.now ≡ self.now.generic_params }
         ensures in_range { GenericsFit self.now.store.nodes result.now }
@@ -184,7 +187,7 @@ impl FunctionSignature {
         &self.function.generic_params
     }
 
-    /// The types that the signature names.
+    /// Returns the types that the signature names.
     pub fn store(&self) -> &ExpressionStore
         ensures store { result.now ≡ self.now.store }
         ensures no_fault { contents_fault result.now None }
@@ -193,7 +196,7 @@ impl FunctionSignature {
         &self.function.store
     }
 
-    /// The types of the parameters, in their order. Each is in the store.
+    /// Returns the types of the parameters, in their order. Each is in the store.
     pub fn params(&self) -> &[TypeRefId]
         ensures params { result.now ≡ self.now.params }
         ensures in_range { All (λ id. id < length self.now.store.nodes.types) result.now }
@@ -201,7 +204,7 @@ impl FunctionSignature {
         self.function.params.as_slice()
     }
 
-    /// The return type, where one is written. It is in the store.
+    /// Returns the return type, where one is written. It is in the store.
     pub fn ret_type(&self) -> Option<TypeRefId>
         ensures ret_type { result ≡ self.now.ret_type }
         ensures in_range { IfSome result (λ id. id < length self.now.store.nodes.types) }
@@ -209,42 +212,42 @@ impl FunctionSignature {
         self.function.ret_type
     }
 
-    /// The calling convention.
+    /// Returns the calling convention.
     pub fn abi(&self) -> &ExternAbi
         ensures { result.now ≡ self.now.abi }
     {
         &self.function.abi
     }
 
-    /// Whether it is `const`.
+    /// Returns whether it is `const`.
     pub fn is_const(&self) -> bool
         ensures { result ≡ self.now.is_const }
     {
         self.function.is_const
     }
 
-    /// Whether it is `async`.
+    /// Returns whether it is `async`.
     pub fn is_async(&self) -> bool
         ensures { result ≡ self.now.is_async }
     {
         self.function.is_async
     }
 
-    /// Whether it is `unsafe`.
+    /// Returns whether it is `unsafe`.
     pub fn is_unsafe(&self) -> bool
         ensures { result ≡ self.now.is_unsafe }
     {
         self.function.is_unsafe
     }
 
-    /// Whether it is written `safe`.
+    /// Returns whether it is written `safe`.
     pub fn is_explicit_safe(&self) -> bool
         ensures { result ≡ self.now.is_explicit_safe }
     {
         self.function.is_explicit_safe
     }
 
-    /// The places of the arguments for constant parameters, where there are any.
+    /// Returns the indices of the arguments for constant parameters, where the function has any.
     pub fn legacy_const_indices(&self) -> Option<&[u32]>
         ensures { option_map (λ list. list.now) result ≡ self.now.legacy_const_indices }
     {
@@ -292,7 +295,8 @@ pub struct StructSignature {
     structure: StructParts,
 }
 
-/// Drops the parts one after the other. It is written out so that it is proved once, and each drop of a value calls it.
+/// Drops the parts one after the other. This `impl` exists so that the drop is proved once, and is a call
+/// where a value is dropped.
 impl Drop for StructSignature {
     fn drop(self) {
         let StructSignature { structure } = self;
@@ -325,7 +329,8 @@ impl Model for StructSignature {
 }
 
 impl StructSignature {
-    /// Makes a signature of these parts, or answers their first fault and the parts as they were. It takes no memory.
+    /// Returns a signature of these parts, or their first fault and the parts as they were, without an
+    /// allocation.
     pub fn new(parts: StructParts) -> Result<StructSignature, RefusedSignature<StructParts>>
         ensures ok { IfOk result (λ made. (made ≡ parts) × struct_fault parts None) }
         ensures err { IfErr result (λ refused.
@@ -344,14 +349,14 @@ impl StructSignature {
         let _ = &self.structure;
     }
 
-    /// Its name.
+    /// Returns its name.
     pub fn name(&self) -> &Name
         ensures { result.now ≡ self.now.name }
     {
         &self.structure.name
     }
 
-    /// Its generic parameters. What they name is in the store.
+    /// Returns its generic parameters. What they name is in the store.
     pub fn generic_params(&self) -> &GenericParams
         ensures generic_params { result.now ≡ self.now.generic_params }
         ensures in_range { GenericsFit self.now.store.nodes result.now }
@@ -359,7 +364,7 @@ impl StructSignature {
         &self.structure.generic_params
     }
 
-    /// The types that the signature names.
+    /// Returns the types that the signature names.
     pub fn store(&self) -> &ExpressionStore
         ensures store { result.now ≡ self.now.store }
         ensures no_fault { contents_fault result.now None }
@@ -368,14 +373,14 @@ impl StructSignature {
         &self.structure.store
     }
 
-    /// Whether it is `#[fundamental]`.
+    /// Returns whether it is `#[fundamental]`.
     pub fn is_fundamental(&self) -> bool
         ensures { result ≡ self.now.is_fundamental }
     {
         self.structure.is_fundamental
     }
 
-    /// How its fields are written.
+    /// Returns how its fields are written.
     pub fn shape(&self) -> FieldsShape
         ensures { result ≡ self.now.shape }
     {
@@ -415,7 +420,8 @@ pub struct VariantFields {
     variant: VariantParts,
 }
 
-/// Drops the parts one after the other. It is written out so that it is proved once, and each drop of a value calls it.
+/// Drops the parts one after the other. This `impl` exists so that the drop is proved once, and is a call
+/// where a value is dropped.
 impl Drop for VariantFields {
     fn drop(self) {
         let VariantFields { variant } = self;
@@ -448,7 +454,8 @@ impl Model for VariantFields {
 }
 
 impl VariantFields {
-    /// Makes a signature of these parts, or answers their first fault and the parts as they were. It takes no memory.
+    /// Returns a signature of these parts, or their first fault and the parts as they were, without an
+    /// allocation.
     pub fn new(parts: VariantParts) -> Result<VariantFields, RefusedSignature<VariantParts>>
         ensures ok { IfOk result (λ made. (made ≡ parts) × fields_fault parts None) }
         ensures err { IfErr result (λ refused.
@@ -467,14 +474,14 @@ impl VariantFields {
         let _ = &self.variant;
     }
 
-    /// How the fields are written.
+    /// Returns how the fields are written.
     pub fn shape(&self) -> FieldsShape
         ensures { result ≡ self.now.shape }
     {
         self.variant.shape
     }
 
-    /// The fields, in their order. The type of each and its default are in the store.
+    /// Returns the fields, in their order. The type of each and its default are in the store.
     pub fn fields(&self) -> &[FieldData]
         ensures fields { result.now ≡ self.now.fields }
         ensures in_range { All (FieldFits self.now.store.nodes) result.now }
@@ -482,7 +489,7 @@ impl VariantFields {
         self.variant.fields.as_slice()
     }
 
-    /// The types and defaults that the fields name.
+    /// Returns the types and defaults that the fields name.
     pub fn store(&self) -> &ExpressionStore
         ensures store { result.now ≡ self.now.store }
         ensures no_fault { contents_fault result.now None }
@@ -525,7 +532,8 @@ pub struct PlainSignature {
     plain: PlainParts,
 }
 
-/// Drops the parts one after the other. It is written out so that it is proved once, and each drop of a value calls it.
+/// Drops the parts one after the other. This `impl` exists so that the drop is proved once, and is a call
+/// where a value is dropped.
 impl Drop for PlainSignature {
     fn drop(self) {
         let PlainSignature { plain } = self;
@@ -558,7 +566,8 @@ impl Model for PlainSignature {
 }
 
 impl PlainSignature {
-    /// Makes a signature of these parts, or answers their first fault and the parts as they were. It takes no memory.
+    /// Returns a signature of these parts, or their first fault and the parts as they were, without an
+    /// allocation.
     pub fn new(parts: PlainParts) -> Result<PlainSignature, RefusedSignature<PlainParts>>
         ensures ok { IfOk result (λ made. (made ≡ parts) × plain_fault parts None) }
         ensures err { IfErr result (λ refused.
@@ -577,7 +586,7 @@ impl PlainSignature {
         let _ = &self.plain;
     }
 
-    /// Its generic parameters. What they name is in the store.
+    /// Returns its generic parameters. What they name is in the store.
     pub fn generic_params(&self) -> &GenericParams
         ensures generic_params { result.now ≡ self.now.generic_params }
         ensures in_range { GenericsFit self.now.store.nodes result.now }
@@ -585,7 +594,7 @@ impl PlainSignature {
         &self.plain.generic_params
     }
 
-    /// The types that the signature names.
+    /// Returns the types that the signature names.
     pub fn store(&self) -> &ExpressionStore
         ensures store { result.now ≡ self.now.store }
         ensures no_fault { contents_fault result.now None }

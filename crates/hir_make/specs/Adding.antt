@@ -1,7 +1,9 @@
--- What a maker leaves in a builder: one node more, which comes last in its arena and whose id is the number of those before it; and why it is refused.
+-- What a helper leaves in a builder: one node more, which comes last in its arena and whose id is the number
+-- of those before it; and why it is refused.
 use Rattle.std.specs.Prelude.{◌≡◌, ◌⊎◌, ℕ, [], ◌∷◌, ◌++◌, length, Some}
 use Rattle.hir_base.specs.declared.arena.TheConstants.{MOST_ITEMS}
 use Rattle.hir_base.specs.declared.arena.ArenaFault.TheVariants.{Full, Memory}
+use Rattle.hir_path.specs.NodeIds.{ExprId, PatId, TypeRefId}
 use Rattle.hir_node.specs.declared.expr.Expr.{Expr}
 use Rattle.hir_node.specs.declared.pat.Pat.{Pat}
 use Rattle.hir_node.specs.declared.binding.Binding.{Binding}
@@ -27,14 +29,14 @@ with_binding b binding = record b { bindings = b.bindings ++ binding ∷ [] }
 abbrev pub with_type : ExpressionStoreBuilder → TypeRef → ExpressionStoreBuilder
 with_type b type_ref = record b { types = b.types ++ type_ref ∷ [] }
 
--- the expression is added to the old builder under this id, and nothing else changes; so with patterns and types
-abbrev pub AddsExpr : ExpressionStoreBuilder → Expr → ℕ → ExpressionStoreBuilder → Type 0
+-- the expression is added to the old builder under this id, and nothing else changes
+abbrev pub AddsExpr : ExpressionStoreBuilder → Expr → ExprId → ExpressionStoreBuilder → Type 0
 AddsExpr old expr id new = (id ≡ length old.exprs) × (new ≡ with_expr old expr)
 
-abbrev pub AddsPat : ExpressionStoreBuilder → Pat → ℕ → ExpressionStoreBuilder → Type 0
+abbrev pub AddsPat : ExpressionStoreBuilder → Pat → PatId → ExpressionStoreBuilder → Type 0
 AddsPat old pat id new = (id ≡ length old.pats) × (new ≡ with_pat old pat)
 
-abbrev pub AddsType : ExpressionStoreBuilder → TypeRef → ℕ → ExpressionStoreBuilder → Type 0
+abbrev pub AddsType : ExpressionStoreBuilder → TypeRef → TypeRefId → ExpressionStoreBuilder → Type 0
 AddsType old type_ref id new = (id ≡ length old.types) × (new ≡ with_type old type_ref)
 
 -- out of memory, or an arena of this length has no place left
@@ -42,7 +44,7 @@ abbrev pub IsRefusal : ℕ → HirError → Type 0
 IsRefusal count fault =
     (fault ≡ error.Arena Memory) ⊎ ((fault ≡ error.Arena Full) × (count ≡ MOST_ITEMS))
 
--- the expression is refused, and the builder is as it was; so with patterns and types
+-- the expression is refused, and the builder is as it was
 abbrev pub RefusesExpr : ExpressionStoreBuilder → HirError → ExpressionStoreBuilder → Type 0
 RefusesExpr old fault new = (new ≡ old) × IsRefusal (length old.exprs) fault
 

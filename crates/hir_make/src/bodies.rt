@@ -17,7 +17,7 @@ use std::alloc::Global;
 
 /// The parameters of a function that are these patterns, as the user wrote them.
 ///
-/// An error says that memory was refused.
+/// An error says that an allocation fails.
 pub fn params(alloc: Global, pats: &[PatId]) -> Result<Seq<Param<PatId>>, HirError>
     ensures ok { IfOk result (λ params. params ≡ params_of pats.now) }
     ensures err { IfErr result (λ fault. fault ≡ error.Arena Memory) }
@@ -32,11 +32,11 @@ pub fn params(alloc: Global, pats: &[PatId]) -> Result<Seq<Param<PatId>>, HirErr
     Ok(params)
 }
 
-/// The body of a function with these parameters, which evaluates `value`: `value` becomes the last root, and the builder is finished.
-/// Where the nodes come from isn't kept.
+/// The body of a function with these parameters, which evaluates `value`: `value` becomes the last root, and
+/// the builder is finished. Where the nodes come from isn't kept.
 ///
-/// An error says that memory was refused, or is the first fault of the builder with that root, or that of the body; the builder is
-/// dropped.
+/// An error says that an allocation fails, or is the first fault of the builder with that root, or that of
+/// the body; the builder is dropped.
 pub fn body(
     alloc: Global,
     mut builder: ExpressionStoreBuilder,

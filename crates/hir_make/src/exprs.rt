@@ -1,5 +1,6 @@
-//! Makers of expressions. Each adds one expression as the last of the builder and answers its id; all but `assign` add nothing else.
-//! An error says that memory was refused or that the builder has no id left; but for `assign` it leaves the builder as it was.
+//! Helpers that make expressions. Each adds one expression as the last of the builder and returns its id; all
+//! but `assign` add nothing else. An error says that an allocation fails or that the builder has no id left;
+//! but for `assign` it leaves the builder as it was.
 
 ghost use Rattle.std.specs.Prelude.{◌≡◌, ◌++◌, ◌∷◌, [], length, Some, None, IfOk, IfErr};
 ghost use Rattle.hir_path.specs.Paths.{one_name};
@@ -20,7 +21,7 @@ use std::alloc::{AllocError, Global};
 
 /// Adds the expression `name`, a path without hygiene.
 ///
-/// An error, where memory is refused or no id is left, leaves the builder as it was.
+/// An error, where an allocation fails or no id is left, leaves the builder as it was.
 pub fn local(
     alloc: Global,
     builder: &mut ExpressionStoreBuilder,
@@ -35,7 +36,7 @@ pub fn local(
 
 /// Adds the number `value`, which has no type written after it.
 ///
-/// An error, where memory is refused or no id is left, leaves the builder as it was.
+/// An error, where an allocation fails or no id is left, leaves the builder as it was.
 pub fn int(builder: &mut ExpressionStoreBuilder, value: i128) -> Result<ExprId, HirError>
     ensures ok { IfOk result (λ id. AddsExpr builder.old
         (Expr.Literal (literal.Int value None)) id builder.new) }
@@ -46,7 +47,7 @@ pub fn int(builder: &mut ExpressionStoreBuilder, value: i128) -> Result<ExprId, 
 
 /// Adds the tuple `(exprs)`.
 ///
-/// An error, where memory is refused or no id is left, leaves the builder as it was.
+/// An error, where an allocation fails or no id is left, leaves the builder as it was.
 pub fn tuple(
     alloc: Global,
     builder: &mut ExpressionStoreBuilder,
@@ -61,7 +62,7 @@ pub fn tuple(
 
 /// Adds the call `callee(args)`.
 ///
-/// An error, where memory is refused or no id is left, leaves the builder as it was.
+/// An error, where an allocation fails or no id is left, leaves the builder as it was.
 pub fn call(
     alloc: Global,
     builder: &mut ExpressionStoreBuilder,
@@ -77,7 +78,7 @@ pub fn call(
 
 /// Adds the call `receiver.name(args)`, without generic arguments.
 ///
-/// An error, where memory is refused or no id is left, leaves the builder as it was.
+/// An error, where an allocation fails or no id is left, leaves the builder as it was.
 pub fn method_call(
     alloc: Global,
     builder: &mut ExpressionStoreBuilder,
@@ -104,7 +105,7 @@ pub fn method_call(
 
 /// Adds `expr.name`, or `expr.0` where the name is the number of a field of a tuple.
 ///
-/// An error, where memory is refused or no id is left, leaves the builder as it was.
+/// An error, where an allocation fails or no id is left, leaves the builder as it was.
 pub fn field(
     alloc: Global,
     builder: &mut ExpressionStoreBuilder,
@@ -120,7 +121,7 @@ pub fn field(
 
 /// Adds `&expr` or `&mut expr`.
 ///
-/// An error, where memory is refused or no id is left, leaves the builder as it was.
+/// An error, where an allocation fails or no id is left, leaves the builder as it was.
 pub fn reference(
     builder: &mut ExpressionStoreBuilder,
     expr: ExprId,
@@ -140,9 +141,10 @@ pub fn reference(
     )
 }
 
-/// Adds `if condition then_branch`, with `else else_branch` where there is one. Each branch is a block, and the second may be another `if`.
+/// Adds `if condition then_branch`, with `else else_branch` where there is one. Each branch is a block, and
+/// the second may be another `if`.
 ///
-/// An error, where memory is refused or no id is left, leaves the builder as it was.
+/// An error, where an allocation fails or no id is left, leaves the builder as it was.
 pub fn if_(
     builder: &mut ExpressionStoreBuilder,
     condition: ExprId,
@@ -163,9 +165,11 @@ pub fn if_(
     )
 }
 
-/// Adds the assignment `name = value`, and before it the pattern `name`, a path without hygiene, which it assigns to.
+/// Adds the assignment `name = value`, and before it the pattern `name`, a path without hygiene, which it
+/// assigns to.
 ///
-/// An error, where memory is refused or no id is left, leaves the builder as it was, or with that pattern alone.
+/// An error, where an allocation fails or no id is left, leaves the builder as it was, or with that pattern
+/// alone.
 pub fn assign(
     alloc: Global,
     builder: &mut ExpressionStoreBuilder,
@@ -185,7 +189,7 @@ pub fn assign(
 
 /// Adds the closure `|args| body`, which has no types written and isn't `move`.
 ///
-/// An error, where memory is refused or no id is left, leaves the builder as it was.
+/// An error, where an allocation fails or no id is left, leaves the builder as it was.
 pub fn closure(
     alloc: Global,
     builder: &mut ExpressionStoreBuilder,
@@ -219,7 +223,7 @@ fn no_types(alloc: Global, args: &[PatId]) -> Result<Seq<Option<TypeRefId>>, All
 
 /// Adds the block `{ statements tail }`, which has no label, isn't unsafe and holds no items.
 ///
-/// An error, where memory is refused or no id is left, leaves the builder as it was.
+/// An error, where an allocation fails or no id is left, leaves the builder as it was.
 pub fn block(
     builder: &mut ExpressionStoreBuilder,
     statements: Vec<Statement>,

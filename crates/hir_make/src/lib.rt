@@ -1,4 +1,5 @@
-//! Makers of expressions, patterns, types and statements, for whoever builds a body by hand. Each says in its contract which node it adds.
+//! Helpers that make expressions, patterns, types and statements of a body by hand. The contract of each says
+//! which node it adds.
 #![tactic(auto)]
 
 mod adding;

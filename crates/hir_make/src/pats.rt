@@ -1,5 +1,6 @@
-//! Makers of patterns. Each adds one pattern as the last of the builder and answers its id; `bind` adds a binding before it.
-//! An error says that memory was refused or that the builder has no id left; but for `bind` it leaves the builder as it was.
+//! Helpers that make patterns. Each adds one pattern as the last of the builder and returns its id; `bind`
+//! adds a binding before it. An error says that an allocation fails or that the builder has no id left; but
+//! for `bind` it leaves the builder as it was.
 
 ghost use Rattle.std.specs.Prelude.{◌≡◌, length, Some, None, IfOk, IfErr};
 ghost use Rattle.hir_path.specs.Paths.{one_name};
@@ -15,7 +16,8 @@ use std::alloc::Global;
 
 /// Adds the pattern `name`, and before it a new binding of that name, without `mut`, `ref` or hygiene.
 ///
-/// An error, where memory is refused or no id is left, leaves the builder as it was, or with the binding alone.
+/// An error, where an allocation fails or no id is left, leaves the builder as it was, or with the binding
+/// alone.
 pub fn bind(
     alloc: Global,
     builder: &mut ExpressionStoreBuilder,
@@ -38,7 +40,7 @@ pub fn bind(
 
 /// Adds the pattern `(args)`, without `..`.
 ///
-/// An error, where memory is refused or no id is left, leaves the builder as it was.
+/// An error, where an allocation fails or no id is left, leaves the builder as it was.
 pub fn tuple_pat(
     alloc: Global,
     builder: &mut ExpressionStoreBuilder,
@@ -59,7 +61,7 @@ pub fn tuple_pat(
 
 /// Adds the pattern `name(args)`, as `Some(x)`, without `..`.
 ///
-/// An error, where memory is refused or no id is left, leaves the builder as it was.
+/// An error, where an allocation fails or no id is left, leaves the builder as it was.
 pub fn tuple_struct(
     alloc: Global,
     builder: &mut ExpressionStoreBuilder,

@@ -1,4 +1,4 @@
-//! Makers of statements. They take no memory and can't be refused.
+//! Helpers that make statements. They take no memory and can't be refused.
 
 ghost use Rattle.std.specs.Prelude.{◌≡◌, Some, None, true};
 

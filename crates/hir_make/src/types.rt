@@ -1,4 +1,4 @@
-//! Makers of types and of the bounds of a `where` clause.
+//! Helpers that make types and the bounds of a `where` clause.
 
 ghost use Rattle.std.specs.Prelude.{◌≡◌, None, IfOk, IfErr};
 ghost use Rattle.hir_path.specs.Paths.{one_name};
@@ -11,9 +11,9 @@ use hir_node::{PathId, TraitBoundModifier, TypeBound, TypeRef, TypeRefId};
 use hir_store::ExpressionStoreBuilder;
 use std::alloc::Global;
 
-/// Adds the type `name`, a path, and answers its id.
+/// Adds the type `name`, a path, and returns its id.
 ///
-/// An error, where memory is refused or no id is left, leaves the builder as it was.
+/// An error, where an allocation fails or no id is left, leaves the builder as it was.
 pub fn path_type(
     alloc: Global,
     builder: &mut ExpressionStoreBuilder,
@@ -26,8 +26,8 @@ pub fn path_type(
     add_type(builder, TypeRef::Path(path))
 }
 
-/// `target: trait_`, of a type and of a type that is the path of a trait, as `path_type` makes it. A store or a signature refuses a
-/// bound whose trait isn't a path. It takes no memory and can't be refused.
+/// `target: trait_`, of a type and of a type that is the path of a trait, as `path_type` makes it. A store or
+/// a signature refuses a bound whose trait isn't a path. It takes no memory and can't be refused.
 pub fn where_bound(target: TypeRefId, trait_: TypeRefId) -> WherePredicate
     ensures { result ≡ WherePredicate.TypeBound None target (TypeBound.Path trait_ TraitBoundModifier.None) }
 {

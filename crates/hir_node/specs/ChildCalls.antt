@@ -1,7 +1,9 @@
--- The child calls of a node: what a visitor is called with, in which order. One clause a variant. An absent part gives no call.
--- The children of a node come from them. The other ids that a node names are in `OtherIds`.
-use Rattle.std.specs.Prelude.{ℕ, List, [], ◌∷◌, ◌++◌, Option, Some, None}
+-- Defines the child calls of a node: what a visitor is called with, and in which order. There is one clause
+-- a variant. An absent part gives no call. The children of a node are those of its child calls. The other ids
+-- that a node names are in `OtherIds`.
+use Rattle.std.specs.Prelude.{List, [], ◌∷◌, ◌++◌, Option, Some, None}
 use Rattle.std.specs.List.{flat_map}
+use Rattle.hir_path.specs.NodeIds.{ExprId, PatId, TypeRefId, LifetimeRefId}
 use Rattle.hir_path.specs.declared.bound.TypeBound.{TypeBound}
 use Rattle.hir_path.specs.declared.bound.TypeBound.TheVariants as bound
 use Rattle.hir_path.specs.declared.bound.UseArgRef.{UseArgRef}
@@ -29,41 +31,42 @@ use Rattle.hir_node.specs.declared.expr.Expr.TheVariants as expr
 use Rattle.hir_node.specs.declared.node_id.NodeId.{NodeId}
 use Rattle.hir_node.specs.declared.node_id.NodeId.TheVariants as node
 
--- a call of a visitor: with an expression, an anonymous constant (an expression that sees no local variables), a pattern, a type, a lifetime
+-- a call of a visitor, with an expression, an anonymous constant (an expression that sees no local
+-- variables), a pattern, a type or a lifetime
 pub data Call : Type 0 where
-  OnExpr : ℕ → Call
-  OnAnonConst : ℕ → Call
-  OnPat : ℕ → Call
-  OnType : ℕ → Call
-  OnLifetime : ℕ → Call
+  OnExpr : ExprId → Call
+  OnAnonConst : ExprId → Call
+  OnPat : PatId → Call
+  OnType : TypeRefId → Call
+  OnLifetime : LifetimeRefId → Call
 
--- one call of each
-abbrev pub e : ℕ → List Call
+-- the list of one call, of each kind
+abbrev pub e : ExprId → List Call
 e id = OnExpr id ∷ []
 
-abbrev pub a : ℕ → List Call
+abbrev pub a : ExprId → List Call
 a id = OnAnonConst id ∷ []
 
-abbrev pub p : ℕ → List Call
+abbrev pub p : PatId → List Call
 p id = OnPat id ∷ []
 
-abbrev pub t : ℕ → List Call
+abbrev pub t : TypeRefId → List Call
 t id = OnType id ∷ []
 
-abbrev pub l : ℕ → List Call
+abbrev pub l : LifetimeRefId → List Call
 l id = OnLifetime id ∷ []
 
--- the calls of a part, where it is there
+-- the calls of a part that may be absent
 abbrev pub opt : {X : Type 0} → (X → List Call) → Option X → List Call
 opt calls None = []
 opt calls (Some x) = calls x
 
--- what a bound `use<..>` lists: its lifetimes
+-- the calls of what a bound `use<..>` lists: one for each lifetime
 abbrev pub use_calls : UseArgRef → List Call
 use_calls (use_arg.Name name) = []
 use_calls (use_arg.Lifetime id) = l id
 
--- a bound
+-- the calls of a bound
 abbrev pub bound_calls : TypeBound → List Call
 bound_calls (bound.Path id modifier) = t id
 bound_calls (bound.ForLifetime names id) = t id
@@ -71,39 +74,42 @@ bound_calls (bound.Lifetime id) = l id
 bound_calls (bound.Use args) = flat_map use_calls args
 bound_calls bound.Error = []
 
--- one generic argument
+-- the calls of one generic argument
 abbrev pub arg_calls : GenericArg → List Call
 arg_calls (arg.Ty id) = t id
 arg_calls (arg.Lifetime id) = l id
 arg_calls (arg.Const constant) = a constant.expr
 
--- an associated type binding, with calls in place of its own arguments: these, its type, its bounds
+-- one layer of an associated type binding, with calls in place of its own arguments: these calls, its type,
+-- its bounds
 abbrev pub binding_layer : AssociatedTypeBinding-F (List Call) (List Call) → List Call
 binding_layer b = opt (λ calls. calls) b.args ++ opt t b.type_ref ++ flat_map bound_calls b.bounds
 
--- generic arguments, with calls in place of each binding: each argument, then each binding
+-- one layer of generic arguments, with calls in place of each binding: each argument, then the calls of each
+-- binding
 abbrev pub args_layer : GenericArgs-F (List Call) (List Call) → List Call
 args_layer x = flat_map arg_calls x.args ++ flat_map (λ calls. calls) x.bindings
 
--- generic arguments: each argument; then for each binding its own generic arguments, its type, its bounds
+-- the calls of generic arguments: each argument; then for each binding its own generic arguments, its type,
+-- its bounds
 abbrev pub args_calls : GenericArgs → List Call
 args_calls = fold-GenericArgs (List Call) (List Call) binding_layer args_layer
 
--- an associated type binding: its own generic arguments, its type, its bounds
+-- the calls of an associated type binding: its own generic arguments, its type, its bounds
 abbrev pub binding_calls : AssociatedTypeBinding → List Call
 binding_calls = fold-AssociatedTypeBinding (List Call) (List Call) binding_layer args_layer
 
--- for each segment its generic arguments; then the anchor
+-- the calls of a normal path: the generic arguments of each segment, then the anchor
 abbrev pub normal_path_calls : NormalPath → List Call
 normal_path_calls n = flat_map (opt args_calls) n.generic_args ++ opt t n.type_anchor
 
--- a path
+-- the calls of a path
 abbrev pub path_calls : Path → List Call
 path_calls (path.BarePath mod_path) = []
 path_calls (path.Normal normal) = normal_path_calls normal
 path_calls (path.LangItem target name) = []
 
--- what comes after the fields of a record literal
+-- the calls of what comes after the fields of a record literal
 abbrev pub spread_calls : RecordSpread → List Call
 spread_calls spread.None = []
 spread_calls spread.FieldDefaults = []
@@ -113,11 +119,11 @@ abbrev pub array_calls : Array → List Call
 array_calls (array.ElementList elements) = flat_map e elements
 array_calls (array.Repeat initializer repeat) = e initializer ++ a repeat
 
--- the body, the guard, the pattern
+-- the calls of a match arm: the body, the guard, the pattern
 abbrev pub arm_calls : MatchArm → List Call
 arm_calls arm = e arm.expr ++ opt e arm.guard ++ p arm.pat
 
--- of a `let` the initializer, the else branch, the pattern, the type
+-- the calls of a statement; of a `let` the initializer, the else branch, the pattern, the type
 abbrev pub statement_calls : Statement → List Call
 statement_calls (statement.Let pat type_ref initializer else_branch) =
     opt e initializer ++ opt e else_branch ++ p pat ++ opt t type_ref
@@ -196,7 +202,7 @@ type_calls type.Placeholder = []
 type_calls (type.TypeParam param) = []
 type_calls type.Error = []
 
--- the node that a call is made with, where it is one
+-- the node that a call is made with, if it is one
 abbrev pub child : Call → List NodeId
 child (OnExpr id) = node.Expr id ∷ []
 child (OnAnonConst id) = node.Expr id ∷ []
@@ -208,8 +214,8 @@ child (OnLifetime id) = []
 abbrev pub children : List Call → List NodeId
 children calls = flat_map child calls
 
--- the pattern that a call is made with, where it is one
-abbrev pub pat_of_call : Call → List ℕ
+-- the pattern that a call is made with, if it is one
+abbrev pub pat_of_call : Call → List PatId
 pat_of_call (OnPat id) = id ∷ []
 pat_of_call (OnExpr id) = []
 pat_of_call (OnAnonConst id) = []
@@ -217,5 +223,5 @@ pat_of_call (OnType id) = []
 pat_of_call (OnLifetime id) = []
 
 -- the patterns among the child calls of a pattern
-abbrev pub child_pats : Pat → List ℕ
+abbrev pub child_pats : Pat → List PatId
 child_pats x = flat_map pat_of_call (pat_calls x)

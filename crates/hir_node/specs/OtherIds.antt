@@ -1,13 +1,15 @@
--- The ids that a node names and that aren't child calls: the binding of a pattern, and the label of an expression.
-use Rattle.std.specs.Prelude.{ℕ, List, [], ◌∷◌}
+-- Defines the ids that a node names other than by child calls: the binding of a pattern, and the label of an
+-- expression.
+use Rattle.std.specs.Prelude.{List, [], ◌∷◌}
 use Rattle.std.specs.Option.{option_to_list}
+use Rattle.hir_path.specs.NodeIds.{BindingId, LabelId}
 use Rattle.hir_node.specs.declared.pat.Pat.{Pat}
 use Rattle.hir_node.specs.declared.pat.Pat.TheVariants as pat
 use Rattle.hir_node.specs.declared.expr.Expr.{Expr}
 use Rattle.hir_node.specs.declared.expr.Expr.TheVariants as expr
 
 -- the label that a block or a loop has, or that a jump goes to
-abbrev pub expr_labels : Expr → List ℕ
+abbrev pub expr_labels : Expr → List LabelId
 expr_labels (expr.Block id statements tail label unsafe_) = option_to_list label
 expr_labels (expr.Loop body label source) = option_to_list label
 expr_labels (expr.Break expr label) = option_to_list label
@@ -41,8 +43,8 @@ expr_labels (expr.Literal literal) = []
 expr_labels expr.Underscore = []
 expr_labels expr.IncludeBytes = []
 
--- the binding that a pattern brings into scope
-abbrev pub pat_bindings : Pat → List ℕ
+-- the binding of a `Bind` pattern
+abbrev pub pat_bindings : Pat → List BindingId
 pat_bindings (pat.Bind id subpat) = id ∷ []
 pat_bindings (pat.Range start end range_type) = []
 pat_bindings (pat.Lit id) = []

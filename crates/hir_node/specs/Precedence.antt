@@ -1,4 +1,4 @@
--- How tightly each expression binds.
+-- Defines how tightly each expression binds.
 use Rattle.std.specs.Prelude.{Option, Some, None}
 use Rattle.hir_base.specs.declared.prec.ExprPrecedence.{ExprPrecedence}
 use Rattle.hir_base.specs.declared.prec.ExprPrecedence.TheVariants.{Jump, Assign, LOr, LAnd, Compare, BitOr, BitXor, BitAnd, Shift, Sum, Product, Cast, Prefix, Postfix, Unambiguous}
@@ -10,7 +10,7 @@ use Rattle.hir_base.specs.declared.operators.BinaryOp.TheVariants as binary
 use Rattle.hir_node.specs.declared.expr.Expr.{Expr}
 use Rattle.hir_node.specs.declared.expr.Expr.TheVariants as expr
 
--- an operator on numbers or bits
+-- the precedence of an operator on numbers or bits
 abbrev pub of_arith : ArithOp → ExprPrecedence
 of_arith arith.Add = Sum
 of_arith arith.Sub = Sum
@@ -23,7 +23,7 @@ of_arith arith.BitXor = BitXor
 of_arith arith.BitOr = BitOr
 of_arith arith.BitAnd = BitAnd
 
--- an operator between two expressions, which may be missing
+-- the precedence of an operator between two expressions, which may be missing
 abbrev pub of_operator : Option BinaryOp → ExprPrecedence
 of_operator None = Unambiguous
 of_operator (Some (binary.LogicOp logic.Or)) = LOr

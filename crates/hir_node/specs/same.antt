@@ -1,4 +1,5 @@
--- Only proofs, that `==` of each type decides whether two values are the same: they are here since code and the crates above cite them.
+-- Proofs alone, that `==` of each type decides whether two values are the same. They are in specs, since
+-- code and the crates above cite them.
 pub mod Leaves
 pub mod SameExprs
 pub mod SameLiterals

@@ -1,4 +1,4 @@
-//! Bindings: the variables that patterns bring into scope; and labels of blocks and loops.
+//! Bindings, which are the variables that patterns bind, and labels of blocks and loops.
 ghost use Rattle.std.specs.Prelude.{◌≡◌};
 ghost use Rattle.hir_base.specs.Exact.{exact};
 
@@ -34,7 +34,7 @@ pub enum BindingAnnotation {
 impl BindingAnnotation {
     ghost use Rattle.hir_node.specs.Annotations.{annotation};
 
-    /// The words that say whether the binding is mutable and whether it is a reference.
+    /// Returns the words that say whether the binding is mutable and whether it is a reference.
     pub fn new(is_mutable: bool, is_ref: bool) -> BindingAnnotation
         ensures { result ≡ annotation is_mutable is_ref }
     {
@@ -60,9 +60,9 @@ impl TryClone for BindingAnnotation {
 pub enum BindingProblems {
     /// Its pattern binds the name more than once.
     BoundMoreThanOnce,
-    /// The sides of an or-pattern bind it by different words.
+    /// The sides of an or-pattern bind the name with different words.
     BoundInconsistently,
-    /// Not all sides of an or-pattern bind it.
+    /// Not all sides of an or-pattern bind the name.
     NotBoundAcrossAll,
 }
 
@@ -74,7 +74,7 @@ impl TryClone for BindingProblems {
     ghost clone_is_same = { Prim.search exact };
 }
 
-/// A variable that a pattern brings into scope.
+/// A variable that a pattern binds.
 #[derive(Drop, Clone, PartialEq, Eq)]
 pub struct Binding {
     pub name: Name,

@@ -1,4 +1,4 @@
-//! An iterator over the child patterns of a pattern: the code lists them here, and nowhere else.
+//! An iterator over the child patterns of a pattern: only this file of the code lists them.
 ghost use Rattle.std.specs.Prelude.{◌≡◌, ⊤};
 ghost use Rattle.std.specs.Iterator.{YieldsFirst, item_count};
 
@@ -8,9 +8,10 @@ use std::alloc::AllocError;
 use std::iter::FusedIterator;
 use std::marker::Model;
 
-/// An iterator over the child patterns of a pattern. A contract sees it as the list of those that are left.
+/// An iterator over the child patterns of a pattern. It is modelled as the list of those that are left.
 ///
-/// It yields what a pattern holds in this order: a list, the fields of a record, one pattern, another list. Each may be empty.
+/// It yields what a pattern holds in this order: a list, the fields of a record, one pattern, another list.
+/// Each may be absent or empty.
 #[derive(Drop)]
 pub struct ChildPats<'a> {
     front: &'a [PatId],
@@ -74,7 +75,7 @@ impl<'a> FusedIterator for ChildPats<'a> {}
 impl Pat {
     ghost use Rattle.hir_node.specs.ChildCalls.{child_pats};
 
-    /// The patterns that this one names, in the order of the child calls. It takes no memory.
+    /// Returns the patterns that this one names, in the order of the child calls. It takes no memory.
     pub fn child_pats(&self) -> ChildPats<'_>
         ensures { result ≡ child_pats self.now }
     {

@@ -14,7 +14,8 @@ use hir_path::Boxed;
 
 impl Expr {
     /// Calls the visitor with each child, in the order of the child calls.
-    // One arm a variant: split, the function would name variants twice. Each field is named, so that a new one can't be overlooked.
+    // One arm a variant: if it were split, the function would name variants twice. Each field is named, so
+    // that a new one can't be overlooked.
     pub fn visit_children<V: StoreVisitor>(&self, visitor: &mut V)
         requires { MayRun V.may V.step visitor.old (expr_calls self.now) }
         ensures { Runs V.step visitor.old (expr_calls self.now) visitor.new }
@@ -131,7 +132,7 @@ impl Expr {
     }
 }
 
-/// What is spread after the fields of a record literal.
+/// Visits what is spread after the fields of a record literal.
 fn visit_spread<V: StoreVisitor>(visitor: &mut V, spread: RecordSpread)
     requires { MayRun V.may V.step visitor.old (spread_calls spread) }
     ensures { Runs V.step visitor.old (spread_calls spread) visitor.new }

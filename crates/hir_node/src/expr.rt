@@ -15,11 +15,11 @@ use hir_base::{
 use hir_path::{Boxed, ExprId, GenericArgs, LabelId, PatId, Path, TypeRefId};
 use std::alloc::AllocError;
 
-/// An expression. It takes 64 bytes. The compiler lays fields out in this order, and the fields of a record literal lie in a box, as they
-/// would make all expressions larger.
+/// An expression. It takes 64 bytes. The compiler lays fields out in this order. The fields of a record
+/// literal are in a box, since they would make all expressions larger.
 #[derive(Drop, PartialEq, Eq)]
 pub enum Expr {
-    /// Nothing was there.
+    /// No expression was written.
     Missing,
     /// `_`, on the left of an assignment.
     Underscore,
@@ -118,8 +118,8 @@ pub enum Expr {
         rhs: ExprId,
         op: Option<BinaryOp>,
     },
-    /// `=`. Its left side is a pattern, whose paths and expressions are those that are written: `x = 1` has the target `Pat::Path(x)`, and
-    /// `v[0] = 1` the target `Pat::Expr` of the index.
+    /// `=`. Its left side is a pattern, whose paths and expressions are those that are written: `x = 1` has
+    /// the target `Pat::Path(x)`, and `v[0] = 1` the target `Pat::Expr` of the index.
     Assignment {
         target: PatId,
         value: ExprId,
@@ -130,9 +130,9 @@ pub enum Expr {
     },
     Closure {
         args: ShortList<PatId>,
-        /// For each parameter its type, where one is written.
+        /// The type of each parameter, where one is written.
         arg_types: Seq<Option<TypeRefId>>,
-        /// The type behind `->`.
+        /// The type after `->`.
         ret_type: Option<TypeRefId>,
         body: ExprId,
         closure_kind: ClosureKind,
@@ -146,12 +146,12 @@ pub enum Expr {
 impl Expr {
     ghost use Rattle.hir_node.specs.Precedence.{precedence};
 
-    /// How tightly the expression binds, by the Rust Reference, "Expression precedence", and for what it doesn't list by the table
-    /// `precedence` of the specs.
+    /// Returns how tightly the expression binds, by the Rust Reference, "Expression precedence", and for
+    /// what it doesn't list by the table `precedence` of the specs.
     pub fn precedence(&self) -> ExprPrecedence
         ensures { result ≡ precedence self.now }
     {
-        // Here and wherever a node is destructured each field is named, so that a new one can't be overlooked.
+        // Each field is named, as in every match on a node, so that a new one can't be overlooked.
         match self {
             Expr::Array(_)
             | Expr::Block {
@@ -229,7 +229,7 @@ impl Expr {
     }
 }
 
-/// The precedence of an expression with this operator between its two sides.
+/// Returns the precedence of an expression with this operator between its two sides.
 fn binary_precedence(op: Option<BinaryOp>) -> ExprPrecedence
     ensures { result ≡ of_operator op }
 {
@@ -243,7 +243,7 @@ fn binary_precedence(op: Option<BinaryOp>) -> ExprPrecedence
     }
 }
 
-/// The precedence of an expression with this operator on numbers or bits.
+/// Returns the precedence of an expression with this operator on numbers or bits.
 fn arith_precedence(op: ArithOp) -> ExprPrecedence
     ensures { result ≡ of_arith op }
 {
@@ -393,7 +393,7 @@ impl Clone for Expr {
     }
 }
 
-/// A method call with copies of these parts.
+/// Returns a method call with copies of these parts.
 fn clone_method_call(
     receiver: ExprId,
     method_name: &Name,
@@ -410,7 +410,7 @@ fn clone_method_call(
     })
 }
 
-/// A record literal with copies of these parts.
+/// Returns a record literal with copies of these parts.
 fn clone_record_lit(
     path: &Path,
     fields: &Boxed<Seq<RecordLitField>>,
@@ -418,7 +418,7 @@ fn clone_record_lit(
 ) -> Result<Expr, AllocError>
     ensures { IfOk result (λ copy. copy ≡ Expr.RecordLit path.now fields.now spread) }
 {
-    // The fields first: where the path can't be cloned, what is dropped isn't a path.
+    // The fields come first: if the path can't be cloned, what is dropped isn't a path.
     Ok(Expr::RecordLit {
         fields: fields.try_clone()?,
         path: path.try_clone()?,
@@ -426,7 +426,7 @@ fn clone_record_lit(
     })
 }
 
-/// Copies of the lists of a closure's parameters and of their types.
+/// Returns copies of the lists of a closure's parameters and of their types.
 fn clone_params(
     args: &ShortList<PatId>,
     arg_types: &Seq<Option<TypeRefId>>,

@@ -1,4 +1,5 @@
-//! The types that expressions are made of: statements, match arms, fields, and the kinds of loops, closures and arrays.
+//! The types that expressions are made of: statements, match arms, fields, and the kinds of loops, closures
+//! and arrays.
 ghost use Rattle.std.specs.Prelude.{◌≡◌};
 ghost use Rattle.hir_base.specs.Exact.{exact};
 
@@ -55,7 +56,7 @@ impl TryClone for LoopSource {
     ghost clone_is_same = { Prim.search exact };
 }
 
-/// The place of a field in a type, as `offset_of!` asks for it.
+/// The path to a field in a type, as `offset_of!` names it.
 #[derive(Drop, Clone, PartialEq, Eq)]
 pub struct OffsetOf {
     pub container: TypeRefId,
@@ -90,14 +91,14 @@ impl TryClone for CoroutineKind {
     ghost clone_is_same = { Prim.search exact };
 }
 
-/// What a closure expression makes.
+/// The value of a closure expression.
 #[derive(Clone, Copy, PartialEq, Eq, Hash)]
 pub enum ClosureKind {
     /// A closure.
     Closure,
     /// A coroutine of the old form, a closure that yields.
     OldCoroutine(Movability),
-    /// A coroutine: an expression of this kind makes it in place.
+    /// A coroutine, which an expression of this kind makes in place.
     Coroutine {
         kind: CoroutineKind,
         source: CoroutineSource,

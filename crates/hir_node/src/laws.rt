@@ -1,5 +1,5 @@
-//! Laws that a reader relies on and that no call's contract states.
-//! Each is a function with no body to run: its contract is the law, proved for every value.
+//! Theorems that a reader relies on and that no call's contract states.
+//! Each is a function with an empty body: its contract is the theorem, proved for every value.
 ghost use Rattle.std.specs.Prelude.{◌≡◌, ◌++◌};
 ghost use Rattle.std.specs.List.{flat_map};
 ghost use Rattle.hir_node.specs.ChildCalls.{t, opt, arg_calls, args_calls, binding_calls, bound_calls};
@@ -14,7 +14,8 @@ pub fn calls_of_generic_args(args: &GenericArgs)
         args_calls args.now ≡ flat_map arg_calls held.args ++ flat_map binding_calls held.bindings }
 {}
 
-/// The child calls of an associated type binding are those of its own generic arguments, its type, and those of its bounds.
+/// The child calls of an associated type binding are those of its own generic arguments, its type, and those
+/// of its bounds.
 pub fn calls_of_binding(binding: &AssociatedTypeBinding)
     ensures { let held = out-AssociatedTypeBinding binding.now in
         binding_calls binding.now

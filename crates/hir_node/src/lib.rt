@@ -1,5 +1,7 @@
-//! The nodes of lowered bodies and signatures: expressions, patterns and types. Paths and ids are re-exported from `hir_path`.
-//! A node names others by their ids alone; which it names, and in which order, is the one table `ChildCalls` of the specs.
+//! The nodes of lowered bodies and signatures: expressions, patterns and types. Paths and ids are
+//! re-exported from `hir_path`.
+//! A node names others by their ids alone. The table `ChildCalls` of the specs alone says which it names,
+//! and in which order.
 #![tactic(auto)]
 
 mod binding;

@@ -7,7 +7,8 @@ use hir_path::PatId;
 use std::fmt;
 use std::marker::Model;
 
-/// A floating point number, kept as its text so that it is rounded once, by whoever reads it as a number.
+/// A floating point number, kept as its text so that it is rounded once, by the caller that reads it as a
+/// number.
 #[derive(Drop, Clone, PartialEq, Eq)]
 pub struct FloatTypeWrapper(Text);
 
@@ -22,14 +23,14 @@ impl Model for FloatTypeWrapper {
 }
 
 impl FloatTypeWrapper {
-    /// The number with this text.
+    /// Returns the number with this text.
     pub fn new(text: Text) -> FloatTypeWrapper
         ensures { result ≡ text }
     {
         FloatTypeWrapper(text)
     }
 
-    /// The text of the number.
+    /// Returns the text of the number.
     pub fn as_str(&self) -> &str
         ensures { result.now ≡ self.now }
     {
@@ -37,7 +38,7 @@ impl FloatTypeWrapper {
     }
 }
 
-/// The text of the number, as it is.
+/// Writes the text of the number, unchanged.
 impl fmt::Display for FloatTypeWrapper {
     ghost output = { λ number. Some number };
 

@@ -6,7 +6,8 @@ use hir_base::ExactEq;
 use hir_path::{ExprId, PatId, TypeRefId};
 use std::fmt;
 
-/// A node: an expression, a pattern or a type, by its id. Its text is the kind of id and the number, as `ExprId(3)`.
+/// A node: an expression, a pattern or a type, by its id. Its text is the kind of id and the number, as
+/// `ExprId(3)`.
 #[derive(Clone, Copy, Drop, PartialEq, Eq)]
 pub enum NodeId {
     Expr(ExprId),
@@ -32,7 +33,7 @@ impl fmt::Display for NodeId {
     }
 }
 
-/// Writes the same text.
+/// Writes the text that `Display` writes.
 impl fmt::Debug for NodeId {
     ghost use Rattle.hir_node.specs.NodeText.{node_text};
 

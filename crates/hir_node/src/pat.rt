@@ -26,7 +26,7 @@ impl TryClone for RecordFieldPat {
 /// A pattern. It takes 64 bytes, as an expression does.
 #[derive(Drop, PartialEq, Eq)]
 pub enum Pat {
-    /// Nothing was there.
+    /// No pattern was written.
     Missing,
     /// `..`
     Rest,
@@ -53,17 +53,19 @@ pub enum Pat {
     },
     Slice {
         prefix: ShortList<PatId>,
-        /// What is between the first items and the last.
+        /// The pattern between the first items and the last.
         slice: Option<PatId>,
         suffix: ShortList<PatId>,
     },
-    /// A constant, or a variant without fields. On the left of an assignment it may also be a variable, as the `a` of `(a, b) = c`.
+    /// A constant, or a variant without fields. On the left of an assignment it may also be a variable, as
+    /// the `a` of `(a, b) = c`.
     Path(Path),
-    /// A literal, as the `1` and the `-2` of `match x { 1 | -2 => .. }`. It may be wherever a pattern may; its expression is an
-    /// `Expr::Literal`, with the sign of a negative number in it.
+    /// A literal, as the `1` and the `-2` of `match x { 1 | -2 => .. }`. It may be anywhere that a pattern
+    /// may be; its expression is an `Expr::Literal`, with the sign of a negative number in it.
     Lit(ExprId),
-    /// An expression that is assigned to. It is only on the left of an assignment, in the pattern that is its `target`: the `*b`
-    /// of `(a, *b) = (1, 2)` is the second argument of a `Tuple`. A store accepts it anywhere.
+    /// An expression that is assigned to. It is only on the left of an assignment, in the pattern that is
+    /// its `target`: the `*b` of `(a, *b) = (1, 2)` is the second argument of a `Tuple`. A store accepts it
+    /// anywhere.
     Expr(ExprId),
     Bind {
         id: BindingId,
@@ -91,7 +93,8 @@ pub enum Pat {
 impl Pat {
     ghost use Rattle.hir_node.specs.ChildCalls.{child_pats};
 
-    /// Runs the closure on each pattern that this one names, in the order of the child calls: a `for` over `child_pats`.
+    /// Runs the closure on each pattern that this one names, in the order of the child calls: a `for` over
+    /// `child_pats`.
     pub fn walk_child_pats<F: FnMut(PatId)>(&self, f: &mut F)
         requires { F.IsAlwaysCallable f.old }
         ensures runs { FoldsTo (λ p x q. F.step p x tt q) f.old (child_pats self.now) f.new }
@@ -162,11 +165,11 @@ impl Clone for Pat {
     }
 }
 
-/// A record pattern with copies of these parts.
+/// Returns a record pattern with copies of these parts.
 fn clone_record(path: &Path, args: &Seq<RecordFieldPat>, ellipsis: bool) -> Result<Pat, AllocError>
     ensures { IfOk result (λ copy. copy ≡ Pat.Record ellipsis path.now args.now) }
 {
-    // The list first: where the path can't be cloned, what is dropped isn't a path.
+    // The list comes first: if the path can't be cloned, what is dropped isn't a path.
     Ok(Pat::Record {
         args: args.try_clone()?,
         path: path.try_clone()?,
@@ -174,7 +177,7 @@ fn clone_record(path: &Path, args: &Seq<RecordFieldPat>, ellipsis: bool) -> Resu
     })
 }
 
-/// A tuple struct pattern with copies of these parts.
+/// Returns a tuple struct pattern with copies of these parts.
 fn clone_tuple_struct(
     path: &Path,
     args: &ShortList<PatId>,
@@ -182,7 +185,7 @@ fn clone_tuple_struct(
 ) -> Result<Pat, AllocError>
     ensures { IfOk result (λ copy. copy ≡ Pat.TupleStruct path.now args.now ellipsis) }
 {
-    // The list first: where the path can't be cloned, what is dropped isn't a path.
+    // The list comes first: if the path can't be cloned, what is dropped isn't a path.
     Ok(Pat::TupleStruct {
         args: args.try_clone()?,
         path: path.try_clone()?,

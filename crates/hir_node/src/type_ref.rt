@@ -8,7 +8,7 @@ use hir_base::{ExactEq, ExternAbi, LifetimeParamId, Name, Seq, ShortList, TryClo
 use hir_path::{Boxed, ConstRef, LifetimeRefId, PatId, Path, PathId, TypeBound, TypeRefId};
 use std::alloc::AllocError;
 
-/// Whether what is behind a reference or a pointer may be written.
+/// Whether the target of a reference or a pointer may be written.
 #[derive(Clone, Copy, PartialEq, Eq, Hash)]
 pub enum Mutability {
     /// It may only be read.
@@ -31,7 +31,7 @@ impl Mutability {
         }
     }
 
-    /// What is written after `&`: nothing or `mut `, with a space.
+    /// Returns what is written after `&`: nothing or `mut `, with a space.
     pub fn as_keyword_for_ref(self) -> &'static str
         ensures { result.now ≡ ref_keyword self }
     {
@@ -41,7 +41,7 @@ impl Mutability {
         }
     }
 
-    /// What is written after `*`: `const ` or `mut `, with a space.
+    /// Returns what is written after `*`: `const ` or `mut `, with a space.
     pub fn as_keyword_for_ptr(self) -> &'static str
         ensures { result.now ≡ ptr_keyword self }
     {
@@ -51,7 +51,7 @@ impl Mutability {
         }
     }
 
-    /// Whether it is `Mut`.
+    /// Returns whether it is `Mut`.
     pub fn is_mut(&self) -> bool
         ensures { IsTrue result ↔ (self.now ≡ Mutability.Mut) }
     {
@@ -61,7 +61,7 @@ impl Mutability {
         }
     }
 
-    /// Whether it is `Shared`.
+    /// Returns whether it is `Shared`.
     pub fn is_shared(&self) -> bool
         ensures { IsTrue result ↔ (self.now ≡ Mutability.Shared) }
     {
@@ -101,7 +101,7 @@ impl Rawness {
         }
     }
 
-    /// Whether it is `RawPtr`.
+    /// Returns whether it is `RawPtr`.
     pub fn is_raw(&self) -> bool
         ensures { IsTrue result ↔ (self.now ≡ Rawness.RawPtr) }
     {
@@ -148,9 +148,9 @@ pub struct FnType {
 }
 
 impl FnType {
-    /// The parameters without the last entry, and the type of that entry: the return type.
+    /// Returns the parameters without the last entry, and the type of that entry: the return type.
     ///
-    /// The list has to have an entry.
+    /// The list must have an entry.
     pub fn split_params_and_ret(&self) -> (&[(Option<Name>, TypeRefId)], TypeRefId)
         requires { self.now.params ≢ [] }
         ensures params { result.0.now ≡ all_but 1 self.now.params }

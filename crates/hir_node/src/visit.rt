@@ -1,4 +1,4 @@
-//! What a visitor visits: the parts of a node that make calls, and the one loop over a list of them.
+//! The parts of a node that call a visitor, and the loop over a list of them.
 #![tactic(auto, using(crate::proofs::RunLemmas::runs))]
 
 ghost use Rattle.std.specs.Prelude.{List};
@@ -14,9 +14,9 @@ use crate::visitor::{
 use hir_base::Name;
 use hir_path::{ExprId, GenericArg, GenericArgs, PatId, TypeBound, TypeRefId, UseArgRef};
 
-/// A part of a node that makes calls.
+/// A part of a node that calls a visitor.
 pub(crate) trait Visit {
-    // its calls, in order
+    // the calls of the part, in order
     ghost calls: { Self → List Call };
 
     fn visit<V: StoreVisitor>(&self, visitor: &mut V)
@@ -114,7 +114,7 @@ impl Visit for Option<GenericArgs> {
     }
 }
 
-// A field of a record literal: its value.
+// A field of a record literal calls the visitor with its value.
 impl Visit for RecordLitField {
     ghost use Rattle.hir_node.specs.ChildCalls.{e};
 
@@ -135,7 +135,7 @@ impl Visit for RecordFieldPat {
     }
 }
 
-// An entry of a function type.
+// An entry of a function type calls the visitor with its type.
 impl Visit for (Option<Name>, TypeRefId) {
     ghost use Rattle.hir_node.specs.ChildCalls.{t};
 
@@ -178,7 +178,7 @@ impl Visit for MatchArm {
     }
 }
 
-/// The body, then the guard and the pattern.
+/// Visits the body, then the guard and the pattern.
 fn visit_arm<V: StoreVisitor>(visitor: &mut V, arm: &MatchArm)
     requires { MayRun V.may V.step visitor.old (arm_calls arm.now) }
     ensures { Runs V.step visitor.old (arm_calls arm.now) visitor.new }

@@ -1,4 +1,4 @@
-//! Visitors of nodes, and the calls that the parts of nodes make on them.
+//! Visitors of nodes, and the calls that parts of nodes make to them.
 #![tactic(auto, using(crate::proofs::RunLemmas::runs))]
 
 ghost use Rattle.std.specs.Prelude.{◌≡◌, List};
@@ -14,35 +14,36 @@ use hir_path::{
 
 /// A visitor, which is called with each child of a node.
 ///
-/// An implementation states by `step` what each call does to it, and by `may` when a call may be made: by default always.
+/// An implementation states by `step` how each call changes it, and by `may` when a call may be made: by
+/// default always.
 pub trait StoreVisitor {
-    // what has to hold of the value for a call to be made
+    // the condition on the value before a call
     ghost may: { Self → Call → Type 0 } = { λ _ _. Unit {0} };
 
     // relates the value before a call, the call, and the value after it
     ghost step: { Self → Call → Self → Type 0 };
 
-    /// An expression.
+    /// Is called with each expression.
     fn on_expr(&mut self, expr: ExprId)
         requires { may self.old (OnExpr expr) }
         ensures { step self.old (OnExpr expr) self.new };
 
-    /// An anonymous constant: an expression that sees no local variables.
+    /// Is called with each anonymous constant: an expression that sees no local variables.
     fn on_anon_const_expr(&mut self, expr: ExprId)
         requires { may self.old (OnAnonConst expr) }
         ensures { step self.old (OnAnonConst expr) self.new };
 
-    /// A pattern.
+    /// Is called with each pattern.
     fn on_pat(&mut self, pat: PatId)
         requires { may self.old (OnPat pat) }
         ensures { step self.old (OnPat pat) self.new };
 
-    /// A type.
+    /// Is called with each type.
     fn on_type(&mut self, type_ref: TypeRefId)
         requires { may self.old (OnType type_ref) }
         ensures { step self.old (OnType type_ref) self.new };
 
-    /// A lifetime.
+    /// Is called with each lifetime.
     fn on_lifetime(&mut self, lifetime: LifetimeRefId)
         requires { may self.old (OnLifetime lifetime) }
         ensures { step self.old (OnLifetime lifetime) self.new };
@@ -74,10 +75,11 @@ impl<V: StoreVisitor> StoreVisitor for &mut V {
     }
 }
 
-/// The other calls that every visitor has: with parts that may be absent, lists, bounds, generic arguments and paths.
-/// Each runs the child calls of what it is given, in their order.
+/// The other calls that every visitor has: with parts that may be absent, lists, bounds, generic arguments
+/// and paths.
+/// Each runs the child calls of its argument, in order.
 pub trait StoreVisitorExt: StoreVisitor {
-    /// The bound: the type that is its path, or its lifetimes.
+    /// Visits a bound: the type that is its path, or its lifetimes.
     fn on_type_bound(&mut self, bound: &TypeBound)
         requires { MayRun Self.may Self.step self.old (bound_calls bound.now) }
         ensures { Runs Self.step self.old (bound_calls bound.now) self.new }
@@ -91,7 +93,7 @@ pub trait StoreVisitorExt: StoreVisitor {
         }
     }
 
-    /// The path: the generic arguments of its segments, then its anchor.
+    /// Visits a path: the generic arguments of its segments, then its anchor.
     fn on_path(&mut self, path: &Path)
         requires { MayRun Self.may Self.step self.old (path_calls path.now) }
         ensures { Runs Self.step self.old (path_calls path.now) self.new }
@@ -102,7 +104,7 @@ pub trait StoreVisitorExt: StoreVisitor {
         }
     }
 
-    /// The expression, where there is one.
+    /// Visits the expression, if it is present.
     fn on_expr_opt(&mut self, expr: Option<ExprId>)
         requires { MayRun Self.may Self.step self.old (opt e expr) }
         ensures { Runs Self.step self.old (opt e expr) self.new }
@@ -112,7 +114,7 @@ pub trait StoreVisitorExt: StoreVisitor {
         }
     }
 
-    /// The pattern, where there is one.
+    /// Visits the pattern, if it is present.
     fn on_pat_opt(&mut self, pat: Option<PatId>)
         requires { MayRun Self.may Self.step self.old (opt p pat) }
         ensures { Runs Self.step self.old (opt p pat) self.new }
@@ -122,7 +124,7 @@ pub trait StoreVisitorExt: StoreVisitor {
         }
     }
 
-    /// The type, where there is one.
+    /// Visits the type, if it is present.
     fn on_type_opt(&mut self, type_ref: Option<TypeRefId>)
         requires { MayRun Self.may Self.step self.old (opt t type_ref) }
         ensures { Runs Self.step self.old (opt t type_ref) self.new }
@@ -132,7 +134,7 @@ pub trait StoreVisitorExt: StoreVisitor {
         }
     }
 
-    /// The lifetime, where there is one.
+    /// Visits the lifetime, if it is present.
     fn on_lifetime_opt(&mut self, lifetime: Option<LifetimeRefId>)
         requires { MayRun Self.may Self.step self.old (opt l lifetime) }
         ensures { Runs Self.step self.old (opt l lifetime) self.new }
@@ -142,7 +144,7 @@ pub trait StoreVisitorExt: StoreVisitor {
         }
     }
 
-    /// The generic arguments, where there are some.
+    /// Visits the generic arguments, if they are present.
     fn on_generic_args_opt(&mut self, args: Option<&GenericArgs>)
         requires { MayRun Self.may Self.step self.old (opt (λ a. args_calls a.now) args) }
         ensures { Runs Self.step self.old (opt (λ a. args_calls a.now) args.entry) self.new }
@@ -152,7 +154,7 @@ pub trait StoreVisitorExt: StoreVisitor {
         }
     }
 
-    /// Generic arguments, as `visit_generic_args` visits them.
+    /// Visits generic arguments, as `visit_generic_args` does.
     fn on_generic_args(&mut self, args: &GenericArgs)
         requires { MayRun Self.may Self.step self.old (args_calls args.now) }
         ensures { Runs Self.step self.old (args_calls args.now) self.new }
@@ -160,7 +162,7 @@ pub trait StoreVisitorExt: StoreVisitor {
         visit_generic_args(self, args);
     }
 
-    /// Each expression.
+    /// Visits each expression.
     fn on_exprs(&mut self, exprs: &[ExprId])
         requires { MayRun Self.may Self.step self.old (flat_map e exprs.now) }
         ensures { Runs Self.step self.old (flat_map e exprs.now) self.new }
@@ -168,7 +170,7 @@ pub trait StoreVisitorExt: StoreVisitor {
         visit_each(self, exprs);
     }
 
-    /// Each pattern.
+    /// Visits each pattern.
     fn on_pats(&mut self, pats: &[PatId])
         requires { MayRun Self.may Self.step self.old (flat_map p pats.now) }
         ensures { Runs Self.step self.old (flat_map p pats.now) self.new }
@@ -176,7 +178,7 @@ pub trait StoreVisitorExt: StoreVisitor {
         visit_each(self, pats);
     }
 
-    /// Each type.
+    /// Visits each type.
     fn on_types(&mut self, types: &[TypeRefId])
         requires { MayRun Self.may Self.step self.old (flat_map t types.now) }
         ensures { Runs Self.step self.old (flat_map t types.now) self.new }
@@ -184,7 +186,7 @@ pub trait StoreVisitorExt: StoreVisitor {
         visit_each(self, types);
     }
 
-    /// Each bound.
+    /// Visits each bound.
     fn on_type_bounds(&mut self, bounds: &[TypeBound])
         requires { MayRun Self.may Self.step self.old (flat_map bound_calls bounds.now) }
         ensures { Runs Self.step self.old (flat_map bound_calls bounds.now) self.new }
@@ -195,7 +197,7 @@ pub trait StoreVisitorExt: StoreVisitor {
 
 impl<V: StoreVisitor> StoreVisitorExt for V {}
 
-/// One entry of a bound `use<..>`: a lifetime is one call, a name none.
+/// Visits one entry of a bound `use<..>`: a lifetime is one call, a name none.
 pub(crate) fn visit_use_arg<V: StoreVisitor>(visitor: &mut V, arg: &UseArgRef)
     requires { MayRun V.may V.step visitor.old (use_calls arg.now) }
     ensures { Runs V.step visitor.old (use_calls arg.now) visitor.new }
@@ -206,7 +208,7 @@ pub(crate) fn visit_use_arg<V: StoreVisitor>(visitor: &mut V, arg: &UseArgRef)
     }
 }
 
-/// One generic argument.
+/// Visits one generic argument.
 pub(crate) fn visit_generic_arg<V: StoreVisitor>(visitor: &mut V, arg: &GenericArg)
     requires { MayRun V.may V.step visitor.old (arg_calls arg.now) }
     ensures { Runs V.step visitor.old (arg_calls arg.now) visitor.new }
@@ -218,11 +220,11 @@ pub(crate) fn visit_generic_arg<V: StoreVisitor>(visitor: &mut V, arg: &GenericA
     }
 }
 
-/// Calls the visitor with each argument, and then for each associated type binding with its own generic arguments, its type and its
-/// bounds.
+/// Calls the visitor with each argument, and then for each associated type binding with its own generic
+/// arguments, its type and its bounds.
 ///
-/// It recurses as deep as bindings are nested in the arguments of bindings, `A<B<C = ..> = ..>`. A type that an argument, a binding
-/// or a bound names is one call `on_type`, and isn't entered.
+/// It recurses as deep as bindings are nested in the arguments of bindings, `A<B<C = ..> = ..>`. A type that
+/// an argument, a binding or a bound names is one call `on_type`, and the visit doesn't enter it.
 #[cycle(visit_generic_args)]
 pub fn visit_generic_args<V: StoreVisitor>(visitor: &mut V, args: &GenericArgs)
     requires { MayRun V.may V.step visitor.old (args_calls args.now) }
@@ -263,7 +265,7 @@ pub(crate) fn visit_args_opt<V: StoreVisitor>(visitor: &mut V, args: &Option<Gen
     }
 }
 
-/// For each segment its generic arguments, then the anchor.
+/// Visits the generic arguments of each segment, then the anchor.
 fn visit_normal_path<V: StoreVisitor>(visitor: &mut V, path: &NormalPath)
     requires { MayRun V.may V.step visitor.old (normal_path_calls path.now) }
     ensures { Runs V.step visitor.old (normal_path_calls path.now) visitor.new }

@@ -1,4 +1,4 @@
--- What a write through a `&mut` to the value of a `Boxed` leaves.
+-- Defines how a write through a `&mut` changes the value of a `Boxed`.
 use Rattle.std.specs.Borrow.{Lends, MutBor, Fml, RattleType}
 use Rattle.hir_path.specs.contracts.boxed.Boxed.{the_row}
 

@@ -1,4 +1,4 @@
--- The code by which tables tell the ids of expressions and of patterns apart.
+-- Defines the code by which tables tell the ids of expressions and of patterns apart.
 use Rattle.std.specs.Prelude.{◌≡◌, ℕ, List, [], ◌∷◌, Bool, Some}
 use Rattle.std.specs.Bool.{Decides}
 use Rattle.std.proofs.Common.{refl}

@@ -1,4 +1,4 @@
--- Lists without their ends.
+-- Defines lists without their last members, and the last member.
 use Rattle.std.specs.Prelude.{ℕ, ◌-◌, List, length, take, slice_get, Option}
 
 -- all members but the last n

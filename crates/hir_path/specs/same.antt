@@ -1,4 +1,5 @@
--- Proofs alone, that `==` of each type decides whether two values are the same: they are here, since code and the crates above cite them.
+-- Proofs alone, that `==` of each type decides whether two values are the same. They are in specs, since
+-- code and the crates above cite them.
 pub mod Fields
 pub mod Leaves
 pub mod SameArgs

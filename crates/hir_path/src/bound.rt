@@ -8,7 +8,8 @@ use hir_base::{ExactEq, Name, Seq, TryClone};
 use std::fmt::{self, Debug, Display};
 use std::marker::Model;
 
-/// The id of a type that is a path, seen as the number of that type. Nothing here checks that it is one.
+/// The id of a type that is a path, modelled as the number of that type. Nothing here checks that the type
+/// is a path.
 #[derive(Clone, Copy, PartialEq, Eq, Hash)]
 pub struct PathId(TypeRefId);
 
@@ -23,14 +24,14 @@ impl Model for PathId {
 }
 
 impl PathId {
-    /// This type, which the caller knows to be a path: nothing checks it.
+    /// Returns this type, which the caller knows to be a path: nothing checks it.
     pub fn from_type_ref_unchecked(type_ref: TypeRefId) -> PathId
         ensures { result ≡ type_ref }
     {
         PathId(type_ref)
     }
 
-    /// The type that is the path.
+    /// Returns the type that is the path.
     pub fn type_ref(self) -> TypeRefId
         ensures { result ≡ self }
     {
@@ -38,7 +39,7 @@ impl PathId {
     }
 }
 
-/// Its kind and the number of the type, as `PathId(3)`.
+/// Writes its kind and the number of the type, as `PathId(3)`.
 impl Display for PathId {
     ghost output = { λ id. Some (id_text (codes "PathId") id) };
 

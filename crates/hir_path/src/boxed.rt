@@ -1,5 +1,5 @@
-//! Values on the heap: a `Box` that contracts see as the value in it.
-//! A contract also sees the allocator of a `Box`, so two with the same value can differ; two `Boxed`s can't.
+//! Values on the heap: a `Box` that is modelled as the value in it.
+//! The model of a `Box` has its allocator too, so two with the same value can differ; two `Boxed`s can't.
 ghost use Rattle.std.specs.Prelude.{◌≡◌, IfOk, IfErr};
 ghost use Rattle.std.specs.Borrow.{sem};
 
@@ -8,7 +8,7 @@ use std::alloc::{AllocError, AllocFailed, Global};
 use std::hash::{Hash, Hasher};
 use std::marker::Model;
 
-/// A `Box` that contracts see as its value.
+/// A `Box` that is modelled as its value.
 ///
 /// Converting from the `Box` and back takes no memory.
 #[derive(Drop)]
@@ -29,7 +29,7 @@ impl<T> Boxed<T> {
 
     /// Puts the value on the heap.
     ///
-    /// Answers an error if memory for it was refused, and hands the value back.
+    /// Returns an error if the allocation fails: the error gives the value back.
     pub fn new(alloc: Global, value: T) -> Result<Boxed<T>, AllocFailed<T>>
         ensures ok { IfOk result (λ b. b ≡ value) }
         ensures value_returned { IfErr result (λ failed. failed.value ≡ value) }
@@ -39,14 +39,14 @@ impl<T> Boxed<T> {
         })
     }
 
-    /// The value of this box, which takes no memory.
+    /// Returns the value of this box. It takes no memory.
     pub fn from_box(inner: Box<T>) -> Boxed<T>
         ensures { result ≡ inner.value }
     {
         Boxed { inner }
     }
 
-    /// The box that holds the value.
+    /// Returns the box that holds the value.
     pub fn into_box(self) -> Box<T>
         ensures { result.value ≡ self }
     {
@@ -61,7 +61,7 @@ impl<T> Boxed<T> {
         &self.inner
     }
 
-    /// Borrows the value, to write to.
+    /// Borrows the value for writing.
     pub fn get_mut(&mut self) -> &mut T
         ensures* changes_value { sem 𝓛 (lends_value T.row self.entry result) }
         ensures value { result.now ≡ self.old }

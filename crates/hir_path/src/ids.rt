@@ -1,5 +1,5 @@
 //! The ids of what a store holds: expressions, patterns, bindings, labels, types and lifetimes.
-//! Each is a number of an arena; ids of two kinds can't be mixed up.
+//! Each is the number of an item in an arena; ids of two kinds can't be mixed up.
 ghost use Rattle.std.specs.Prelude.{◌≡◌, Some, None, IsTrue, IsSome, ◌↔◌, codes};
 ghost use Rattle.hir_base.specs.Exact.{exact};
 ghost use Rattle.hir_path.specs.Ids.{expr_of, pat_of, expr_or_pat_text};
@@ -99,7 +99,7 @@ pub enum ExprOrPatId {
 }
 
 impl ExprOrPatId {
-    /// The id, if it is that of an expression.
+    /// Returns the id, if it is that of an expression.
     pub fn as_expr(self) -> Option<ExprId>
         ensures { result ≡ expr_of self }
     {
@@ -109,7 +109,7 @@ impl ExprOrPatId {
         }
     }
 
-    /// Whether it is that of an expression.
+    /// Returns whether it is that of an expression.
     pub fn is_expr(&self) -> bool
         ensures { IsTrue result ↔ IsSome (expr_of self.now) }
     {
@@ -119,7 +119,7 @@ impl ExprOrPatId {
         }
     }
 
-    /// The id, if it is that of a pattern.
+    /// Returns the id, if it is that of a pattern.
     pub fn as_pat(self) -> Option<PatId>
         ensures { result ≡ pat_of self }
     {
@@ -129,7 +129,7 @@ impl ExprOrPatId {
         }
     }
 
-    /// Whether it is that of a pattern.
+    /// Returns whether it is that of a pattern.
     pub fn is_pat(&self) -> bool
         ensures { IsTrue result ↔ IsSome (pat_of self.now) }
     {
@@ -140,7 +140,7 @@ impl ExprOrPatId {
     }
 }
 
-/// The text of the id that it holds, as `ExprId(3)`.
+/// Writes the text of the id that it holds, as `ExprId(3)`.
 impl Display for ExprOrPatId {
     ghost output = { λ id. Some (expr_or_pat_text id) };
 

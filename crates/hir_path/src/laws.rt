@@ -1,5 +1,5 @@
-//! Laws that a reader relies on, and that no call's contract states.
-//! Each is a function with no body to run: its contract is the law, proved for every value.
+//! Theorems that a reader relies on, and that no call's contract states.
+//! Each is a function with an empty body: its contract is the theorem, proved for every value.
 ghost use Rattle.std.specs.Prelude.{◌≡◌, ◌++◌, ℕ, []};
 ghost use Rattle.std.specs.Bool.{Decides};
 ghost use Rattle.hir_path.specs.Segments.{Segments, OneListEach, empty, items, skip, first, strip, segment_of};
@@ -7,13 +7,14 @@ ghost use Rattle.hir_path.specs.Lists.{all_but};
 
 use crate::segments::PathSegment;
 
-/// The first `n` segments of a view, and then the view without them, are all of its segments, whatever `n` is.
+/// The first `n` segments of a view, and then the view without them, are all of its segments, for any `n`.
 pub fn take_then_skip_is_all()
     ensures { (s : Segments) (n : ℕ) → items (first n s) ++ items (skip n s) ≡ items s }
 {}
 
-/// If a view has one list of arguments for each segment, as that of a `Normal` path, or none at all, as that of the other paths,
-/// stripping leaves all segments but the last ones. (An empty list of lists with a segment is neither.)
+/// If a view has one list of arguments for each segment, as that of a `Normal` path, or none at all, as that
+/// of any other path, stripping it leaves all segments but the last ones. (A segment with an empty list of
+/// lists is neither.)
 pub fn strip_is_all_but_the_last()
     ensures { (s : Segments) (n : ℕ) → OneListEach s → items (strip n s) ≡ all_but n (items s) }
 {}
@@ -28,7 +29,7 @@ pub fn cuts_of_empty_are_empty()
     ensures none_stripped { (s : Segments) (n : ℕ) → items s ≡ [] → items (strip n s) ≡ [] }
 {}
 
-/// Segments are equal exactly if their names and their arguments are the same, from whichever paths they are borrowed.
+/// Segments of any two paths are equal exactly if their names and their arguments are the same.
 pub fn segments_are_equal_by_name_and_args<'a>()
     ensures { (x y : PathSegment) →
         Decides (⟦<PathSegment<'a> as PartialEq>⟧.eq x y) (segment_of x ≡ segment_of y) }

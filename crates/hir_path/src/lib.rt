@@ -1,4 +1,5 @@
-//! Paths, as `crate::foo` or `<Type as Trait>::bar::<u8>`, with their generic arguments and bounds, and the ids of what a store holds.
+//! Paths, as `crate::foo` or `<Type as Trait>::bar::<u8>`, with their generic arguments and bounds, and the
+//! ids of what a store holds.
 //! A path names types, lifetimes and constants by their ids alone.
 #![tactic(auto)]
 

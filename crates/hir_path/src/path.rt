@@ -19,9 +19,11 @@ use std::slice;
 pub enum Path {
     /// A path with neither generic arguments nor a type anchor, as most are.
     BarePath(ModPath),
-    /// A path with generic arguments or a type anchor, as `Vec::<u8>::new`: one list of arguments for each segment.
+    /// A path with generic arguments or a type anchor, as `Vec::<u8>::new`: one list of arguments for each
+    /// segment.
     Normal(Boxed<NormalPath>),
-    /// A lang item, and perhaps one name in it. Lowering makes these, where the path to the item might be private.
+    /// A lang item, and perhaps one name in it. Lowering makes these where the path to the item might be
+    /// private.
     LangItem(LangItemTarget, Option<Boxed<Name>>),
 }
 
@@ -40,9 +42,10 @@ impl Path {
     ghost use Rattle.hir_path.specs.Paths.{kind_of, anchor_of, lists_of, mod_path_of, segments_of, without_anchor, one_name, path_with, qualifier, IsSelfType};
     ghost use Rattle.hir_path.specs.Segments.{OneListEach, segments_in};
 
-    /// The path with these arguments, which must be one list for each segment: a `BarePath` if no segment has arguments.
+    /// Returns the path with these arguments, which must be one list for each segment: a `BarePath` if no
+    /// segment has arguments.
     ///
-    /// Answers an error if memory was refused: the parts are handed back.
+    /// Returns an error if the allocation fails: the error gives the parts back.
     pub fn from_known_path(
         alloc: Global,
         path: ModPath,
@@ -62,14 +65,15 @@ impl Path {
         )
     }
 
-    /// The path without arguments. It takes no memory.
+    /// Returns the path without arguments. It takes no memory.
     pub fn from_known_path_with_no_generic(mod_path: ModPath) -> Path
         ensures { result ≡ Path.BarePath mod_path }
     {
         Path::BarePath(mod_path)
     }
 
-    /// The plain path of one name. It takes no memory, and is never refused; it has the form of the other makers.
+    /// Returns the plain path of one name. It takes no memory and never fails; its signature is that of the
+    /// other constructors.
     pub fn from_name(_alloc: Global, name: Name) -> Result<Path, AllocFailed<Name>>
         ensures ok { IfOk result (λ made. made ≡ one_name name) }
         ensures never_refused { IsOk result }
@@ -78,7 +82,7 @@ impl Path {
         Ok(Path::BarePath(ModPath::from_name(name)))
     }
 
-    /// Where the path begins: at `Abs` for a lang item.
+    /// Returns where the path begins: at `Abs` for a lang item.
     pub fn kind(&self) -> PathKind
         ensures { result ≡ kind_of self.now }
     {
@@ -89,7 +93,7 @@ impl Path {
         }
     }
 
-    /// The type that the path begins at, if it has one.
+    /// Returns the type that the path begins at, if it has one.
     pub fn type_anchor(&self) -> Option<TypeRefId>
         ensures { result ≡ anchor_of self.now }
     {
@@ -99,7 +103,7 @@ impl Path {
         }
     }
 
-    /// The arguments of the segments, if the path is `Normal`.
+    /// Returns the arguments of the segments, if the path is `Normal`.
     pub fn generic_args(&self) -> Option<&[Option<GenericArgs>]>
         ensures { option_copied result ≡ lists_of self.now }
     {
@@ -109,7 +113,7 @@ impl Path {
         }
     }
 
-    /// The segments. That of a lang item is its name, if it has one.
+    /// Returns the segments. That of a lang item is its name, if it has one.
     pub fn segments(&self) -> PathSegments<'_>
         ensures { segments_in result ≡ segments_of self.now }
     {
@@ -123,7 +127,7 @@ impl Path {
         }
     }
 
-    /// The path without anchor and arguments. `None` for a lang item.
+    /// Returns the path without anchor and arguments. `None` for a lang item.
     pub fn mod_path(&self) -> Option<&ModPath>
         ensures { option_copied result ≡ mod_path_of self.now }
     {
@@ -134,11 +138,12 @@ impl Path {
         }
     }
 
-    /// The path before the last segment: without that segment and its arguments, and a `BarePath` if no anchor and no arguments
-    /// are left. `None` for a lang item, for an identifier, even behind an anchor, and if there are no segments. A `Normal` path
-    /// must have one list of arguments for each segment: an empty list of lists won't do for one segment.
+    /// Returns the path before the last segment: without that segment and its arguments, and a `BarePath` if
+    /// no anchor and no arguments are left. `None` for a lang item, for an identifier, even after an anchor,
+    /// and if there are no segments. A `Normal` path must have one list of arguments for each segment: an
+    /// empty list of lists isn't enough for one segment.
     ///
-    /// Answers an error if memory was refused.
+    /// Returns an error if the allocation fails.
     pub fn qualifier(&self, alloc: Global) -> Result<Option<Path>, AllocError>
         requires one_list_each { OneListEach (segments_of self.now) }
         ensures { IfOk result (λ found. found ≡ qualifier self.now) }
@@ -166,7 +171,7 @@ impl Path {
         }
     }
 
-    /// Whether the path is `Self`, with no anchor and no arguments.
+    /// Returns whether the path is `Self`, with no anchor and no arguments.
     pub fn is_self_type(&self) -> bool
         ensures { IsTrue result ↔ IsSelfType self.now }
     {
@@ -182,7 +187,7 @@ impl Path {
         }
     }
 
-    /// The path with these parts: a `BarePath` if it has neither an anchor nor arguments.
+    /// Returns the path with these parts: a `BarePath` if it has neither an anchor nor arguments.
     fn with(alloc: Global, path: NormalPath) -> Result<Path, AllocFailed<NormalPath>>
         ensures ok { IfOk result (λ made. made ≡ path_with path.type_anchor path.mod_path path.generic_args) }
         ensures value_returned { IfErr result (λ failed. failed.value ≡ path) }
@@ -194,7 +199,7 @@ impl Path {
     }
 }
 
-/// The name, if there is one, as a list.
+/// Returns the name, if there is one, as a list.
 fn name_as_slice(name: &Option<Boxed<Name>>) -> &[Name]
     ensures { result.now ≡ option_to_list name.now }
 {
@@ -204,14 +209,14 @@ fn name_as_slice(name: &Option<Boxed<Name>>) -> &[Name]
     }
 }
 
-/// Whether no segment has arguments.
+/// Returns whether no segment has arguments.
 fn has_no_args(lists: &[Option<GenericArgs>]) -> bool
     ensures { result ≡ no_args lists.now }
 {
     lists.iter().all(|args| args.is_none())
 }
 
-/// The path without its last segment.
+/// Returns the path without its last segment.
 fn without_last(alloc: Global, path: &ModPath) -> Result<ModPath, AllocError>
     ensures { IfOk result (λ made. made ≡ but_last path.now) }
 {
@@ -219,7 +224,7 @@ fn without_last(alloc: Global, path: &ModPath) -> Result<ModPath, AllocError>
     Ok(ModPath::from_segments(alloc, path.kind(), shorter)?)
 }
 
-/// Copies of all items but the last.
+/// Returns copies of all items but the last.
 fn all_but_last<T: TryClone + Drop>(alloc: Global, items: &[T]) -> Result<Seq<T>, AllocError>
     ensures { IfOk result (λ made. made ≡ all_but 1 items.now) }
 {
@@ -229,8 +234,9 @@ fn all_but_last<T: TryClone + Drop>(alloc: Global, items: &[T]) -> Result<Seq<T>
 
 /// A path with generic arguments or a type anchor.
 ///
-/// There is one list of arguments for each segment. A list may be absent, but its place isn't left out: `Vec::<u8>::new` has the lists
-/// `[Some([u8]), None]`. A store refuses a path with fewer or more places than segments, as one with no place for one segment.
+/// There is one list of arguments for each segment. A list may be absent, but its place is kept:
+/// `Vec::<u8>::new` has the lists `[Some([u8]), None]`. A store refuses a path with fewer or more places
+/// than segments, as one with no place for one segment.
 #[derive(Drop, Clone, PartialEq, Eq, Hash)]
 pub struct NormalPath {
     /// For each segment its arguments, if it has any.
@@ -282,8 +288,8 @@ pub struct GenericArgs {
     pub parenthesized: GenericArgsParentheses,
 }
 
-/// The binding or bounds of one associated type, as the `Item = T` of `Iterator<Item = T>` or the `Item: Debug` of
-/// `Iterator<Item: Debug>`.
+/// The binding or bounds of one associated type, as the `Item = T` of `Iterator<Item = T>` or the
+/// `Item: Debug` of `Iterator<Item: Debug>`.
 #[cycle(generic_args)]
 #[derive(Drop, PartialEq, Eq, Hash)]
 pub struct AssociatedTypeBinding {

@@ -1,5 +1,6 @@
 //! The segments of a path: views that can be cut, which borrow from the path and copy nothing.
-//! A view is seen as its names and perhaps a list of their arguments; a cut acts on each of the two lists by its own length.
+//! A view is modelled as its names and perhaps a list of their arguments; a cut acts on each of the two
+//! lists by its own length.
 ghost use Rattle.std.specs.Prelude.{◌≡◌, IsTrue, ◌↔◌, [], length, slice_get, get_or, None};
 ghost use Rattle.std.specs.Option.{option_map, option_copied};
 ghost use Rattle.hir_path.specs.Segments.{segment_of, segments_in, segments_left, empty, items, or_none, skip, first, strip};
@@ -17,7 +18,8 @@ pub struct PathSegment<'a> {
 }
 
 impl<'a> PathSegment<'a> {
-    /// A segment with this name and no arguments. For a missing segment, the name is `Name::missing()`.
+    /// Returns a segment with this name and no arguments. For a missing segment, the name is
+    /// `Name::missing()`.
     pub fn missing(name: &'a Name) -> PathSegment<'a>
         ensures { segment_of result ≡ record { name = name.now; args = None } }
     {
@@ -28,7 +30,7 @@ impl<'a> PathSegment<'a> {
     }
 }
 
-/// Some segments of a path, seen as their names and perhaps a list of their arguments.
+/// Some segments of a path, modelled as their names and perhaps a list of their arguments.
 #[derive(Clone, Copy)]
 pub struct PathSegments<'a> {
     segments: &'a [Name],
@@ -36,7 +38,7 @@ pub struct PathSegments<'a> {
 }
 
 impl<'a> PathSegments<'a> {
-    /// These names, and perhaps a list of their arguments.
+    /// Returns the view of these names, and perhaps of a list of their arguments.
     pub(crate) fn new(
         segments: &'a [Name],
         generic_args: Option<&'a [Option<GenericArgs>]>,
@@ -52,7 +54,7 @@ impl<'a> PathSegments<'a> {
         }
     }
 
-    /// No segments.
+    /// Returns the view of no segments.
     pub fn empty() -> PathSegments<'a>
         ensures { segments_in result ≡ empty }
     {
@@ -62,7 +64,7 @@ impl<'a> PathSegments<'a> {
         }
     }
 
-    /// Whether there are no segments.
+    /// Returns whether there are no segments.
     #[tactic(auto, using(crate::proofs::SegmentLemmas::segments))]
     pub fn is_empty(&self) -> bool
         ensures { IsTrue result ↔ (items (segments_in self.now) ≡ []) }
@@ -70,7 +72,7 @@ impl<'a> PathSegments<'a> {
         self.segments.is_empty()
     }
 
-    /// The number of segments.
+    /// Returns the number of segments.
     #[tactic(auto, using(crate::proofs::SegmentLemmas::segments))]
     pub fn len(&self) -> usize
         ensures { result ≡ length (items (segments_in self.now)) }
@@ -78,14 +80,14 @@ impl<'a> PathSegments<'a> {
         self.segments.len()
     }
 
-    /// The first segment, if there is one.
+    /// Returns the first segment, if there is one.
     pub fn first(&self) -> Option<PathSegment<'a>>
         ensures { option_map segment_of result ≡ slice_get (items (segments_in self.now)) 0 }
     {
         self.get(0)
     }
 
-    /// The last segment, if there is one.
+    /// Returns the last segment, if there is one.
     pub fn last(&self) -> Option<PathSegment<'a>>
         ensures { option_map segment_of result ≡ last_of (items (segments_in self.now)) }
     {
@@ -96,7 +98,7 @@ impl<'a> PathSegments<'a> {
         self.get(count - 1)
     }
 
-    /// The segment at this index, if there is one.
+    /// Returns the segment at this index, if there is one.
     pub fn get(&self, idx: usize) -> Option<PathSegment<'a>>
         ensures { option_map segment_of result ≡ slice_get (items (segments_in self.now)) idx }
     {
@@ -109,15 +111,15 @@ impl<'a> PathSegments<'a> {
         }
     }
 
-    /// The segments in order.
+    /// Returns the segments in order.
     pub fn iter(&self) -> PathSegmentsIter<'a>
         ensures { segments_left result ≡ items (segments_in self.now) }
     {
         PathSegmentsIter::new(self.segments, self.generic_args.unwrap_or(&[]))
     }
 
-    /// The segments without the first `len`. If there are fewer names, no names are left; if there are fewer lists of
-    /// arguments, or none, no lists are left, not even an empty list of them.
+    /// Returns the segments without the first `len`. If there are fewer names, no names are left; if there
+    /// are fewer lists of arguments, or none, no lists are left, not even an empty list of them.
     pub fn skip(&self, len: usize) -> PathSegments<'a>
         ensures { segments_in result ≡ skip len (segments_in self.now) }
     {
@@ -127,7 +129,7 @@ impl<'a> PathSegments<'a> {
         }
     }
 
-    /// The first `len` segments, or all if there are fewer.
+    /// Returns the first `len` segments, or all if there are fewer.
     pub fn take(&self, len: usize) -> PathSegments<'a>
         ensures { segments_in result ≡ first len (segments_in self.now) }
     {
@@ -139,21 +141,21 @@ impl<'a> PathSegments<'a> {
         }
     }
 
-    /// The segments without the last name and the last list of arguments.
+    /// Returns the segments without the last name and the last list of arguments.
     pub fn strip_last(&self) -> PathSegments<'a>
         ensures { segments_in result ≡ strip 1 (segments_in self.now) }
     {
         self.strip(1)
     }
 
-    /// The segments without the last two names and the last two lists of arguments.
+    /// Returns the segments without the last two names and the last two lists of arguments.
     pub fn strip_last_two(&self) -> PathSegments<'a>
         ensures { segments_in result ≡ strip 2 (segments_in self.now) }
     {
         self.strip(2)
     }
 
-    /// The segments without the last `count` names and the last `count` lists of arguments.
+    /// Returns the segments without the last `count` names and the last `count` lists of arguments.
     fn strip(&self, count: usize) -> PathSegments<'a>
         ensures { segments_in result ≡ strip count (segments_in self.now) }
     {
@@ -164,14 +166,15 @@ impl<'a> PathSegments<'a> {
     }
 }
 
-/// The arguments at an index: `None` if there are no lists, too few of them, or no arguments at this index.
+/// Returns the arguments at an index: `None` if there are no lists, too few of them, or no arguments at this
+/// index.
 fn args_at<'a>(lists: Option<&'a [Option<GenericArgs>]>, idx: usize) -> Option<&'a GenericArgs>
     ensures { option_copied result ≡ get_or (or_none (option_copied lists.entry)) idx None }
 {
     lists?.get(idx)?.as_ref()
 }
 
-/// The items without the last `count` of them.
+/// Returns the items without the last `count` of them.
 fn all_but<T>(items: &[T], count: usize) -> &[T]
     ensures { result.now ≡ all_but count items.now }
 {

@@ -8,7 +8,7 @@ use crate::segments::PathSegment;
 use hir_base::Name;
 use std::iter::FusedIterator;
 
-/// The segments of a path that are left, seen as their list.
+/// The segments of a path that are left, modelled as their list.
 #[derive(Clone, Drop)]
 pub struct PathSegmentsIter<'a> {
     names: &'a [Name],

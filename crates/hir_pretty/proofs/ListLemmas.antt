@@ -88,7 +88,7 @@ marked_arguments marks places n [] h = refl
 marked_arguments marks places n (x ∷ xs) h =
     ap₂ (λ b ys. (when b (text (codes "const: ")) ++ t x) ∷ ys) (h n (omega arith)) (marked_arguments marks places (n + 1) xs (λ i k. h i (omega (arith, k))))
 
--- a marked argument and those behind it
+-- a marked argument and those after it
 pub marked_step : (sep : List Doc) (marks : List Bool) (at x : ℕ) (xs : List ℕ) → at < length xs → x ≡ get_or xs at x
     → when (nat_lt 0 at) sep ++ when (get_or marks at false) (text (codes "const: ")) ++ t x
     ++ following sep (nat_lt 0 (at + 1)) (map (marked_docs marks) (enumerate_from (at + 1) (drop (at + 1) xs)))

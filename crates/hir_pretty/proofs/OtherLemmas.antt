@@ -19,14 +19,14 @@ missing_after (Absent first ∷ ps) m = refl
 pub lacks_after : (s : PrintEnv) (is : List Doc) (m : Missing) → first_missing (doc_list_pieces s (is ++ (MissingDoc m ∷ []))) ≡ Some (missing_or (first_missing (doc_list_pieces s is)) m)
 lacks_after s is m = ap first_missing (flat_map-append (doc_pieces s (pieces s)) is (MissingDoc m ∷ [])) ∙ missing_after (doc_list_pieces s is) m
 
--- the same pieces are printed the same from any store, where lines are
+-- the same doc pieces are printed the same from any store, where lines are
 pub in_another : {Z : Type 0} {s other : PrintEnv} {ps : List DocPiece} {result : Result (String Z) PrintFault} → PrintsPieces s ps result → other.one_line ≡ s.one_line → PrintsPieces other ps result
 in_another {ps = ps} {result = result} a e = record {
   text = subst (λ b. IfOk result (λ text. (first_missing ps ≡ None) × (string_bytes text ≡ rendering (format_of b) (layout ps)))) (sym e) a.text;
   missing = a.missing;
 }
 
--- what is answered of pieces of which one is missing, and where memory was refused
+-- what is returned of doc pieces of which one is missing, and where an allocation fails
 pub prints_missing : {Z : Type 0} {s : PrintEnv} {ps : List DocPiece} {m : Missing} → first_missing ps ≡ Some m → PrintsPieces s ps (let answer : Result (String Z) PrintFault = Err (fault.Missing m) in answer)
 prints_missing h = record { text = tt; missing = λ n e. cc }
 

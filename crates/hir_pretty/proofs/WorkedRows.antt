@@ -1,4 +1,4 @@
--- Worked bodies, fields and signatures, and the texts that their pieces give.
+-- Worked bodies, fields and signatures, and the texts that their doc pieces give.
 use Rattle.std.proofs.Common.{◌≡◌, ℕ, true, false, List, [], ◌∷◌, Option, Some, None, refl, codes, pos, Result, Ok, Err}
 use Rattle.std.specs.Fmt.{digits}
 use Rattle.hir_forest.specs.Height.{height}
@@ -97,7 +97,7 @@ only x = record { store = store (x ∷ []) [] [] (root 0 ∷ []); params = []; s
 abbrev of_enum_0 : Parents
 of_enum_0 id = Ok 0
 
--- the text of items, and the first definition that is missing among them
+-- the text of documents, and the first definition that is missing among them
 abbrev text_from : Contents → (PrintEnv → List Doc) → List ℕ
 text_from c items = let s = print_env tables c in text_of s (doc_list_pieces s (items s))
 

@@ -1,9 +1,10 @@
--- Words of what is added beside the items of definitions.
+-- Words of what is added beside the documents of definitions.
 use Rattle.std.specs.Prelude.{ℕ, Bool, false, List, ◌++◌, get_or, codes, Option, Some, None, Result, Ok, Err}
+use Rattle.hir_path.specs.NodeIds.{TypeRefId}
 use Rattle.hir_pretty_nodes.specs.Prelude.{Doc, text, t, when}
 
 -- what the type of an argument is printed as where its place is marked
-abbrev pub marked_docs : List Bool → ℕ × ℕ → List Doc
+abbrev pub marked_docs : List Bool → ℕ × TypeRefId → List Doc
 marked_docs marks entry = when (get_or marks entry.0 false) (text (codes "const: ")) ++ t entry.1
 
 -- why there is no value

@@ -3,6 +3,7 @@ use Rattle.std.specs.Prelude.{ℕ, List, [], ◌∷◌, ◌++◌, map, Option, R
 use Rattle.hir_base.specs.declared.defs.DefWithBodyId.{DefWithBodyId}
 use Rattle.hir_base.specs.declared.defs.DefWithBodyId.TheVariants as body
 use Rattle.hir_base.specs.declared.defs.NamedDef.TheVariants as named
+use Rattle.hir_path.specs.NodeIds.{PatId, BindingId}
 use Rattle.hir_pretty_nodes.specs.Prelude.{Missing, PrintEnv, Doc, MissingDoc, text, e, p, opt, comma_joined, binding_docs, found_name}
 use Rattle.hir_items.specs.declared.formals.Param.{Param}
 use Rattle.hir_items.specs.Bodies.{BodyContents, formals_of, last_root}
@@ -11,7 +12,7 @@ use Rattle.hir_items.specs.Bodies.{BodyContents, formals_of, last_root}
 abbrev pub Parents : Type 0
 Parents = ℕ → Result ℕ Missing
 
--- the name of a variant behind that of its enum, which is looked up first
+-- the name of a variant after that of its enum, which is looked up first
 abbrev pub of_enum : PrintEnv → ℕ → Result ℕ Missing → List Doc
 of_enum s id (Err missing) = MissingDoc missing ∷ []
 of_enum s id (Ok parent) =
@@ -33,11 +34,11 @@ body_head s parents (body.ConstId id) = text (codes "const ")
 body_head s parents (body.VariantId id) = variant_name s parents id
 
 -- the binding of `self`, where there is one, and the formal patterns
-abbrev pub formal_params : PrintEnv → Option ℕ → List ℕ → List (List Doc)
+abbrev pub formal_params : PrintEnv → Option BindingId → List PatId → List (List Doc)
 formal_params s self_binding formals = map (binding_docs s) (option_to_list self_binding) ++ map p formals
 
 -- only a function has parameters
-abbrev pub body_params : PrintEnv → Option ℕ → List ℕ → DefWithBodyId → List Doc
+abbrev pub body_params : PrintEnv → Option BindingId → List PatId → DefWithBodyId → List Doc
 body_params s self_binding formals (body.FunctionId id) =
     text (codes "(") ++ comma_joined (formal_params s self_binding formals) ++ text (codes ") ")
 body_params s self_binding formals owner = []
@@ -48,7 +49,7 @@ body_end (body.ConstId id) = text (codes ";")
 body_end owner = []
 
 -- the binding of `self` and the patterns that are the parameters themselves, not those that the user wrote
-abbrev pub formal_self : Option (Param ℕ) → Option ℕ
+abbrev pub formal_self : Option (Param BindingId) → Option BindingId
 formal_self self_param = option_map (λ param. param.formal) self_param
 
 -- a body, which evaluates to its last root

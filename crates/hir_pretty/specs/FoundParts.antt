@@ -1,4 +1,5 @@
--- What the tables have that heads of definitions ask for: the enum of a variant, the fields of a variant, signatures.
+-- What the tables have that heads of definitions ask for: the enum of a variant, the fields of a variant,
+-- signatures.
 use Rattle.std.specs.Prelude.{ℕ, [], ◌∷◌, Option, Result, option_map}
 use Rattle.std.specs.FinMap as map
 use Rattle.hir_base.specs.Keys.{fields_code}

@@ -1,4 +1,4 @@
--- What printing the signature of any definition answers.
+-- What printing the signature of any definition returns.
 use Rattle.std.specs.Prelude.{◌≡◌, ℕ, false, List, [], ◌∷◌, Option, Some, None, Result, Err, codes, String}
 use Rattle.std.specs.FinMap as map
 use Rattle.hir_base.specs.declared.{defs.AdtId.AdtId, defs.GenericDefId.GenericDefId}
@@ -13,7 +13,7 @@ use Rattle.hir_pretty_nodes.specs.Prelude.{PrintEnv, print_env, lookups_of, Prin
 use Rattle.hir_pretty.specs.FoundParts.{function_found, struct_found}
 use Rattle.hir_pretty.specs.Signatures.{function_docs, struct_docs, unimplemented_docs}
 
--- Of a function: its signature is missing, or its pieces, with the signature's own store.
+-- The signature of a function: it is missing, or its doc pieces are printed, with the signature's own store.
 abbrev pub PrintsFunction : {Z : Type 0} → Tables → List (List ℕ) → ℕ → Option FunctionParts
     → Result (String Z) PrintFault → Type 0
 PrintsFunction t words id None result = result
@@ -21,7 +21,7 @@ PrintsFunction t words id None result = result
 PrintsFunction t words id (Some f) result = let s = print_env f.store (lookups_of t) words false in
     PrintsPieces s (doc_list_pieces s (function_docs s f)) result
 
--- The same of a struct.
+-- The signature of a struct: it is missing, or its doc pieces are printed, with the signature's own store.
 abbrev pub PrintsStruct : {Z : Type 0} → Tables → List (List ℕ) → ℕ → Option StructParts
     → Result (String Z) PrintFault → Type 0
 PrintsStruct t words id None result = result ≡ Err
@@ -30,7 +30,7 @@ PrintsStruct t words id (Some x) result =
     let s = print_env x.store (lookups_of t) words false in
     PrintsPieces s (doc_list_pieces s (struct_docs s (map.get t.reprs (id ∷ [])) x)) result
 
--- Of any other, of which nothing is looked up: in lines, whatever else is set.
+-- The signature of any other definition, of which nothing is looked up: in lines, whatever else is set.
 abbrev pub PrintsOther : {Z : Type 0} → List ℕ → ℕ → Result (String Z) PrintFault → Type 0
 PrintsOther kind id result = (s : PrintEnv) → s.one_line ≡ false
     → PrintsPieces s (doc_list_pieces s (unimplemented_docs kind id)) result

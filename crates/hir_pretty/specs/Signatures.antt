@@ -4,6 +4,7 @@ use Rattle.std.specs.List.{enumerate_from, list_any}
 use Rattle.hir_base.specs.Abi.{abi_text}
 use Rattle.hir_base.specs.declared.{abi.ExternAbi.ExternAbi}
 use Rattle.hir_base.specs.declared.abi.ExternAbi.TheVariants as abi
+use Rattle.hir_path.specs.NodeIds.{TypeRefId}
 use Rattle.hir_generics.specs.declared.{data.LifetimeParamData.LifetimeParamData, param.TypeOrConstParamData.TypeOrConstParamData, predicate.WherePredicate.WherePredicate}
 use Rattle.hir_generics.specs.declared.param.TypeOrConstParamData.TheVariants as param
 use Rattle.hir_generics.specs.declared.predicate.WherePredicate.TheVariants as predicate
@@ -73,10 +74,10 @@ abbrev pub is_listed : Option (List ℕ) → ℕ → Bool
 is_listed None at = false
 is_listed (Some places) at = list_any (λ place. place == at) places
 
-abbrev pub argument_docs : Option (List ℕ) → ℕ × ℕ → List Doc
+abbrev pub argument_docs : Option (List ℕ) → ℕ × TypeRefId → List Doc
 argument_docs places entry = when (is_listed places entry.0) (text (codes "const: ")) ++ t entry.1
 
-abbrev pub arguments : Option (List ℕ) → List ℕ → List Doc
+abbrev pub arguments : Option (List ℕ) → List TypeRefId → List Doc
 arguments places types = comma_joined (map (argument_docs places) (enumerate_from 0 types))
 
 abbrev pub flags : FunctionParts → List Doc

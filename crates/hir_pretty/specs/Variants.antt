@@ -64,7 +64,7 @@ fields_docs s shape fields = fields_begin shape ++ flat_map (field_line s) field
 abbrev pub variant_docs : PrintEnv → Parents → VariantId → VariantParts → List Doc
 variant_docs s parents owner v = variant_head s parents owner ++ fields_docs s v.shape v.fields
 
--- one whose fields are missing
+-- the documents of a variant whose fields are missing
 abbrev pub without_fields : PrintEnv → Parents → VariantId → List Doc
 without_fields s parents owner = variant_head s parents owner ++ (MissingDoc (missing.Fields owner) ∷ [])
 

@@ -107,11 +107,12 @@ fn add_body<W: PieceWriter>(
     add_end(printer, owner)
 }
 
-/// The text of a body of this owner, in lines: its head with the names that the tables have, the formal parameters where it is a
-/// function's, and what it evaluates to. The enum of a variant is looked up first, then both names.
+/// The text of a body of this owner, in lines: its head with the names that the tables have, the formal
+/// parameters where it is a function's, and what it evaluates to. The enum of a variant is looked up first,
+/// then both names.
 ///
-/// Answers `Missing` of the first definition that the text names and the tables don't have, and `Memory` where memory was refused. An
-/// error drops the text that was begun.
+/// Returns `Missing` of the first definition that the text names and the tables don't have, and `Memory`
+/// where an allocation fails. An error drops the text that was begun.
 pub fn print_body_hir(
     alloc: Global,
     tables: &Tables,

@@ -11,9 +11,9 @@ ghost use Rattle.hir_pretty.specs.FoundParts.{parents};
 
 use hir_base::{DefWithBodyId, EnumId, EnumVariantId, NamedDef, VariantId};
 use hir_defs::Tables;
-use hir_store_core::Missing;
 use hir_pretty_layout::PieceWriter;
 use hir_pretty_nodes::{Printer, Token};
+use hir_store_core::Missing;
 use std::alloc::AllocError;
 
 fn add_enum<W: PieceWriter>(

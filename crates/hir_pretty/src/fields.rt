@@ -10,9 +10,9 @@ ghost use Rattle.hir_pretty.specs.FoundParts.{parents, fields_found};
 use crate::body_heads::{add_variant_head, missing_in_head};
 use hir_base::{Edition, ModPath, PathKind, VariantId};
 use hir_defs::{FieldData, FieldsShape, RawVisibility, Tables, VariantFields};
-use hir_store_core::Missing;
 use hir_pretty_layout::PieceWriter;
 use hir_pretty_nodes::{PrintFault, Printer, Token, colons_first};
+use hir_store_core::Missing;
 use std::alloc::{AllocError, Global};
 
 /// Adds what the path of a module begins with.
@@ -162,11 +162,11 @@ fn fields_of<'a>(tables: &'a Tables, owner: &VariantId) -> Result<&'a VariantFie
     }
 }
 
-/// The text of a struct, a union or a variant of an enum with the fields that the tables have, in lines. The enum of a variant is looked
-/// up first, then the names, and then the fields.
+/// The text of a struct, a union or a variant of an enum with the fields that the tables have, in lines. The
+/// enum of a variant is looked up first, then the names, and then the fields.
 ///
-/// Answers `Missing` of the first definition that the text names and the tables don't have, and `Memory` where memory was refused. An
-/// error drops the text that was begun.
+/// Returns `Missing` of the first definition that the text names and the tables don't have, and `Memory`
+/// where an allocation fails. An error drops the text that was begun.
 pub fn print_variant_body_hir(
     alloc: Global,
     tables: &Tables,

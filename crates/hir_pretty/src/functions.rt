@@ -159,11 +159,12 @@ fn add_function<'a, W: PieceWriter>(
     printer.add(&[Token::Text(" {...}"), Token::Break])
 }
 
-/// The text of a function's signature, in lines. Which function has it makes no difference to the text. Other definitions that it names,
-/// and parameters that a type names by their id, its own ones too, are looked up in the tables.
+/// The text of a function's signature, in lines. Which function has it makes no difference to the text. Other
+/// definitions that it names, and parameters that a type names by their id, its own ones too, are looked up
+/// in the tables.
 ///
-/// Answers `Missing` of the first definition that the text names and the tables don't have, and `Memory` where memory was refused. An
-/// error drops the text that was begun.
+/// Returns `Missing` of the first definition that the text names and the tables don't have, and `Memory`
+/// where an allocation fails. An error drops the text that was begun.
 pub fn print_function(
     alloc: Global,
     tables: &Tables,

@@ -7,16 +7,16 @@ ghost use Rattle.hir_validate.specs.Fits.{path_fits};
 
 use hir_base::{Edition, ExpressionStoreOwnerId};
 use hir_defs::Tables;
-use hir_store_core::ExpressionStore;
 use hir_node::{ExprId, PatId, Path};
 use hir_pretty_nodes::{PrintFault, Printer, Token};
+use hir_store_core::ExpressionStore;
 use std::alloc::Global;
 
-/// The text of an expression of the store, in lines. The expression has to be there: `has_expr` tests it. What owns the store makes no
-/// difference to the text.
+/// The text of an expression of the store, in lines. The expression has to be in range: `has_expr` tests it.
+/// What owns the store makes no difference to the text.
 ///
-/// Answers `Missing` of the first definition that the text names and the tables don't have, and `Memory` where memory was refused. An
-/// error drops the text that was begun.
+/// Returns `Missing` of the first definition that the text names and the tables don't have, and `Memory`
+/// where an allocation fails. An error drops the text that was begun.
 pub fn print_expr_hir(
     alloc: Global,
     tables: &Tables,
@@ -34,11 +34,11 @@ pub fn print_expr_hir(
     printer.print()
 }
 
-/// The text of a pattern of the store, in one line or in lines. The pattern has to be there: `has_pat` tests it. What owns the store makes
-/// no difference to the text.
+/// The text of a pattern of the store, in one line or in lines. The pattern has to be in range: `has_pat`
+/// tests it. What owns the store makes no difference to the text.
 ///
-/// Answers `Missing` of the first definition that the text names and the tables don't have, and `Memory` where memory was refused. An
-/// error drops the text that was begun.
+/// Returns `Missing` of the first definition that the text names and the tables don't have, and `Memory`
+/// where an allocation fails. An error drops the text that was begun.
 pub fn print_pat_hir(
     alloc: Global,
     tables: &Tables,
@@ -58,10 +58,11 @@ pub fn print_pat_hir(
     printer.print()
 }
 
-/// The text of a path whose types, lifetimes and constants are of the store, in lines: `path_is_sound` of the store tests it.
+/// The text of a path whose types, lifetimes and constants are of the store, in lines: `path_is_sound` of the
+/// store tests it.
 ///
-/// Answers `Missing` of the first definition that the text names and the tables don't have, and `Memory` where memory was refused. An
-/// error drops the text that was begun.
+/// Returns `Missing` of the first definition that the text names and the tables don't have, and `Memory`
+/// where an allocation fails. An error drops the text that was begun.
 pub fn print_path(
     alloc: Global,
     tables: &Tables,

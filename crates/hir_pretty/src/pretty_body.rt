@@ -32,8 +32,8 @@ pub trait PrettyBody {
             let s = print_env b.store (lookups_of tables.now) (words_of tables.now.words edition) false in
             PrintsPieces s (doc_list_pieces s (body_docs s (parents tables.now) owner b)) result };
 
-    /// The text of an expression of the body, as `print_expr_hir` gives it. The expression has to be there: `has_expr` of the store
-    /// tests it.
+    /// The text of an expression of the body, as `print_expr_hir` gives it. The expression has to be in
+    /// range: `has_expr` of the store tests it.
     fn pretty_print_expr(
         &self,
         alloc: Global,
@@ -47,7 +47,8 @@ pub trait PrettyBody {
             (words_of tables.now.words edition) false in
             PrintsPieces s (pieces s (node.Expr expr)) result };
 
-    /// The text of a pattern of the body, as `print_pat_hir` gives it. The pattern has to be there: `has_pat` of the store tests it.
+    /// The text of a pattern of the body, as `print_pat_hir` gives it. The pattern has to be in range:
+    /// `has_pat` of the store tests it.
     fn pretty_print_pat(
         &self,
         alloc: Global,

@@ -11,9 +11,9 @@ use crate::functions::print_function;
 use crate::structs::print_struct;
 use hir_base::{AdtId, Edition, FunctionId, GenericDefId, StructId};
 use hir_defs::Tables;
-use hir_store_core::ExpressionStore;
 use hir_pretty_layout::PieceWriter;
 use hir_pretty_nodes::{PrintFault, Printer, Token};
+use hir_store_core::ExpressionStore;
 use std::alloc::{AllocError, Global};
 
 /// Adds that the signature of a definition of this kind isn't printed.
@@ -89,11 +89,13 @@ fn print_adt(
     }
 }
 
-/// The text of the signature that the tables have of a definition, in lines: as `print_function` gives it of a function, and
-/// `print_struct` of a struct. Of any other it says `unimplemented`, its kind and its number, and nothing is looked up.
+/// The text of the signature that the tables have of a definition, in lines: as `print_function` gives it of
+/// a function, and `print_struct` of a struct. Of any other it says `unimplemented`, its kind and its number,
+/// and nothing is looked up.
 ///
-/// Answers `Missing` of the signature where the tables have none of the function or of the struct, or else of the first definition outside
-/// that the text names and that the tables don't have; and `Memory` where memory was refused. An error drops the text that was begun.
+/// Returns `Missing` of the signature where the tables have none of the function or of the struct, or else of
+/// the first definition outside that the text names and that the tables don't have; and `Memory` where an
+/// allocation fails. An error drops the text that was begun.
 pub fn print_signature(
     alloc: Global,
     tables: &Tables,

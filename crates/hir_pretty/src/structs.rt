@@ -121,11 +121,12 @@ fn add_struct<'a, W: PieceWriter>(
     add_end(printer, signature.shape())
 }
 
-/// The text of a struct's signature, in lines, after what the tables have of its representation in memory. Other definitions that it
-/// names, and parameters that a type names by their id, its own ones too, are looked up in the tables.
+/// The text of a struct's signature, in lines, after what the tables have of its representation in memory.
+/// Other definitions that it names, and parameters that a type names by their id, its own ones too, are
+/// looked up in the tables.
 ///
-/// Answers `Missing` of the first definition that the text names and the tables don't have, and `Memory` where memory was refused. An
-/// error drops the text that was begun.
+/// Returns `Missing` of the first definition that the text names and the tables don't have, and `Memory`
+/// where an allocation fails. An error drops the text that was begun.
 pub fn print_struct(
     alloc: Global,
     tables: &Tables,

@@ -1,4 +1,4 @@
--- The pieces of strings, characters and bytes, as source text writes them.
+-- The layouts of strings, characters and bytes, as source text writes them.
 use Rattle.std.specs.Prelude.{ℕ, ◌/◌, ◌%◌, List, [], ◌∷◌, ◌++◌, nat_lt, ◌==◌, ◌||◌, if◌then◌else◌, codes}
 use Rattle.std.specs.List.{flat_map}
 use Rattle.std.specs.Char.{digit_char, encode_utf8, is_ascii_control}
@@ -52,7 +52,7 @@ lone_char c = escaped_by (short_escape c) (long_escape c)
 abbrev pub byte_pieces : ℕ → List Layout
 byte_pieces b = escaped_by (escape_in_bytes b) (byte_escape b)
 
--- pieces behind a double quote, and this text behind them
+-- layouts after a double quote, and this text after them
 abbrev pub quoted : List Layout → List ℕ → List Layout
 quoted ps end = Text (codes "\"") ∷ (ps ++ (Text end ∷ []))
 

@@ -1,4 +1,4 @@
--- A page of text, and what pieces make of it.
+-- A page of text, and what layouts make of it.
 use Rattle.std.specs.Prelude.{◌≡◌, ℕ, ◌+◌, ◌*◌, ◌-◌, Bool, true, false, List, [], ◌∷◌, ◌++◌, replicate, ◌==◌, if◌then◌else◌}
 use Rattle.hir_pretty_layout.specs.declared.line_format.LineFormat.{LineFormat}
 use Rattle.hir_pretty_layout.specs.declared.line_format.LineFormat.TheVariants.{Oneline, Newline, Indentation}
@@ -9,7 +9,8 @@ use Rattle.hir_pretty_layout.specs.Steps.{steps}
 abbrev pub Lines : Type 0
 Lines = List (List ℕ) × List ℕ
 
--- A page: its lines, the level of the lines to come, and how the next text is laid out. The format is Indentation where that text begins a line.
+-- A page: its lines, the level of the lines to come, and how the next text is laid out. The format is
+-- Indentation where that text begins a line.
 pub record Page : Type 0 where
   pub above : List (List ℕ)
   pub last : List ℕ
@@ -90,7 +91,8 @@ abbrev pub with_space : Page → Page
 with_space p = if is_empty_line p.last then p else (if ends_in_space p.last then p
     else record p { last = p.last ++ (32 ∷ []) })
 
--- a break in lines: nothing after a blank line; else the line's trailing spaces are removed, and a line end is added
+-- a break in lines: nothing after a blank line; else the line's trailing spaces are removed, and a line end
+-- is added
 abbrev pub line_ended : Page → Page
 line_ended p = if is_blank p.last then p else put 10 (record p { last = trim p.last })
 
@@ -111,7 +113,7 @@ break_in Indentation p = line_ended p
 abbrev pub with_break : Page → Page
 with_break p = break_in p.format p
 
--- the lines without empty last ones, while more than one is there
+-- the lines without empty last ones, while there is more than one
 abbrev pub cut_lines : List (List ℕ) → List ℕ → Lines
 cut_lines [] last = ([], last)
 cut_lines (line ∷ above) [] = cut_lines above line
@@ -120,7 +122,7 @@ cut_lines (line ∷ above) (c ∷ cs) = (line ∷ above, c ∷ cs)
 abbrev pub without_empty_lines : Page → Page
 without_empty_lines p = let l = cut_lines p.above p.last in record p { above = l.0; last = l.1 }
 
--- what a piece makes of a page
+-- what a layout makes of a page
 abbrev pub render : Layout → Page → Page
 render (Text bytes) p = put_all bytes p
 render SoftSpace p = with_space p
@@ -131,6 +133,6 @@ render Outdent p = without_empty_lines (record p { level = p.level - 1 })
 abbrev pub all_rendered : List Layout → Page → Page
 all_rendered = steps render
 
--- the text of pieces, in one line or in lines
+-- the text of layouts, in one line or in lines
 abbrev pub rendering : LineFormat → List Layout → List ℕ
 rendering format ps = page_text (all_rendered ps (empty_page format))

@@ -1,13 +1,14 @@
--- What steps over pieces make of a value, whatever is written to.
+-- What steps over layouts make of a value, by any step.
 use Rattle.std.specs.Prelude.{◌≡◌, List, [], ◌∷◌, ◌++◌}
 use Rattle.hir_pretty_layout.specs.Layouts.{Layout}
 
--- the value after a step for each piece, the first first
+-- the value after a step for each layout, in order
 abbrev pub steps : {W : Type 0} → (Layout → W → W) → List Layout → W → W
 steps step [] value = value
 steps step (p ∷ ps) value = steps step ps (step p value)
 
--- Writing stops in pieces, at one for which memory is refused: those before it were written, and nothing is written after that.
+-- Writing stops at a layout for which an allocation fails: those before it were written, and nothing is
+-- written after that.
 pub record StopsIn {W : Type 0} (step : Layout → W → W) (refuses : Layout → W → W → Type 0)
     (pieces : List Layout) (old new : W) : Type 0 where
   pub before : List Layout

@@ -1,4 +1,5 @@
-//! The one buffer of a printing: a text that is written at its end alone, and looks back over its last characters.
+//! The one buffer of a printing: a text that is written at its end alone, and looks back over its last
+//! characters.
 #![tactic(auto, using(crate::proofs::BufferLemmas::grown))]
 
 ghost use Rattle.std.specs.Prelude.{◌≡◌, ◌∷◌, [], ◌++◌, ◌+◌, ◌-◌, ◌*◌, replicate, OnOk, OnErr, IsTrue, ◌↔◌, string_bytes};
@@ -10,11 +11,11 @@ use std::alloc::{AllocError, Global};
 use std::fmt;
 use std::marker::Model;
 
-/// A page of text, written piece by piece. Contracts see it as its lines, its level and its format.
+/// A page of text, written layout by layout. Contracts see it as its lines, its level and its format.
 ///
-/// No step goes over the text again: the length without trailing spaces is kept, and the indentation is a text of spaces that
-/// grows and shrinks with the level. A step fails only if memory for the text or the indentation was refused, and then it
-/// leaves the page as it was.
+/// No step goes over the text again: the length without trailing spaces is kept, and the indentation is a
+/// text of spaces that grows and shrinks with the level. A step fails only if an allocation for the text or
+/// the indentation failed, and then it leaves the page as it was.
 #[derive(Drop)]
 pub struct PageBuffer {
     text: String,
@@ -156,7 +157,7 @@ impl PageBuffer {
         }
     }
 
-    /// Writes text: all of it, or nothing where memory is refused.
+    /// Writes text: all of it, or nothing where an allocation fails.
     fn all_or_none(&mut self, text: &str) -> Result<(), AllocError>
         ensures ok { OnOk result (self.new ≡ put_all text.now self.old) }
         ensures err { OnErr result (self.new ≡ self.old) }
@@ -198,7 +199,8 @@ impl PageBuffer {
         Ok(())
     }
 
-    /// Ends the last line without its trailing spaces. It is refused only where there were none: their room is enough for a line end.
+    /// Ends the last line without its trailing spaces. It is refused only where there were none: their room
+    /// is enough for a line end.
     fn end_trimmed(&mut self) -> Result<(), AllocError>
         ensures ok { OnOk result (self.new ≡ record self.old {
           above = trim self.old.last ∷ self.old.above;
@@ -215,8 +217,8 @@ impl PageBuffer {
         Ok(())
     }
 
-    /// Ends the last line without its trailing spaces, and a line of indentation. Room for all is asked for first, since spaces
-    /// that were removed could not be written again.
+    /// Ends the last line without its trailing spaces, and a line of indentation. Room for all is asked for
+    /// first, since spaces that were removed could not be written again.
     fn end_two_lines(&mut self) -> Result<(), AllocError>
         ensures ok { OnOk result (self.new ≡ record self.old {
           above = replicate (4 * self.old.level) 32 ∷ trim self.old.last ∷ self.old.above;
@@ -311,7 +313,7 @@ impl PieceWriter for PageBuffer {
 
     ghost step = { render };
 
-    // a page for which memory is refused stays as it was
+    // a page for which an allocation fails stays as it was
     ghost refuses = { λ piece old new. new ≡ old };
 
     #[tactic(auto, using(crate::proofs::PageLemmas::put_all_in_line))]
@@ -360,7 +362,7 @@ impl fmt::Write for PageBuffer {
 
     ghost write_str_gives = { λ old text new. new ≡ put_all text old };
 
-    /// Writes text. It fails where memory is refused, and then leaves the page as it was.
+    /// Writes text. It fails where an allocation fails, and then leaves the page as it was.
     fn write_str(&mut self, text: &str) -> fmt::Result {
         match self.text(text) {
             Ok(()) => Ok(()),

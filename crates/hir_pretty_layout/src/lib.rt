@@ -1,4 +1,5 @@
-//! Pages of text: the five calls by which pieces are written, what they make of a page, and the one buffer that holds it.
+//! Pages of text: the five calls by which text and layout are written, what they make of a page, and the one
+//! buffer that holds it.
 #![tactic(auto)]
 
 mod buffer;

@@ -1,4 +1,5 @@
-//! Literals as source text writes them: strings, characters, bytes and numbers, with their escapes and without a temporary string.
+//! Literals as source text writes them: strings, characters, bytes and numbers, with their escapes and
+//! without a temporary string.
 #![tactic(auto, using(crate::proofs::PieceLemmas::pieces))]
 
 ghost use Rattle.std.specs.Prelude.{◌≡◌, ◌<◌, ◌∷◌, [], OnOk, OnErr};
@@ -183,7 +184,7 @@ fn write_bytes<W: PieceWriter>(writer: &mut W, bytes: &[u8]) -> Result<(), Alloc
     Ok(())
 }
 
-/// Writes bytes behind a double quote, and this text behind them.
+/// Writes bytes after a double quote, and this text after them.
 fn write_quoted<W: PieceWriter>(writer: &mut W, bytes: &[u8], end: &str) -> Result<(), AllocError>
     ensures ok { OnOk result (writer.new
         ≡ steps W.step (quoted (flat_map byte_pieces bytes.now) end.now) writer.old) }

@@ -1,19 +1,20 @@
-//! What printing writes to: five calls, one for each kind of piece.
+//! What printing writes to: five calls, one for each kind of layout.
 ghost use Rattle.std.specs.Prelude.{◌≡◌, OnOk, OnErr};
 ghost use Rattle.hir_pretty_layout.specs.Layouts as piece;
 ghost use Rattle.hir_pretty_layout.specs.Layouts.{Layout};
 
 use std::alloc::AllocError;
 
-/// Takes pieces, one after another.
+/// Takes layouts, one after another.
 ///
-/// An implementation says by `step` what each piece makes of its value, and by `refuses` what its value may be where memory for a piece
-/// is refused. What code writes by these calls is proved once, for every implementation.
+/// An implementation says by `step` what each layout makes of its value, and by `refuses` what its value may
+/// be where an allocation for a layout fails. What code writes by these calls is proved once, for every
+/// implementation.
 pub trait PieceWriter {
-    // the value after a piece, from the piece and the value before it
+    // the value after a layout, from the layout and the value before it
     ghost step: { Layout → Self → Self };
 
-    // relates a piece for which memory was refused, the value before it, and the value that this leaves
+    // relates a layout for which an allocation fails, the value before it, and the value that this leaves
     ghost refuses: { Layout → Self → Self → Type 0 };
 
     /// Writes text.

@@ -1,4 +1,4 @@
--- What a printer has to print after items were added.
+-- What a printer has to print after documents were added.
 use Rattle.std.proofs.Common.{◌≡◌, ◌+◌, ◌<◌, ◌≤◌, ℕ, Bool, true, false, List, [], ◌∷◌, ◌++◌, refl, sym, ap, subst, ◌∙◌, append_assoc, append-nil, Option, Some, None, arith, length, take, get_or, slice_get, inl, inr, IsTrue}
 use Rattle.std.proofs.lemmas.Bool.{cases_lt}
 use Rattle.std.proofs.lemmas.Option.{slice_get_past}
@@ -43,7 +43,7 @@ module _ {W : Type 0} {step : Layout → W → W} where
     alike = λ more. ap (λ xs. printing step u (doc_list_pieces s xs)) (append_assoc is ks more) ∙ a.alike (ks ++ more) ∙ ap (λ xs. printing step v (doc_list_pieces s xs)) (sym (append_assoc js ks more));
   }
 
-  -- the same items on the same page
+  -- the same documents on the same page
   pub alike_as : {s : PrintEnv} {u : W} {is js : List Doc} → is ≡ js → PrintsAlike step s u is u js
   alike_as {s} {u} e = record { alike = λ more. ap (λ xs. printing step u (doc_list_pieces s (xs ++ more))) e }
 
@@ -59,7 +59,7 @@ module _ {W : Type 0} {step : Layout → W → W} where
         less = let k = ap (size old.from) same in omega arith;
       }
 
-  -- items behind others
+  -- documents after others
   pub adds_then : {old between new : Printing step} {f g : PrintEnv → List Doc} → AddsDocs old f between → AddsDocs between g new → AddsDocs old (λ s. f s ++ g s) new
   adds_then {old} {between} {new} {f} {g} a b =
       let s = old.from in
@@ -77,7 +77,7 @@ module _ {W : Type 0} {step : Layout → W → W} where
             let m = ap (size s) (append_assoc kept (f s) (g s)) in omega arith;
       }
 
-  -- the same items in other words
+  -- the same documents in other words
   pub adds_here : {old new : Printing step} {f g : PrintEnv → List Doc} → AddsDocs old f new → f old.from ≡ g old.from → AddsDocs old g new
   adds_here {old} {new} {f} {g} a e = record {
     same = a.same;
@@ -88,7 +88,7 @@ module _ {W : Type 0} {step : Layout → W → W} where
   pub adds_as : {old new : Printing step} {f g : PrintEnv → List Doc} → AddsDocs old f new → ((s : PrintEnv) → f s ≡ g s) → AddsDocs old g new
   adds_as {old} a e = adds_here a (e old.from)
 
-  -- works that stand for the items, and works behind others
+  -- tokens that stand for the documents, and tokens after others
   pub adds : {tokens : List Token} {old new : Printing step} {is : PrintEnv → List Doc} → AddsList old tokens new → ((s : PrintEnv) → docs_one_by_one s tokens ≡ is s) → AddsDocs old is new
   adds a e = adds_as a.adds e
 

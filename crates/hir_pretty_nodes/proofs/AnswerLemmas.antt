@@ -1,4 +1,4 @@
--- What the tables answer of parameters that are there, and of those that aren't.
+-- What the tables have of parameters that exist, and of those that don't.
 use Rattle.std.proofs.Common.{◌≡◌, Option, Some, None, ap, Ok, Err, option_map}
 use Rattle.hir_pretty_nodes.specs.Prelude.{Missing, found_or}
 use Rattle.hir_pretty_nodes.proofs.AddLemmas.{not_there}

@@ -1,4 +1,4 @@
--- What is printed inside a node stands lower than the node.
+-- What is printed inside a node has a lower rank than the node.
 use Rattle.std.proofs.Common.{◌≡◌, ℕ, zero, suc, Bool, true, false, List, [], ◌∷◌, ◌++◌, map, take, drop, codes, Option, Some, None, refl, sym, ap, ◌∙◌, subst, arith, slice_get, Contains, Result, Ok, Err, flat_map}
 use Rattle.std.specs.Prelude.{⊤}
 use Rattle.hir_path.specs.declared.{bound.TypeBound.TypeBound, bound.TraitBoundModifier.TraitBoundModifier, bound.UseArgRef.UseArgRef, path.GenericArg.GenericArg, path.AssociatedTypeBinding.TheShapes.former-AssociatedTypeBinding-args}

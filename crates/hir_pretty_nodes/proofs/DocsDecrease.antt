@@ -1,4 +1,4 @@
--- What is printed inside a node of an accepted store stands lower than the node.
+-- What is printed inside a node of an accepted store has a lower rank than the node.
 use Rattle.std.proofs.Common.{◌<◌, Contains, slice_get, arith}
 use Rattle.hir_node.specs.ChildCalls.{expr_calls, pat_calls, type_calls}
 use Rattle.hir_pretty_nodes.specs.Prelude.{NodeId, PrintEnv, expr_docs, pat_docs, type_docs, DocsDecrease}

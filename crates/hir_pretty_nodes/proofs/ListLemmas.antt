@@ -13,7 +13,7 @@ pub parts : {X : Type 0} (l : List X) (x : X) → 1 ≤ length l → x ≡ get_o
 parts [] x h e = absurd (omega arith)
 parts (y ∷ ys) x h e = ap₂ (λ a b. a ∷ b) (sym e) (sym (take_all (length (y ∷ ys) - 1) ys (omega arith)))
 
--- 2. Members behind separators
+-- 2. Members after separators
 
 pub following_step : {X : Type 0} (sep : List Doc) (f : X → List Doc) (after : Bool) (xs : List X) (i : ℕ) (x : X) → i < length xs → x ≡ get_or xs i x
     → (when after sep ++ f x) ++ following sep true (map f (drop (i + 1) xs)) ≡ following sep after (map f (drop i xs))
@@ -46,7 +46,7 @@ following_append sep (x ∷ xs) ys =
     ap (λ zs. zs ++ following sep true ys) (sym (following_is sep x xs)) ∙ append_assoc x (following sep true xs) (following sep true ys)
     ∙ ap (λ zs. x ++ zs) (true_after sep xs ys) ∙ following_is sep x (xs ++ ys)
 
--- 3. Members with something behind each
+-- 3. Members with something after each
 
 pub each_step : {X : Type 0} (f : X → List Doc) (xs : List X) (i : ℕ) (x : X) → i < length xs → x ≡ get_or xs i x
     → f x ++ flat_map f (drop (i + 1) xs) ≡ flat_map f (drop i xs)

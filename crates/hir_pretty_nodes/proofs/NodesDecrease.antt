@@ -1,4 +1,5 @@
--- What is printed inside an expression, a pattern or a type is among its child calls, or stands under one of them.
+-- What is printed inside an expression, a pattern or a type is among its child calls, or stands under one of
+-- them.
 use Rattle.std.proofs.Common.{ℕ, zero, suc, Bool, true, false, List, [], ◌∷◌, ◌++◌, map, take, drop, codes, Option, Some, None, sym, ap, ◌∙◌, subst, slice_get, not, Result, Ok, Err, flat_map, option_to_list}
 use Rattle.std.proofs.lemmas.List.Concat.{flat_map-append}
 use Rattle.hir_base.specs.OpTexts.{range_text}

@@ -162,7 +162,7 @@ segment_with s after names i name lists rest args h e k = sym (ap₂ (λ ns xs. 
 pub no_segments : (s : PrintEnv) (after : Bool) (names : List (List ℕ)) (i : ℕ) (lists : List (Option GenericArgs)) → length names ≤ i → [] ≡ segments_from s after (drop i names) lists
 no_segments s after names i lists h = sym (ap (λ ns. segments_from s after ns lists) (drop_all i names h))
 
--- 7. A block behind what stands before it
+-- 7. A block after what comes before it
 
 pub braces_after : (before inside : List Doc) → before ++ (text (codes "{") ++ inside ++ text (codes "}")) ≡ before ++ text (codes "{") ++ inside ++ text (codes "}")
 braces_after before inside =

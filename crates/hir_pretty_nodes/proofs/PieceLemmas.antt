@@ -1,4 +1,4 @@
--- Items that are pieces, and what printing makes of a value with them.
+-- Documents that are layouts, and what printing makes of a value with them.
 use Rattle.std.proofs.Common.{◌≡◌, ℕ, Bool, true, false, List, [], ◌∷◌, ◌++◌, map, codes, Some, None, refl, sym, ap, ◌∙◌, append-nil, flat_map}
 use Rattle.std.proofs.lemmas.List.Concat.{flat_map-append}
 use Rattle.hir_node.specs.declared.literal.Literal.{Literal}
@@ -10,12 +10,12 @@ use Rattle.hir_pretty_layout.specs.Steps.{steps}
 use Rattle.hir_pretty_layout.specs.Literals.{string_literal, char_literal, bytes_literal, c_string_literal}
 use Rattle.hir_pretty_nodes.proofs.StepLemmas.{pieces_at}
 
--- 1. Items and pieces
+-- 1. Documents and doc pieces
 
 pub printed-append : (s : PrintEnv) (xs ys : List Doc) → doc_list_pieces s (xs ++ ys) ≡ doc_list_pieces s xs ++ doc_list_pieces s ys
 printed-append s xs ys = flat_map-append (doc_pieces s (pieces s)) xs ys
 
--- items that are pieces
+-- documents that are layouts
 abbrev AllPut : List Doc → Type 0
 AllPut [] = Unit {0}
 AllPut (Put piece ∷ is) = AllPut is

@@ -1,4 +1,4 @@
--- The items of a function type by its parameters and its result.
+-- The documents of a function type by its parameters and its result.
 use Rattle.std.proofs.Common.{◌≡◌, ℕ, ◌-◌, Bool, true, false, List, [], ◌∷◌, ◌++◌, codes, map, length, Option, refl, sym, ap, ap₂, ◌∙◌, arith, append_assoc, append-nil, length-append, ◌&&◌, ◌==◌, not, flat_map}
 use Rattle.hir_pretty_nodes.specs.Prelude.{Doc, text, t, when, join, comma_joined, all_but_last, last, varargs_docs, signature_docs}
 use Rattle.hir_pretty_nodes.proofs.ListLemmas.{is_cons}

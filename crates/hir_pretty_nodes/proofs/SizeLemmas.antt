@@ -35,7 +35,7 @@ module _ (s : PrintEnv) (fall : DocsDecrease s) where
       same_step (fold_down_within (node_size_step s) 0 (rank s.nodes n)) (node_size s) n
       (nodes_weaker (λ k. rank s.nodes k < rank s.nodes n) _ (λ k low. stable (rank s.nodes n) (suc (rank s.nodes k)) k low (omega arith)) (docs_of s n) (fall n))
 
--- 2. Weights of items
+-- 2. Sizes of documents
 
 pub enclosed_size : (s : PrintEnv) (b : Bool) (is : List Doc) → size s (enclose b is) ≤ 2 + size s is
 enclosed_size s false is = let k = total-append (doc_size (node_size s)) is [] in omega arith

@@ -1,4 +1,5 @@
--- The pieces of a node are those of its items, in a store where what is printed inside a node stands lower.
+-- The doc pieces of a node are those of its documents, in a store where what is printed inside a node has a
+-- lower rank.
 use Rattle.std.proofs.Common.{◌≡◌, ℕ, zero, suc, ◌<◌, List, [], ◌∷◌, ◌++◌, refl, ap, ap₂, arith, flat_map}
 use Rattle.hir_pretty_nodes.specs.Prelude.{NodeId, PrintEnv, Doc, Put, MissingDoc, ExprDoc, ExprIn, Pattern, TypeDoc, DocPiece, docs_of, doc_pieces, pieces_step, pieces, AllNodes, DocsDecrease}
 use Rattle.hir_node.specs.declared.node_id.NodeId.TheVariants as node
@@ -23,7 +24,7 @@ nodes_weaker P Q f (ExprIn id parent ∷ xs) a = (f (node.Expr id) a.0, nodes_we
 nodes_weaker P Q f (Pattern id ∷ xs) a = (f (node.Pat id) a.0, nodes_weaker P Q f xs a.1)
 nodes_weaker P Q f (TypeDoc id ∷ xs) a = (f (node.TypeRef id) a.0, nodes_weaker P Q f xs a.1)
 
--- items ask for the nodes among them alone
+-- documents ask for the nodes among them alone
 module _ (s : PrintEnv) (self other : NodeId → List DocPiece) where
   first : (x : Doc) (xs : List Doc) → doc_pieces s self x ≡ doc_pieces s other x → flat_map (doc_pieces s self) xs ≡ flat_map (doc_pieces s other) xs
       → flat_map (doc_pieces s self) (x ∷ xs) ≡ flat_map (doc_pieces s other) (x ∷ xs)
@@ -49,7 +50,7 @@ module _ (s : PrintEnv) (fall : DocsDecrease s) where
       same_pieces s (fold_down_within (pieces_step s) [] d) (fold_down_within (pieces_step s) [] e) (docs_of s n)
       (nodes_weaker (λ k. rank s.nodes k < rank s.nodes n) _ (λ k low. stable d e k (omega arith) (omega arith)) (docs_of s n) (fall n))
 
-  -- the pieces of a node are those of its items
+  -- the doc pieces of a node are those of its documents
   pub pieces_at : (n : NodeId) → pieces s n ≡ pieces_step s (pieces s) n
   unfolding pieces fold_down
   pieces_at n =

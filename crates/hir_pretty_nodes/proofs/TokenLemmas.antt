@@ -1,4 +1,4 @@
--- A turn of the loop, by what its work is.
+-- A step of the loop, by what its token is.
 use Rattle.std.proofs.Common.{◌≡◌, ℕ, ◌<◌, ◌≤◌, List, [], ◌∷◌, ◌++◌, map, Option, Some, None, refl, sym, ap, ap₂, subst, ◌∙◌, arith, append_assoc, append-nil, Result, Ok, Err, String, string_bytes, slice_get}
 use Rattle.hir_base.specs.declared.prec.ExprPrecedence.{ExprPrecedence}
 use Rattle.hir_pretty_nodes.specs.Prelude.{NodeId, Missing, PrintEnv, Doc, ExprDoc, ExprIn, DocPiece, Present, PrintsPieces, WritesPieces, format_of, first_missing, docs_of, pieces, doc_list_pieces, stands_in_parentheses, precedence_found, DocsDecrease, size, Printing, begun, on_page, stands_for, docs_of_tokens, printing, PrintsAlike, WroteToken, AddsDocs, ExpandsTo, PrintedToken, enclose}
@@ -22,7 +22,7 @@ module _ {W : Type 0} {step : Layout → W → W} where
       → new.value ≡ steps step ps old.value → 0 < size old.from (stands_for old.from w) → WroteToken w old new
   wrote ps s e f h = record { same = s; alike = pieces_alike ps e f; some = h }
 
-  -- a work that was written where none is kept, and one that is kept
+  -- a token that was written where none is kept, and one that is kept
   pub wrote_adds : {w : Token} {old new : Printing step} → old.kept ≡ [] → WroteToken w old new → AddsDocs old (λ s. stands_for s w) new
   wrote_adds {w} {old} {new} none a =
       let s = old.from in
@@ -68,7 +68,7 @@ module _ {W : Type 0} {step : Layout → W → W} where
     pub whole_gives : (id : ℕ) → AddsDocs old (λ s. docs_of s (node.Expr id)) new → ExpandsTo (token.Expr id) old new
     whole_gives id a = expands_by none a (node_printed old.from fall (node.Expr id)) (let k = node_size_at old.from fall (node.Expr id) in omega arith)
 
-    -- the first of expressions, with what is behind it
+    -- the first of expressions, with what is after it
     pub first_gives : {w : Token} (id : ℕ) (trailer : List Doc) → stands_for old.from w ≡ ExprDoc id ∷ trailer → AddsDocs old (λ s. docs_of s (node.Expr id) ++ trailer) new → ExpandsTo w old new
     first_gives {w} id trailer e a =
         let s = old.from in

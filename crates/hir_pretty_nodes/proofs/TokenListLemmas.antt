@@ -1,4 +1,4 @@
--- The one list of works: those that wait, the next last, and behind them those that were kept, the first first.
+-- The one list of tokens: those that wait, the next last, and after them those that were kept, in order.
 use Rattle.std.proofs.Common.{◌≡◌, ℕ, ◌≤◌, List, [], ◌∷◌, ◌++◌, length, take, drop, reverse, sym, ap, ◌∙◌, append-nil}
 use Rattle.std.proofs.lemmas.List.{reverse-append, reverse-reverse, take-append-le, drop-append-le, take-append-drop, take_all}
 

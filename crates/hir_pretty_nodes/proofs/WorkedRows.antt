@@ -1,4 +1,4 @@
--- Worked shapes: trees, and the texts that their pieces give.
+-- Worked shapes: trees, and the texts that their doc pieces give.
 use Rattle.std.proofs.Common.{◌≡◌, ℕ, Bool, true, false, List, [], ◌∷◌, Some, None, refl, codes, Ok, Err}
 use Rattle.hir_base.specs.declared.hygiene.SyntaxContext.TheVariants as context
 use Rattle.hir_base.specs.declared.edition.Edition.TheVariants as edition

@@ -1,4 +1,4 @@
--- The nodes among the items of a node, and that they are lower.
+-- The nodes among the documents of a node, and that their rank is lower.
 use Rattle.std.specs.Prelude.{◌<◌, List, [], ◌∷◌, ⊤}
 use Rattle.hir_node.specs.declared.node_id.NodeId.{NodeId}
 use Rattle.hir_node.specs.declared.node_id.NodeId.TheVariants as node
@@ -7,7 +7,7 @@ use Rattle.hir_pretty_nodes.specs.NameLookups.{PrintEnv}
 use Rattle.hir_pretty_nodes.specs.Docs.{Doc, Put, MissingDoc, ExprDoc, ExprIn, Pattern, TypeDoc}
 use Rattle.hir_pretty_nodes.specs.DocPieces.{docs_of}
 
--- each node among these items has this property
+-- each node among these documents has this property
 abbrev pub AllNodes : (NodeId → Type 0) → List Doc → Type 0
 AllNodes P [] = ⊤
 AllNodes P (Put piece ∷ is) = AllNodes P is
@@ -17,6 +17,6 @@ AllNodes P (ExprIn id parent ∷ is) = P (node.Expr id) × AllNodes P is
 AllNodes P (Pattern id ∷ is) = P (node.Pat id) × AllNodes P is
 AllNodes P (TypeDoc id ∷ is) = P (node.TypeRef id) × AllNodes P is
 
--- what is printed inside a node is lower
+-- what is printed inside a node has a lower rank than the node
 abbrev pub DocsDecrease : PrintEnv → Type 0
 DocsDecrease s = (n : NodeId) → AllNodes (λ k. rank s.nodes k < rank s.nodes n) (docs_of s n)

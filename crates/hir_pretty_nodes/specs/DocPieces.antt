@@ -1,4 +1,4 @@
--- The pieces of a node, its text, and the first definition that is missing.
+-- The doc pieces of a node, its text, and the first definition that is missing.
 use Rattle.std.specs.Prelude.{ℕ, Bool, true, false, ◌&&◌, not, List, [], ◌∷◌, ◌++◌, Option, Some, None, codes, slice_get, flat_map}
 use Rattle.hir_base.specs.Precedence.{needs_parentheses}
 use Rattle.hir_base.specs.declared.prec.ExprPrecedence.{ExprPrecedence}
@@ -20,12 +20,12 @@ use Rattle.hir_pretty_nodes.specs.Pats.{pat_docs}
 use Rattle.hir_pretty_nodes.specs.Types.{type_docs}
 use Rattle.hir_pretty_nodes.specs.Paths.{path_docs}
 
--- a piece of text and layout, or a missing definition in its place
+-- a layout, or a missing definition in its place
 pub data DocPiece : Type 0 where
   Present : Layout → DocPiece
   Absent : Missing → DocPiece
 
--- the items of a node, by cases on what it is
+-- the documents of a node, by cases on what it is
 abbrev pub docs_of : PrintEnv → NodeId → List Doc
 docs_of s (node.Expr id) = opt (expr_docs s) (slice_get s.nodes.exprs id)
 docs_of s (node.Pat id) = opt (pat_docs s) (slice_get s.nodes.pats id)
@@ -48,7 +48,7 @@ abbrev pub with_parentheses : Bool → List DocPiece → List DocPiece
 with_parentheses false ps = ps
 with_parentheses true ps = Present (Text (codes "(")) ∷ (ps ++ (Present (Text (codes ")")) ∷ []))
 
--- the pieces of an item, where a node inside it gives what `self` says
+-- the doc pieces of a document, where a node inside it gives what `self` says
 abbrev pub doc_pieces : PrintEnv → (NodeId → List DocPiece) → Doc → List DocPiece
 doc_pieces s self (Put piece) = Present piece ∷ []
 doc_pieces s self (MissingDoc missing) = Absent missing ∷ []
@@ -58,18 +58,18 @@ doc_pieces s self (ExprIn id parent) = with_parentheses
 doc_pieces s self (Pattern id) = self (node.Pat id)
 doc_pieces s self (TypeDoc id) = self (node.TypeRef id)
 
--- the pieces of a node are those of its items
+-- the doc pieces of a node are those of its documents
 abbrev pub pieces_step : PrintEnv → (NodeId → List DocPiece) → NodeId → List DocPiece
 pieces_step s self n = flat_map (doc_pieces s self) (docs_of s n)
 
 unfoldable pub pieces : PrintEnv → NodeId → List DocPiece
 pieces s n = fold_down s.nodes (pieces_step s) [] n
 
--- the pieces of items
+-- the doc pieces of documents
 abbrev pub doc_list_pieces : PrintEnv → List Doc → List DocPiece
 doc_list_pieces s is = flat_map (doc_pieces s (pieces s)) is
 
--- the pieces of a path, which is no node
+-- the doc pieces of a path, which is no node
 abbrev pub path_pieces : PrintEnv → Path → List DocPiece
 path_pieces s path = doc_list_pieces s (path_docs s path)
 
@@ -79,7 +79,7 @@ first_missing [] = None
 first_missing (Present piece ∷ ps) = first_missing ps
 first_missing (Absent missing ∷ ps) = Some missing
 
--- the pieces of layout
+-- the layouts among doc pieces
 abbrev pub layout : List DocPiece → List Layout
 layout [] = []
 layout (Present piece ∷ ps) = piece ∷ layout ps
@@ -89,6 +89,6 @@ abbrev pub format_of : Bool → LineFormat
 format_of true = Oneline
 format_of false = Newline
 
--- the text of pieces
+-- the text of doc pieces
 abbrev pub text_of : PrintEnv → List DocPiece → List ℕ
 text_of s ps = rendering (format_of s.one_line) (layout ps)

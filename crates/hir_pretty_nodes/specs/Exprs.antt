@@ -3,6 +3,7 @@ use Rattle.std.specs.Prelude.{ℕ, Bool, List, [], ◌∷◌, ◌++◌, map, Opt
 use Rattle.hir_base.specs.OpTexts.{binary_text, unary_text}
 use Rattle.hir_base.specs.declared.operators.BinaryOp.{BinaryOp}
 use Rattle.hir_base.specs.declared.prec.ExprPrecedence.TheVariants.{Jump, Assign, Prefix, Postfix, Cast}
+use Rattle.hir_path.specs.NodeIds.{ExprId, PatId, LabelId, TypeRefId}
 use Rattle.hir_node.specs.{Precedence.of_operator, Keywords.ref_keyword}
 use Rattle.hir_node.specs.declared.{type_ref.Rawness.Rawness, expr_types.RecordSpread.RecordSpread, expr_types.Unsafe.Unsafe, expr_types.CoroutineKind.CoroutineKind, expr_types.ClosureKind.ClosureKind, expr_types.Movability.Movability, expr_types.CaptureBy.CaptureBy, expr_types.Array.Array, expr_types.MatchArm.MatchArm, expr_types.RecordLitField.RecordLitField, expr_types.Statement.Statement, expr.Expr.Expr}
 use Rattle.hir_node.specs.declared.type_ref.Rawness.TheVariants as rawness
@@ -23,26 +24,26 @@ use Rattle.hir_pretty_nodes.specs.Paths.{path_docs, args_docs, turbofish}
 use Rattle.hir_pretty_nodes.specs.Literals.{literal_docs}
 
 -- a label before a loop or a block
-abbrev pub label_before : PrintEnv → Option ℕ → List Doc
+abbrev pub label_before : PrintEnv → Option LabelId → List Doc
 label_before s label = opt (λ id. label_docs s id ++ text (codes ": ")) label
 
 -- a label after `continue` or `break`
-abbrev pub to_label : PrintEnv → Option ℕ → List Doc
+abbrev pub to_label : PrintEnv → Option LabelId → List Doc
 to_label s label = opt (λ id. text (codes " ") ++ label_docs s id) label
 
 -- an expression after a keyword such as `return`
-abbrev pub operand : Option ℕ → List Doc
+abbrev pub operand : Option ExprId → List Doc
 operand value = opt (λ id. sp ++ under Jump id) value
 
 -- arguments, each on a line of its own
-abbrev pub each_line : List ℕ → List Doc
+abbrev pub each_line : List ExprId → List Doc
 each_line args = flat_map (λ id. e id ++ text (codes ",") ++ br) args
 
-abbrev pub in_lines : List ℕ → List Doc
+abbrev pub in_lines : List ExprId → List Doc
 in_lines [] = []
 in_lines (arg ∷ args) = into ++ each_line (arg ∷ args) ++ out
 
-abbrev pub arguments : List ℕ → List Doc
+abbrev pub arguments : List ExprId → List Doc
 arguments args = text (codes "(") ++ in_lines args ++ text (codes ")")
 
 abbrev pub arm_docs : MatchArm → List Doc
@@ -89,7 +90,7 @@ unsafe_docs unsafety.Yes = text (codes "unsafe ")
 unsafe_docs unsafety.No = []
 
 -- what is between the braces of a block
-abbrev pub inside_block : List Statement → Option ℕ → List Doc
+abbrev pub inside_block : List Statement → Option ExprId → List Doc
 inside_block [] None = []
 inside_block [] (Some tail) = into ++ e tail ++ br ++ out
 inside_block (x ∷ xs) tail = into ++ flat_map statement_docs (x ∷ xs) ++ opt e tail ++ br ++ out
@@ -114,30 +115,30 @@ capture_keyword capture.Value = codes "move "
 capture_keyword capture.Ref = codes ""
 
 -- the parameters with their types, as many as both lists have
-abbrev pub params : List ℕ → List (Option ℕ) → List (List Doc)
+abbrev pub params : List PatId → List (Option TypeRefId) → List (List Doc)
 params [] types = []
 params (pat ∷ pats) [] = []
 params (pat ∷ pats) (type ∷ types) = (p pat ++ opt (λ id. text (codes ": ") ++ t id) type) ∷ params pats types
 
 -- the parameters and the type of the result, which a coroutine doesn't have
-abbrev pub header : ClosureKind → List (List Doc) → Option ℕ → List Doc
+abbrev pub header : ClosureKind → List (List Doc) → Option TypeRefId → List Doc
 header (closure.Coroutine kind source) params ret = []
 header kind params ret = text (codes "|") ++ comma_joined params ++ text (codes "|")
     ++ opt (λ id. text (codes " -> ") ++ t id) ret ++ sp
 
 -- the body of a closure that is a coroutine
-abbrev pub of_coroutine : ClosureKind → ℕ → ℕ → ℕ
+abbrev pub of_coroutine : ClosureKind → ExprId → ExprId → ExprId
 of_coroutine (closure.Coroutine kind source) self body = body
 of_coroutine kind self body = self
 
 -- an expression, or its body where it is a closure that is a coroutine
-abbrev pub coroutine_body : Option Expr → ℕ → ℕ
+abbrev pub coroutine_body : Option Expr → ExprId → ExprId
 coroutine_body (Some (expr.Closure args arg_types ret_type body kind capture)) self =
     of_coroutine kind self body
 coroutine_body found self = self
 
 -- what is printed as the body of a closure: of a coroutine closure the body of its coroutine
-abbrev pub printed_body : Nodes → ClosureKind → ℕ → ℕ
+abbrev pub printed_body : Nodes → ClosureKind → ExprId → ExprId
 printed_body s (closure.CoroutineClosure kind) body = coroutine_body (slice_get s.exprs body) body
 printed_body s kind body = body
 

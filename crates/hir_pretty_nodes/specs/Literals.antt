@@ -22,7 +22,7 @@ literal_docs (literal.Int n suffix) = text (signed_decimal n) ++ opt (λ s. text
 literal_docs (literal.Uint n suffix) = text (decimal n) ++ opt (λ s. text (uint_text s)) suffix
 literal_docs (literal.Float number suffix) = text number ++ opt (λ s. text (float_text s)) suffix
 
--- the pieces among items
+-- the layouts among documents
 abbrev pub put_pieces : List Doc → List Layout
 put_pieces [] = []
 put_pieces (Put piece ∷ is) = piece ∷ put_pieces is

@@ -4,7 +4,7 @@ use Rattle.hir_base.specs.declared.{defs.NamedDef.NamedDef, params.TypeOrConstPa
 use Rattle.hir_store_core.specs.declared.missing.Missing.{Missing}
 use Rattle.hir_validate.specs.Nodes.{Nodes}
 
--- What is asked of the tables. A definition, a crate and a type parameter may be there and have no name.
+-- What is looked up in the tables. A definition, a crate and a type parameter may exist and have no name.
 pub record NameLookups : Type 0 where
   pub name : NamedDef → Result (Option (List ℕ)) Missing
   pub crate_name : ℕ → Result (Option (List ℕ)) Missing

@@ -1,6 +1,7 @@
 -- How names, lifetimes, bindings and labels are printed.
 use Rattle.std.specs.Prelude.{ℕ, Bool, false, List, [], ◌∷◌, ◌++◌, ◌==◌, ◌||◌, if◌then◌else◌, Result, Ok, Err, codes, slice_get, flat_map, nat_eq}
 use Rattle.std.specs.Cmp.Lexicographic.{pointwise}
+use Rattle.hir_path.specs.NodeIds.{BindingId, LabelId, LifetimeRefId}
 use Rattle.hir_node.specs.declared.{type_ref.LifetimeRef.LifetimeRef, binding.Binding.Binding, binding.Label.Label, binding.BindingAnnotation.BindingAnnotation}
 use Rattle.hir_node.specs.declared.type_ref.LifetimeRef.TheVariants as lifetime
 use Rattle.hir_node.specs.declared.binding.BindingAnnotation.TheVariants.{Unannotated, Mutable, Ref, RefMut}
@@ -21,13 +22,14 @@ is_word (word ∷ words) name = same_text word name || is_word words name
 abbrev pub raw_parts : List (List ℕ) → List ℕ → List (List ℕ)
 raw_parts words name = if is_word words name then codes "r#" ∷ name ∷ [] else name ∷ []
 
--- The parts of a printed name. A leading `'` comes first and isn't looked up, and `'static` is printed as it is.
+-- The parts of a printed name. A leading `'` comes first and isn't looked up, and `'static` is printed as it
+-- is.
 abbrev pub name_parts : List (List ℕ) → List ℕ → List (List ℕ)
 name_parts words [] = raw_parts words []
 name_parts words (c ∷ cs) = if c == 39 then (if same_text cs (codes "static") then (c ∷ cs) ∷ []
     else (c ∷ []) ∷ raw_parts words cs) else raw_parts words (c ∷ cs)
 
--- texts, the first of which is there where the condition holds
+-- texts, the first of which is present where the condition holds
 abbrev pub first_if : Bool → List ℕ → List (List ℕ) → List (List ℕ)
 first_if holds first texts = if holds then first ∷ texts else texts
 
@@ -55,10 +57,10 @@ lifetime_docs s lifetime.Placeholder = text (codes "'_")
 lifetime_docs s (lifetime.Param id) = param_docs s (s.tables.lifetime_param id)
 lifetime_docs s lifetime.Error = text (codes "'{error}")
 
-abbrev pub l : PrintEnv → ℕ → List Doc
+abbrev pub l : PrintEnv → LifetimeRefId → List Doc
 l s id = opt (lifetime_docs s) (slice_get s.nodes.lifetimes id)
 
-abbrev pub label_docs : PrintEnv → ℕ → List Doc
+abbrev pub label_docs : PrintEnv → LabelId → List Doc
 label_docs s id = opt (λ (label : Label). name_docs s label.name) (slice_get s.nodes.labels id)
 
 abbrev pub annotation_docs : BindingAnnotation → List Doc
@@ -70,5 +72,5 @@ annotation_docs RefMut = text (codes "ref mut ")
 abbrev pub of_binding : PrintEnv → Binding → List Doc
 of_binding s b = annotation_docs b.mode ++ name_docs s b.name
 
-abbrev pub binding_docs : PrintEnv → ℕ → List Doc
+abbrev pub binding_docs : PrintEnv → BindingId → List Doc
 binding_docs s id = opt (of_binding s) (slice_get s.nodes.bindings id)

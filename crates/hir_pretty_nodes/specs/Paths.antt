@@ -13,6 +13,7 @@ use Rattle.hir_path.specs.declared.path.GenericArg.TheVariants as arg
 use Rattle.hir_path.specs.declared.path.GenericArgs.{GenericArgs, GenericArgs-F, fold-GenericArgs}
 use Rattle.hir_path.specs.declared.path.AssociatedTypeBinding.{AssociatedTypeBinding, AssociatedTypeBinding-F, fold-AssociatedTypeBinding}
 use Rattle.hir_path.specs.declared.path.Path.TheVariants as path
+use Rattle.hir_path.specs.NodeIds.{TypeRefId}
 use Rattle.hir_store_core.specs.declared.missing.Missing.{Missing}
 use Rattle.hir_pretty_nodes.specs.NameLookups.{PrintEnv}
 use Rattle.hir_pretty_nodes.specs.Docs.{Doc, MissingDoc, text, under, t, opt, when, join, comma_joined, with_number}
@@ -62,15 +63,15 @@ abbrev pub turbofish : List Doc → List Doc
 turbofish args = text (codes "::<") ++ args ++ text (codes ">")
 
 -- the type of an associated type binding
-abbrev pub type_after : Option ℕ → List Doc
+abbrev pub type_after : Option TypeRefId → List Doc
 type_after type_ref = opt (λ id. text (codes " = ") ++ t id) type_ref
 
--- an associated type binding, where the items of its own arguments are in their place
+-- an associated type binding, where the documents of its own arguments are in their place
 abbrev pub binding_layer : PrintEnv → AssociatedTypeBinding-F (List Doc) (List Doc) → List Doc
 binding_layer s b = name_docs s b.name ++ opt turbofish b.args ++ bounds_after s b.bounds
     ++ type_after b.type_ref
 
--- generic arguments, where the items of each binding are in its place
+-- generic arguments, where the documents of each binding are in its place
 abbrev pub args_layer : PrintEnv → GenericArgs-F (List Doc) (List Doc) → List Doc
 args_layer s x = comma_joined (each_arg s x.has_self_type x.args ++ x.bindings)
 
@@ -134,7 +135,7 @@ abbrev pub from_start : PrintEnv → ModPath → List Doc → List (Option Gener
 from_start s path start lists = start ++ segments_from s (colons_first path.kind) path.segments lists
 
 -- the type that a path begins at, or else its kind
-abbrev pub start_docs : PrintEnv → Option ℕ → PathKind → List Doc
+abbrev pub start_docs : PrintEnv → Option TypeRefId → PathKind → List Doc
 start_docs s None kind = kind_docs s kind
 start_docs s (Some anchor) kind = text (codes "<") ++ t anchor ++ text (codes ">::")
 

@@ -2,6 +2,7 @@
 use Rattle.std.specs.Prelude.{ℕ, Bool, true, false, ◌&&◌, not, List, [], ◌∷◌, ◌++◌, map, take, drop, Option, Some, None, codes, slice_get, flat_map, option_to_list}
 use Rattle.hir_base.specs.OpTexts.{range_text}
 use Rattle.hir_base.specs.declared.prec.ExprPrecedence.TheVariants.{Shift}
+use Rattle.hir_path.specs.NodeIds.{PatId}
 use Rattle.hir_node.specs.Keywords.{ref_keyword}
 use Rattle.hir_node.specs.declared.{binding.Binding.Binding, binding.BindingAnnotation.BindingAnnotation, pat.RecordFieldPat.RecordFieldPat, pat.Pat.Pat}
 use Rattle.hir_node.specs.declared.binding.BindingAnnotation.TheVariants.{Unannotated}
@@ -11,20 +12,20 @@ use Rattle.hir_pretty_nodes.specs.Docs.{Doc, text, sp, br, into, out, under, p, 
 use Rattle.hir_pretty_nodes.specs.Names.{name_docs, printed_name, same_text, binding_docs}
 use Rattle.hir_pretty_nodes.specs.Paths.{path_docs}
 
--- with `..` at its place, or last where that is at or past the end
+-- a list with `..` at its place, or last where that is at or past the end
 abbrev pub with_rest : Option ℕ → List (List Doc) → List (List Doc)
 with_rest None docs = docs
 with_rest (Some n) docs = take n docs ++ (text (codes "..") ∷ []) ++ drop n docs
 
-abbrev pub in_parentheses : Option ℕ → List ℕ → List Doc
+abbrev pub in_parentheses : Option ℕ → List PatId → List Doc
 in_parentheses rest args = text (codes "(") ++ comma_joined (with_rest rest (map p args)) ++ text (codes ")")
 
 abbrev pub is_unannotated : BindingAnnotation → Bool
 is_unannotated Unannotated = true
 is_unannotated mode = false
 
--- The binding's own text is what is printed of the field's name. A field that is a word of the edition is printed after `r#`, so a binding
--- of that word has another text.
+-- The binding's own text is what is printed of the field's name. A field that is a word of the edition is
+-- printed after `r#`, so a binding of that word has another text.
 abbrev pub has_printed_name : PrintEnv → List ℕ → Option Binding → Bool
 has_printed_name s name None = false
 has_printed_name s name (Some b) = is_unannotated b.mode && same_text b.name (printed_name s.words name)
@@ -38,7 +39,7 @@ abbrev pub field_pattern : PrintEnv → RecordFieldPat → List Doc
 field_pattern s field = name_docs s field.name ++ when
     (not (is_short s field.name (slice_get s.nodes.pats field.pat))) (text (codes ": ") ++ p field.pat)
 
--- what is after the last field: in one line, with no rest after it, a space in place of a comma
+-- what is after the last field: in one line, with no rest after it, a space; else a comma
 abbrev pub after_last : PrintEnv → Bool → List Doc
 after_last s true = text (codes ",") ++ br
 after_last s false = elim s.one_line [ true ↦ text (codes " ") | false ↦ text (codes ",") ++ br ]

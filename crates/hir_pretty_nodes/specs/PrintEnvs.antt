@@ -1,4 +1,5 @@
--- What is printed from: the nodes of a store, the answers of the tables, an edition's words, in lines or in one line.
+-- What is printed from: the nodes of a store, what the tables have, an edition's words, in lines or in one
+-- line.
 use Rattle.std.specs.Prelude.{ℕ, Bool, List}
 use Rattle.hir_store_core.specs.Contents.{Contents}
 use Rattle.hir_pretty_nodes.specs.NameLookups.{NameLookups, PrintEnv}

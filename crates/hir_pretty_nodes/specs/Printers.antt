@@ -1,5 +1,6 @@
--- What works stand for, and what becomes of them.
-use Rattle.std.specs.Prelude.{◌≡◌, ◌<◌, ◌≤◌, ℕ, Bool, true, false, List, [], ◌∷◌, ◌++◌, Option, Some, None, codes, flat_map, decimal}
+-- What tokens stand for, and what becomes of them.
+use Rattle.std.specs.Prelude.{◌≡◌, ◌<◌, ◌≤◌, Bool, true, false, List, [], ◌∷◌, ◌++◌, Option, Some, None, codes, flat_map, decimal}
+use Rattle.hir_path.specs.NodeIds.{ExprId}
 use Rattle.hir_store_core.specs.declared.missing.Missing.{Missing}
 use Rattle.hir_pretty_layout.specs.Layouts.{Layout}
 use Rattle.hir_pretty_nodes.specs.declared.token.Token.{Token}
@@ -16,16 +17,16 @@ use Rattle.hir_pretty_nodes.specs.Sizes.{size}
 use Rattle.hir_pretty_nodes.specs.declared.printer.Printer.{Printer}
 use Rattle.hir_pretty_nodes.specs.Printing.{Printing, printing_of}
 
--- what stands behind each expression of a list
+-- what comes after each expression of a list
 abbrev pub ending_docs : Ending → List Doc
 ending_docs ending.Comma = text (codes ", ")
 ending_docs ending.Line = text (codes ",") ++ br
 
 -- expressions, each with its ending
-abbrev pub exprs_docs : Ending → List ℕ → List Doc
+abbrev pub exprs_docs : Ending → List ExprId → List Doc
 exprs_docs ending ids = flat_map (λ id. e id ++ ending_docs ending) ids
 
--- the items that a work stands for
+-- the documents that a token stands for
 abbrev pub stands_for : PrintEnv → Token → List Doc
 stands_for s (token.Text x) = text x.now
 stands_for s token.Space = sp
@@ -43,7 +44,7 @@ stands_for s (token.Type id) = t id
 stands_for s (token.GenericArgs x) = turbofish (args_docs s x.now)
 stands_for s (token.Missing missing) = MissingDoc missing ∷ []
 
--- a work that is neither text nor layout
+-- a token that is neither text nor layout
 abbrev pub is_node : Token → Bool
 is_node (token.Expr id) = true
 is_node (token.ExprIn id parent) = true
@@ -54,11 +55,11 @@ is_node (token.GenericArgs x) = true
 is_node (token.Missing missing) = true
 is_node w = false
 
--- the items that works stand for, the first first
+-- the documents that tokens stand for, in order
 abbrev pub docs_of_tokens : PrintEnv → List Token → List Doc
 docs_of_tokens s tokens = flat_map (stands_for s) tokens
 
--- the same, put behind others one by one
+-- the documents of tokens that are put after others, one by one
 abbrev pub stood_after : PrintEnv → List Doc → List Token → List Doc
 stood_after s is [] = is
 stood_after s is (w ∷ ws) = stood_after s (is ++ stands_for s w) ws
@@ -72,31 +73,33 @@ abbrev pub following : List Doc → Bool → List (List Doc) → List Doc
 following separator after [] = []
 following separator after (x ∷ xs) = when after separator ++ x ++ following separator true xs
 
--- items, in parentheses where they need them
+-- documents, in parentheses where they need them
 abbrev pub enclose : Bool → List Doc → List Doc
 enclose b is = when b (text (codes "(")) ++ is ++ when b (text (codes ")"))
 
--- What printing makes of a value: the value after the steps of the pieces before the first definition that is missing, and that definition.
+-- What printing makes of a value: the value after the steps of the doc pieces before the first definition
+-- that is missing, and that definition.
 unfoldable pub printing : {W : Type 0} → (Layout → W → W) → W → List DocPiece → W × Option Missing
 printing step value [] = (value, None)
 printing step value (Present piece ∷ ps) = printing step (step piece value) ps
 printing step value (Absent missing ∷ ps) = (value, Some missing)
 
--- To print the first items on the first value comes to the same as the second on the second, whatever is printed behind them.
+-- Printing the first documents on the first value gives the same result as printing the second on the second,
+-- whatever is printed after them.
 pub record PrintsAlike {W : Type 0} (step : Layout → W
     → W) (s : PrintEnv) (first : W) (is : List Doc) (second : W)
     (js : List Doc) : Type 0 where
   pub alike : (more : List Doc) → printing step first (doc_list_pieces s (is ++ more))
       ≡ printing step second (doc_list_pieces s (js ++ more))
 
--- A printer after a work was written, which is something.
+-- A printer after a token was written whose size is above 0.
 pub record WroteToken {W : Type 0} {step : Layout → W
     → W} (w : Token) (old new : Printing step) : Type 0 where
   pub same : new ≡ record old { value = new.value }
   pub alike : PrintsAlike step old.from old.value (stands_for old.from w) new.value []
   pub some : 0 < size old.from (stands_for old.from w)
 
--- A printer after items were added: they were written, or are kept behind those that were.
+-- A printer after documents were added: they were written, or are kept after those that were.
 pub record AddsDocs {W : Type 0} {step : Layout → W → W} (old : Printing step) (docs : PrintEnv → List Doc)
     (new : Printing step) : Type 0 where
   pub same : new ≡ record old { kept = new.kept; value = new.value }
@@ -106,19 +109,20 @@ pub record AddsDocs {W : Type 0} {step : Layout → W → W} (old : Printing ste
   pub less : size old.from (docs_of_tokens old.from new.kept)
       ≤ size old.from (docs_of_tokens old.from old.kept ++ docs old.from)
 
--- The same of works.
+-- A printer after tokens were added, as after documents.
 pub record AddsList {W : Type 0} {step : Layout → W → W} (old : Printing step) (tokens : List Token)
     (new : Printing step) : Type 0 where
   pub adds : AddsDocs old (λ s. docs_one_by_one s tokens) new
 
--- A printer after a node gave way to what is kept, which is less.
+-- A printer after a node expanded to tokens that are kept, whose size is smaller.
 pub record ExpandsTo {W : Type 0} {step : Layout → W → W} (w : Token) (old new : Printing step) : Type 0 where
   pub same : new ≡ record old { kept = new.kept; value = new.value }
   pub alike : PrintsAlike step old.from old.value (stands_for old.from w) new.value
       (docs_of_tokens old.from new.kept)
   pub less : size old.from (docs_of_tokens old.from new.kept) < size old.from (stands_for old.from w)
 
--- A turn: a work was written, or gave way to works that wait before all others, and less is to be done.
+-- A step: a token was written, or expanded to tokens that wait before all others, and the size of what is to
+-- be done decreased.
 pub record PrintedToken {W : Type 0} {step : Layout → W
     → W} (w : Token) (old new : Printing step) : Type 0 where
   pub expansion : List Token
@@ -127,7 +131,7 @@ pub record PrintedToken {W : Type 0} {step : Layout → W
       (docs_of_tokens old.from expansion)
   pub less : size old.from (docs_of_tokens old.from expansion) < size old.from (stands_for old.from w)
 
--- the same of printers
+-- what was written between two printers
 abbrev pub Wrote : {W : Type 0} → (Layout → W → W) → Token → Printer W → Printer W → Type 0
 Wrote step w old new = WroteToken w (printing_of step old) (printing_of step new)
 

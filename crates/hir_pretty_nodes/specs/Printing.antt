@@ -1,4 +1,4 @@
--- A printer, as contracts see it.
+-- The model of a printer.
 use Rattle.std.specs.Prelude.{List, [], reverse, take, drop}
 use Rattle.hir_pretty_layout.specs.Page.{empty_page, render}
 use Rattle.hir_pretty_layout.specs.Layouts.{Layout}
@@ -9,7 +9,8 @@ use Rattle.hir_pretty_nodes.specs.PrintEnvs.{print_env}
 use Rattle.hir_pretty_nodes.specs.TableLookups.{lookups_of}
 use Rattle.hir_pretty_nodes.specs.DocPieces.{format_of}
 
--- What is printed from; the works that were kept in this turn, and those that wait, each the next first; and the value of what is written to, of which each piece makes what this step says.
+-- What is printed from; the tokens that were kept in this step, and those that wait, each the next first; and
+-- the value of what is written to, of which each layout makes what `step` says.
 pub record Printing {W : Type 0} (step : Layout → W → W) : Type 0 where
   pub from : PrintEnv
   pub kept : List Token
@@ -24,7 +25,7 @@ printing_of step p = record {
   value = p.writer;
 }
 
--- one to which nothing was added, with this value, and on an empty page
+-- a printer to which nothing was added, with this value, and on an empty page
 abbrev pub begun : {W : Type 0} {step : Layout → W → W} → PrintEnv → W → Printing step
 begun s value = record { from = s; kept = []; waiting = []; value = value }
 

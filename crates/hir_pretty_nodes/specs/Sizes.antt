@@ -1,4 +1,4 @@
--- How much is to be done for what is printed: one step for a piece, and one more for a node than for what is inside it.
+-- The size of what is printed: one step for a layout, and one more for a node than for what is inside it.
 use Rattle.std.specs.Prelude.{ℕ, ◌+◌, List, [], ◌∷◌}
 use Rattle.hir_node.specs.declared.node_id.NodeId.{NodeId}
 use Rattle.hir_node.specs.declared.node_id.NodeId.TheVariants as node

@@ -1,4 +1,4 @@
--- What the tables of outside definitions answer to printing.
+-- What a lookup in the tables of outside definitions gives to printing.
 use Rattle.std.specs.Prelude.{ℕ, List, [], ◌∷◌, Option, Some, None, Result, Ok, Err, slice_get, option_map}
 use Rattle.std.specs.FinMap as map
 use Rattle.hir_base.specs.Keys.{named_code}
@@ -11,12 +11,12 @@ use Rattle.hir_items.specs.Generics.{Generics}
 use Rattle.hir_defs.specs.Lookups.{Tables, signature_entry}
 use Rattle.hir_pretty_nodes.specs.NameLookups.{NameLookups}
 
--- what is there, or that it is missing
+-- what was found, or that it is missing
 abbrev pub found_or : {X : Type 0} → Missing → Option X → Result X Missing
 found_or absent None = Err absent
 found_or absent (Some x) = Ok x
 
--- of the parameters of a parent, where the parent has a signature
+-- the name of a parameter, where its parent has a signature
 abbrev pub param_answer : TypeOrConstParamId → Option Generics → Result (Option (List ℕ)) Missing
 param_answer id None = Err (missing.Signature id.parent)
 param_answer id (Some params) = found_or (missing.TypeParam id)

@@ -3,6 +3,7 @@ use Rattle.std.specs.Prelude.{ℕ, Bool, true, false, List, [], ◌∷◌, ◌++
 use Rattle.hir_base.specs.Abi.{abi_text}
 use Rattle.hir_base.specs.declared.{abi.ExternAbi.ExternAbi, prec.ExprPrecedence.TheVariants.Unambiguous}
 use Rattle.hir_base.specs.declared.abi.ExternAbi.TheVariants as abi
+use Rattle.hir_path.specs.NodeIds.{TypeRefId}
 use Rattle.hir_node.specs.declared.{type_ref.FnType.FnType, type_ref.TypeRef.TypeRef}
 use Rattle.hir_node.specs.declared.type_ref.TypeRef.TheVariants as type
 use Rattle.hir_node.specs.Keywords.{ref_keyword, ptr_keyword}
@@ -24,24 +25,24 @@ extern_docs abi.Rust = []
 extern_docs other = text (codes "extern ") ++ text (abi_text other) ++ text (codes " ")
 
 -- `...` after the parameters
-abbrev pub varargs_docs : Bool → List ℕ → List Doc
+abbrev pub varargs_docs : Bool → List TypeRefId → List Doc
 varargs_docs false params = []
 varargs_docs true [] = text (codes "...")
 varargs_docs true (param ∷ params) = text (codes ", ") ++ text (codes "...")
 
 -- all but the last
-abbrev pub all_but_last : List ℕ → List ℕ
+abbrev pub all_but_last : List TypeRefId → List TypeRefId
 all_but_last [] = []
 all_but_last (x ∷ []) = []
 all_but_last (x ∷ y ∷ xs) = x ∷ all_but_last (y ∷ xs)
 
-abbrev pub last : List ℕ → List Doc
+abbrev pub last : List TypeRefId → List Doc
 last [] = []
 last (x ∷ []) = t x
 last (x ∷ y ∷ xs) = last (y ∷ xs)
 
 -- a function type by the types of its parameters and, last, of its result
-abbrev pub signature_docs : Bool → List ℕ → List Doc
+abbrev pub signature_docs : Bool → List TypeRefId → List Doc
 signature_docs varargs types =
     text (codes "fn(") ++ comma_joined (map t (all_but_last types))
     ++ varargs_docs varargs (all_but_last types)
@@ -50,7 +51,7 @@ signature_docs varargs types =
 abbrev pub fn_docs : PrintEnv → FnType → List Doc
 fn_docs s f =
     opt (for_names s) f.binder ++ when f.is_unsafe (text (codes "unsafe ")) ++ extern_docs f.abi
-    ++ signature_docs f.is_varargs (map (λ (entry : Option (List ℕ) × ℕ). entry.1) f.params)
+    ++ signature_docs f.is_varargs (map (λ (entry : Option (List ℕ) × TypeRefId). entry.1) f.params)
 
 abbrev pub type_docs : PrintEnv → TypeRef → List Doc
 type_docs s type.Never = text (codes "!")

@@ -9,8 +9,8 @@ use crate::names::write_name;
 use crate::{Printer, Token};
 use hir_base::{Edition, Text};
 use hir_defs::Tables;
-use hir_store_core::ExpressionStore;
 use hir_pretty_layout::{LineFormat, PageBuffer, PieceWriter, write_number};
+use hir_store_core::ExpressionStore;
 use std::alloc::{AllocError, Global};
 
 fn line_format(one_line: bool) -> LineFormat
@@ -23,7 +23,7 @@ fn line_format(one_line: bool) -> LineFormat
     }
 }
 
-/// Pushes a copy of an item.
+/// Pushes a copy of a token.
 fn push_copy<T: Copy>(onto: &mut Vec<T>, item: &T) -> Result<(), AllocError>
     ensures added { OnOk result (onto.new.items ≡ onto.old.items ++ (item.now ∷ [])) }
     ensures kept { length onto.old.items ≤ length onto.new.items }
@@ -32,7 +32,7 @@ fn push_copy<T: Copy>(onto: &mut Vec<T>, item: &T) -> Result<(), AllocError>
     Ok(())
 }
 
-/// A copy of an item.
+/// A copy of a token.
 fn copy_of<T: Copy>(item: &T) -> T
     ensures { result ≡ item.now }
 {
@@ -57,8 +57,9 @@ impl<'a> Printer<'a, PageBuffer> {
 }
 
 impl<'a, W: PieceWriter> Printer<'a, W> {
-    /// A printer that writes to this, from a store and tables, with the words of an edition, to which nothing was added. `one_line` says
-    /// that all is written in one line, where there are pieces for lines alone. It allocates from `alloc`, and nothing now.
+    /// A printer that writes to this, from a store and tables, with the words of an edition, to which nothing
+    /// was added. `one_line` says that all is written in one line, where some layout is for lines alone. It
+    /// allocates from `alloc`, and nothing now.
     pub fn over(
         alloc: Global,
         writer: W,
@@ -81,7 +82,7 @@ impl<'a, W: PieceWriter> Printer<'a, W> {
         }
     }
 
-    /// Writes a work that is text or layout.
+    /// Writes a token that is text or layout.
     pub(crate) fn write_token(&mut self, token: &Token<'a>) -> Result<(), AllocError>
         requires { is_node token.now ≡ false }
         ensures { OnOk result (Wrote W.step token.now self.old self.new) }
@@ -99,7 +100,7 @@ impl<'a, W: PieceWriter> Printer<'a, W> {
         }
     }
 
-    /// Keeps a work behind those that were kept in this turn.
+    /// Keeps a token after those that were kept in this step.
     fn keep(&mut self, token: &Token<'a>) -> Result<(), AllocError>
         ensures { OnOk result (printing_of W.step self.new
             ≡ record (printing_of W.step self.old) { kept = (printing_of W.step self.old).kept ++ (token.now ∷ []) }) }
@@ -107,9 +108,11 @@ impl<'a, W: PieceWriter> Printer<'a, W> {
         push_copy(&mut self.tokens, token)
     }
 
-    /// Adds a work: text and layout are written at once where nothing was kept in this turn, all else is kept.
-    // Inlined, as `add` is: what becomes of a work that is known when this is compiled is known then too, and a list of such works takes no
-    // memory. That takes six hundredths of the instructions of a run that prints away, and five of one with all questions.
+    /// Adds a token: text and layout are written at once where nothing was kept in this step, all else is
+    /// kept.
+    // Inlined, as `add` is: what becomes of a token that is known when this is compiled is known then too,
+    // and a list of such tokens takes no memory. That saves 6 % of the instructions of a run that prints, and
+    // 5 % of one with all questions.
     #[inline(always)]
     fn add_token(&mut self, token: &Token<'a>) -> Result<(), AllocError>
         ensures { OnOk result (Adds W.step self.old (λ s. stands_for s token.now) self.new) }
@@ -117,12 +120,13 @@ impl<'a, W: PieceWriter> Printer<'a, W> {
         if self.tokens.len() > self.waiting || token.is_node() {
             return self.keep(token);
         }
-        // a copy is handed out, and not the work: so a list of works that is known when this is compiled needs no memory
+        // a copy is passed on, and not the token: so a list of tokens that is known when this is compiled
+        // needs no memory
         let token = copy_of(token);
         self.write_token(&token)
     }
 
-    /// Makes room for so many works.
+    /// Makes room for so many tokens.
     pub(crate) fn reserve(&mut self, tokens: usize) -> Result<(), AllocError>
         ensures { OnOk result (printing_of W.step self.new ≡ printing_of W.step self.old) }
     {
@@ -130,7 +134,7 @@ impl<'a, W: PieceWriter> Printer<'a, W> {
         Ok(())
     }
 
-    /// Adds works.
+    /// Adds tokens.
     #[inline(always)]
     pub fn add(&mut self, tokens: &[Token<'a>]) -> Result<(), AllocError>
         ensures { OnOk result (AddsTokens W.step self.old tokens.now self.new) }
@@ -164,7 +168,7 @@ impl<'a, W: PieceWriter> Printer<'a, W> {
         ])
     }
 
-    /// Lets what was kept in this turn wait, before all that waits.
+    /// Lets what was kept in this step wait, before all that waits.
     pub(crate) fn queue_kept(&mut self)
         ensures { let old = printing_of W.step self.old in
             printing_of W.step self.new ≡ record old { kept = []; waiting = old.kept ++ old.waiting } }
@@ -173,7 +177,7 @@ impl<'a, W: PieceWriter> Printer<'a, W> {
         self.waiting = self.tokens.len();
     }
 
-    /// Begins a turn: the next that waits, where something does.
+    /// Begins a step: takes the next token that waits, where there is one.
     pub(crate) fn next_token(&mut self) -> Option<Token<'a>>
         requires { (printing_of W.step self.old).kept ≡ [] }
         ensures next { IfSome result (λ token. ((printing_of W.step self.old).waiting

@@ -1,4 +1,4 @@
-//! What stands between braces: statements, arms and fields.
+//! What is between braces: statements, arms and fields.
 #![tactic(auto, using(crate::proofs::AddLemmas::adding))]
 
 ghost use Rattle.std.specs.Prelude.{◌++◌, OnOk, codes};

@@ -7,9 +7,9 @@ ghost use Rattle.hir_node.specs.declared.expr_types.ClosureKind.TheVariants as k
 ghost use Rattle.hir_pretty_nodes.specs.Prelude.{comma_joined, coroutine_keyword, movability_keyword, closure_head, capture_keyword, coroutine_body, printed_body, params, header, expr_docs, Adds};
 
 use crate::{Printer, Token};
-use hir_store_core::ExpressionStore;
 use hir_node::{CaptureBy, ClosureKind, CoroutineKind, Expr, ExprId, Movability, PatId, TypeRefId};
 use hir_pretty_layout::PieceWriter;
+use hir_store_core::ExpressionStore;
 use std::alloc::AllocError;
 
 fn coroutine_keyword(kind: CoroutineKind) -> &'static str

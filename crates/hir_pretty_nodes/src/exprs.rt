@@ -34,7 +34,7 @@ fn operator_text(op: Option<BinaryOp>) -> &'static str
 }
 
 impl<'a, W: PieceWriter> Printer<'a, W> {
-    /// Adds what stands behind a keyword such as `return`.
+    /// Adds what comes after a keyword such as `return`.
     fn add_operand(&mut self, expr: Option<ExprId>) -> Result<(), AllocError>
         ensures { OnOk result (Adds W.step self.old (λ s. operand expr) self.new) }
     {
@@ -60,7 +60,8 @@ impl<'a, W: PieceWriter> Printer<'a, W> {
         }
     }
 
-    /// Adds expressions, each with its ending. They wait together, so that a list takes no more memory than one expression.
+    /// Adds expressions, each with its ending. They wait together, so that a list takes no more memory than
+    /// one expression.
     fn add_exprs(&mut self, ending: Ending, exprs: &'a [ExprId]) -> Result<(), AllocError>
         ensures { OnOk result (Adds W.step self.old (λ s. exprs_docs ending exprs.now) self.new) }
     {

@@ -8,14 +8,14 @@ use hir_store_core::Missing;
 use std::alloc::AllocError;
 use thiserror::Error;
 
-/// Why a printing gives no text. The text of a fault is its name alone; `Debug` writes what is missing too, as
-/// `Missing(Signature(FunctionId(7)))`.
+/// Why a printing gives no text. The text of a fault is its name alone; `Debug` writes what is missing too,
+/// as `Missing(Signature(FunctionId(7)))`.
 #[derive(Clone, Copy, Debug, Drop, PartialEq, Eq, Error)]
 pub enum PrintFault {
     /// A definition outside that the text names is missing: the first in printing order.
     #[error("Missing")]
     Missing(Missing),
-    /// Memory was refused.
+    /// An allocation failed.
     #[error("Memory")]
     Memory,
 }

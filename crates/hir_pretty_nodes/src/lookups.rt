@@ -1,4 +1,5 @@
-//! What is looked up in the tables and in the store: names of definitions and of parameters, lifetimes and labels.
+//! What is looked up in the tables and in the store: names of definitions and of parameters, lifetimes and
+//! labels.
 #![tactic(auto, using(crate::proofs::AddLemmas::adding))]
 
 ghost use Rattle.std.specs.Prelude.{◌≡◌, Ok, Err, IfOk, IfErr, OnOk, codes, option_copied};
@@ -7,9 +8,9 @@ ghost use Rattle.hir_pretty_nodes.specs.Prelude.{lifetime_docs, label_docs, l, f
 use crate::{Part, Printer, Token};
 use hir_base::{CrateId, LifetimeParamId, Name, NamedDef, Text, TypeParamId};
 use hir_defs::{GenericParams, Tables};
-use hir_store_core::Missing;
 use hir_node::{LabelId, LifetimeRef, LifetimeRefId};
 use hir_pretty_layout::PieceWriter;
+use hir_store_core::Missing;
 use std::alloc::AllocError;
 
 /// The name of a type or constant parameter; `None` where it has no name.

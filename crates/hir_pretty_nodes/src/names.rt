@@ -86,7 +86,7 @@ pub(crate) fn write_name<W: PieceWriter>(
     writer.text(parts.text)
 }
 
-/// What follows the first text, which is there where the condition holds.
+/// What follows the first text, which is present where the condition holds.
 fn rest_of<'t>(text: &'t [u8], holds: bool, first: &[u8]) -> Option<&'t [u8]>
     ensures { MatchOption result ((rest : List ℕ) → text.now ≢ (if holds then first.now else []) ++ rest)
         (λ rest. text.now ≡ (if holds then first.now else []) ++ rest.now) }

@@ -65,7 +65,8 @@ impl Part for Name {
 }
 
 impl<'a, W: PieceWriter> Printer<'a, W> {
-    /// Adds the members of a list with a text between them, which is also before the first where `after` says so.
+    /// Adds the members of a list with a text between them, which is also before the first where `after` says
+    /// so.
     pub fn add_list<T: Part>(
         &mut self,
         after: bool,
@@ -97,7 +98,7 @@ impl<'a, W: PieceWriter> Printer<'a, W> {
         self.add_list(false, between, members)
     }
 
-    /// Adds the members of a list, each with these works behind it.
+    /// Adds the members of a list, each with these tokens after it.
     pub fn add_each<T: Part>(
         &mut self,
         members: &'a [T],
@@ -114,7 +115,7 @@ impl<'a, W: PieceWriter> Printer<'a, W> {
         Ok(())
     }
 
-    /// Adds a part behind a text, where the part is there.
+    /// Adds a part after a text, where the part is present.
     pub fn add_after<T: Part>(
         &mut self,
         before: &'a str,
@@ -132,7 +133,7 @@ impl<'a, W: PieceWriter> Printer<'a, W> {
         }
     }
 
-    /// Adds a part before a text, where the part is there.
+    /// Adds a part before a text, where the part is present.
     pub(crate) fn add_before<T: Part>(
         &mut self,
         part: &'a Option<T>,

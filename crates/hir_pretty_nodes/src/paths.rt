@@ -83,7 +83,8 @@ impl<'a, W: PieceWriter> Printer<'a, W> {
         }
     }
 
-    /// Adds segments with their arguments, where there are any. `::` is before the first where `after` says so.
+    /// Adds segments with their arguments, where there are any. `::` is before the first where `after` says
+    /// so.
     fn add_segments(
         &mut self,
         after: bool,
@@ -129,7 +130,7 @@ impl<'a, W: PieceWriter> Printer<'a, W> {
         )
     }
 
-    /// Adds the name of an item of the language, or the number of one that has no name.
+    /// Adds the name of a lang item, or the number of one that has no name.
     fn add_target(&mut self, target: LangItemTarget) -> Result<(), AllocError>
         ensures { OnOk result (Adds W.step self.old (λ s. target_docs s target) self.new) }
     {
@@ -203,7 +204,7 @@ impl<'a, W: PieceWriter> Printer<'a, W> {
         self.add_list(has_args, ", ", args.bindings.as_slice())
     }
 
-    /// Adds bounds behind `: `, where there are any.
+    /// Adds bounds after `: `, where there are any.
     fn add_bounds_after(&mut self, bounds: &'a [TypeBound]) -> Result<(), AllocError>
         ensures { OnOk result (Adds W.step self.old (λ s. bounds_after s bounds.now) self.new) }
     {

@@ -9,9 +9,9 @@ ghost use Rattle.hir_pretty_nodes.specs.Prelude.{PrintEnv, p, opt, under, comma_
 use crate::names::is_printed;
 use crate::{Printer, Token};
 use hir_base::{ExprPrecedence, Text};
-use hir_store_core::ExpressionStore;
 use hir_node::{Binding, BindingAnnotation, BindingId, ExprId, Pat, PatId, Path, RecordFieldPat};
 use hir_pretty_layout::PieceWriter;
+use hir_store_core::ExpressionStore;
 use std::alloc::AllocError;
 
 /// Whether the text of a binding is this name as it is printed.
@@ -79,7 +79,7 @@ impl<'a, W: PieceWriter> Printer<'a, W> {
         self.add(&[Token::Text(": "), Token::Pattern(field.pat)])
     }
 
-    /// Adds what stands behind a field: where nothing follows in one line, a space.
+    /// Adds what comes after a field: where nothing follows in one line, a space.
     fn add_field_end(&mut self, has_more: bool) -> Result<(), AllocError>
         ensures { OnOk result (Adds W.step self.old (λ s. after_last s has_more) self.new) }
     {
@@ -125,7 +125,7 @@ impl<'a, W: PieceWriter> Printer<'a, W> {
         self.add(&[Token::Outdent, Token::Text("}")])
     }
 
-    /// Adds patterns, with `..` before the one in this place, or behind all.
+    /// Adds patterns, with `..` before the one in this place, or after all.
     fn add_with_rest(&mut self, pats: &'a [PatId], rest: Option<u32>) -> Result<(), AllocError>
         ensures { OnOk result (Adds W.step self.old
             (λ s. comma_joined (with_rest rest (map p pats.now))) self.new) }

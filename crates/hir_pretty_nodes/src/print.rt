@@ -11,9 +11,9 @@ ghost use Rattle.hir_pretty_nodes.specs.declared.token.Token.TheVariants as toke
 use crate::laws::docs_decrease;
 use crate::{Ending, PrintFault, Printer, Token};
 use hir_base::ExprPrecedence;
-use hir_store_core::ExpressionStore;
 use hir_node::{ExprId, GenericArgs, PatId, TypeRefId};
 use hir_pretty_layout::{PageBuffer, PieceWriter};
+use hir_store_core::ExpressionStore;
 use std::alloc::AllocError;
 
 fn precedence_at(store: &ExpressionStore, id: ExprId) -> ExprPrecedence
@@ -35,7 +35,7 @@ fn is_chain(child: ExprPrecedence, parent: ExprPrecedence) -> bool
     )
 }
 
-/// Whether an expression of one precedence stands in parentheses under another.
+/// Whether an expression of one precedence is in parentheses under another.
 fn stands_in_parentheses(child: ExprPrecedence, parent: ExprPrecedence) -> bool
     ensures { result ≡ stands_in_parentheses child parent }
 {
@@ -99,7 +99,8 @@ impl<'a, W: PieceWriter> Printer<'a, W> {
         self.add_others(ending, others)
     }
 
-    /// Adds generic arguments in `::<` and `>`. The first text is written at once, so that less is kept than they are.
+    /// Adds generic arguments in `::<` and `>`. The first text is written at once, so that less is kept than
+    /// they are.
     fn add_generic_args(&mut self, args: &'a GenericArgs) -> Result<(), AllocError>
         requires none { (printing_of W.step self.old).kept ≡ [] }
         ensures { OnOk result (Expands W.step (tokens.GenericArgs args.entry) self.old self.new) }
@@ -109,7 +110,7 @@ impl<'a, W: PieceWriter> Printer<'a, W> {
         self.add(&[Token::Text(">")])
     }
 
-    /// Adds what a node gives way to, or answers that it is missing.
+    /// Adds what a node expands to, or returns that it is missing.
     fn expand(&mut self, token: &Token<'a>) -> Result<(), PrintFault>
         requires node { is_node token.now ≡ true }
         requires fall { DocsDecrease (printing_of W.step self.old).from }
@@ -129,7 +130,7 @@ impl<'a, W: PieceWriter> Printer<'a, W> {
         }
     }
 
-    /// Writes a work, or lets what it gives way to wait before all that waits.
+    /// Writes a token, or lets what it expands to wait before all that waits.
     fn print_token(&mut self, token: &Token<'a>) -> Result<(), PrintFault>
         requires fall { DocsDecrease (printing_of W.step self.old).from }
         requires none { (printing_of W.step self.old).kept ≡ [] }
@@ -145,7 +146,7 @@ impl<'a, W: PieceWriter> Printer<'a, W> {
         Ok(())
     }
 
-    /// Writes the pieces of what was added, up to the first fault.
+    /// Writes the doc pieces of what was added, up to the first fault.
     fn write(&mut self) -> Result<(), PrintFault>
         ensures ok { let old = printing_of W.step self.old in
             OnOk result (printing W.step old.value (doc_list_pieces old.from
@@ -168,7 +169,8 @@ impl<'a, W: PieceWriter> Printer<'a, W> {
 impl<'a, W: PieceWriter + Drop> Printer<'a, W> {
     /// Writes what was added, and gives back what it was written to.
     ///
-    /// Returns `Missing` of the first definition that the pieces name and the tables don't have, and `Memory` where memory was refused.
+    /// Returns `Missing` of the first definition that the doc pieces name and the tables don't have, and
+    /// `Memory` where an allocation fails.
     pub fn finish(mut self) -> Result<W, PrintFault>
         ensures { let s = (printing_of W.step self.entry).from in
             (value : W) → (docs : List Doc)
@@ -183,7 +185,8 @@ impl<'a, W: PieceWriter + Drop> Printer<'a, W> {
 impl<'a> Printer<'a, PageBuffer> {
     /// The text of what was added.
     ///
-    /// Returns `Missing` of the first definition that the text names and the tables don't have, and `Memory` where memory was refused.
+    /// Returns `Missing` of the first definition that the text names and the tables don't have, and `Memory`
+    /// where an allocation fails.
     pub fn print(self) -> Result<String, PrintFault>
         ensures { let s = (printing_of render self.entry).from in
             (docs : List Doc) → AddsDocs (on_page s) (λ s. docs) (printing_of render self.entry)

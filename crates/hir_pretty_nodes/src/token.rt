@@ -4,10 +4,10 @@ ghost use Rattle.std.specs.Prelude.{◌≡◌};
 ghost use Rattle.hir_pretty_nodes.specs.Printers.{is_node};
 
 use hir_base::ExprPrecedence;
-use hir_store_core::Missing;
 use hir_node::{ExprId, GenericArgs, Literal, PatId, TypeRefId};
+use hir_store_core::Missing;
 
-/// What stands behind each expression of a list.
+/// What comes after each expression of a list.
 #[derive(Clone, Copy)]
 pub enum Ending {
     /// A comma and a space.
@@ -16,7 +16,7 @@ pub enum Ending {
     Line,
 }
 
-/// What is still to be printed: a piece, a text of several pieces, a node, or a definition that is missing.
+/// What is still to be printed: a layout, a text of several layouts, a node, or a definition that is missing.
 #[derive(Clone, Copy)]
 pub enum Token<'a> {
     /// A text, written as it is.

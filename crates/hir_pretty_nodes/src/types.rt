@@ -67,7 +67,7 @@ impl Part for TypeBound {
 }
 
 impl<'a, W: PieceWriter> Printer<'a, W> {
-    /// Adds names behind `for`.
+    /// Adds names after `for`.
     fn add_for(&mut self, names: &'a [Name]) -> Result<(), AllocError>
         ensures { OnOk result (Adds W.step self.old (λ s. for_names s names.now) self.new) }
     {
@@ -76,7 +76,7 @@ impl<'a, W: PieceWriter> Printer<'a, W> {
         self.add(&[Token::Text("> ")])
     }
 
-    /// Adds names behind `for`, where there are any.
+    /// Adds names after `for`, where there are any.
     pub fn add_binder(&mut self, names: &'a Option<Seq<Name>>) -> Result<(), AllocError>
         ensures { OnOk result (Adds W.step self.old (λ s. opt (for_names s) names.now) self.new) }
     {

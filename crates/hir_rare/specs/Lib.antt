@@ -1,1 +1,2 @@
+-- writes to a rare value
 pub mod LazyBox

@@ -1,4 +1,4 @@
-//! Types with a blank value: one that has no entries and takes no memory.
+//! Types with a blank value, which has no entries and takes no memory.
 ghost use Rattle.std.specs.Prelude.{◌≡◌, []};
 ghost use Rattle.std.specs.FinMap as map;
 
@@ -10,7 +10,7 @@ pub trait Empty: Sized {
     // the blank value
     ghost empty_value: { Self };
 
-    /// The blank value. It takes its memory from `alloc`, and none yet.
+    /// Returns the blank value. It takes its memory from `alloc`, and none yet.
     fn empty_value(alloc: Global) -> Self
         ensures { result ≡ empty_value };
 }

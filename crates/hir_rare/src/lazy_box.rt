@@ -1,4 +1,5 @@
-//! A value in memory of its own, which the first write makes. Contracts see the value: the blank one before.
+//! A value in an allocation of its own, which the first write makes. It is modelled as that value, blank
+//! before the first write.
 ghost use Rattle.std.specs.Prelude.{◌≡◌, Some, unwrap_or, option_copied, IfOk, IfErr, OnOk, OnErr, IsSome};
 ghost use Rattle.std.specs.Borrow.{sem};
 ghost use Rattle.hir_rare.specs.LazyBox.{lends_made, lends_value};
@@ -9,13 +10,15 @@ use hir_path::Boxed;
 use std::alloc::{AllocError, AllocFailed, Global};
 use std::marker::Model;
 
-/// A value that contracts see as it is, blank until it is written to. It takes no memory before.
+/// A value in an allocation of its own, modelled as that value. Until the first write it is blank and takes
+/// no memory.
 pub struct LazyBox<T: Empty> {
     place: Option<Boxed<T>>,
     alloc: Global,
 }
 
-/// Drops the value where it has memory. It is here so that it is proved once, and is a call wherever a value is dropped.
+/// Drops the value if it has memory. It is a function so that it is proved once, and that each drop is a
+/// call.
 impl<T: Empty + Drop> Drop for LazyBox<T> {
     fn drop(self) {
         let LazyBox { place, alloc: _ } = self;
@@ -32,7 +35,7 @@ impl<T: Empty> Model for LazyBox<T> {
     ghost view = { λ r. unwrap_or r.place T.empty_value };
 }
 
-/// The value, to write to, where it has memory.
+/// Lends the value for writing, if it has memory.
 fn made_mut<T>(place: &mut Option<Boxed<T>>) -> &mut T
     requires { IsSome place.old }
     ensures* lends { sem 𝓛 (lends_made T.row place.entry result) }
@@ -44,7 +47,7 @@ fn made_mut<T>(place: &mut Option<Boxed<T>>) -> &mut T
     }
 }
 
-/// Takes memory for the value where it has none.
+/// Allocates memory for the value if it has none.
 fn fill<T: Empty + Drop>(place: &mut Option<Boxed<T>>, alloc: Global) -> Result<(), AllocError>
     ensures ok { OnOk result (place.new ≡ Some (unwrap_or place.old T.empty_value)) }
     ensures err { OnErr result (place.new ≡ place.old) }
@@ -56,16 +59,16 @@ fn fill<T: Empty + Drop>(place: &mut Option<Boxed<T>>, alloc: Global) -> Result<
 }
 
 impl<T: Empty> LazyBox<T> {
-    /// The blank value. It takes its memory from `alloc`, and none yet.
+    /// Returns the blank value. It takes its memory from `alloc`, and none yet.
     pub fn new(alloc: Global) -> LazyBox<T>
         ensures { result ≡ T.empty_value }
     {
         LazyBox { place: None, alloc }
     }
 
-    /// This value, for which it takes memory.
+    /// Returns this value, for which it allocates memory.
     ///
-    /// Answers an error if that was refused, and hands the value back.
+    /// Returns an error if the allocation fails: the error gives the value back.
     pub fn of(alloc: Global, value: T) -> Result<LazyBox<T>, AllocFailed<T>>
         ensures ok { IfOk result (λ lazy_box. lazy_box ≡ value) }
         ensures value_returned { IfErr result (λ failed. failed.value ≡ value) }
@@ -76,7 +79,7 @@ impl<T: Empty> LazyBox<T> {
         })
     }
 
-    /// The value, where it has memory. Where it has none it is blank.
+    /// Returns the value, if it has memory. If it has none, it is blank.
     pub fn get(&self) -> Option<&T>
         ensures { unwrap_or (option_copied result) T.empty_value ≡ self.now }
     {
@@ -86,14 +89,14 @@ impl<T: Empty> LazyBox<T> {
         }
     }
 
-    /// A blank value, whose memory comes from where that of this value does.
+    /// Returns a blank value with the allocator of this value.
     pub fn empty_value(&self) -> T
         ensures { result ≡ T.empty_value }
     {
         T::empty_value(self.alloc)
     }
 
-    /// The value, or this blank one where it has no memory.
+    /// Returns the value, or this blank one if it has no memory.
     pub fn or_empty<'a>(&'a self, empty_value: &'a T) -> &'a T
         requires { empty_value.now ≡ T.empty_value }
         ensures { result.now ≡ self.now }
@@ -106,9 +109,9 @@ impl<T: Empty> LazyBox<T> {
 }
 
 impl<T: Empty + Drop> LazyBox<T> {
-    /// The value, to write to. The first call takes memory for it.
+    /// Lends the value for writing. The first call allocates its memory.
     ///
-    /// Answers an error if that was refused: the value is unchanged.
+    /// Returns an error if the allocation fails: the value is unchanged.
     pub fn get_or_alloc(&mut self) -> Result<&mut T, AllocError>
         ensures* writes_back { sem 𝓛 (lends_value T.row T.Empty self.entry result) }
         ensures value { IfOk result (λ value. value.now ≡ self.old) }

@@ -1,4 +1,5 @@
-//! Values that most owners don't need. Such a value takes 16 bytes in its owner, and no memory until it is written to.
+//! Values that most owners don't need. Such a value takes 16 bytes in its owner, and no memory until it is
+//! written to.
 #![tactic(auto)]
 
 mod empty;

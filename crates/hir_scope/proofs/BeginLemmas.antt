@@ -34,7 +34,7 @@ use Rattle.hir_scope.proofs.ChildLemmas.{about_calls}
 use Rattle.hir_scope.proofs.MemberLemmas.{In, in_contains, contains_in, in_map, sum_same, sum_mapped, sum_none}
 use Rattle.hir_scope.proofs.{MovingLemmas.scopes_weigh, MovingLemmas.entries_weigh, PathLemmas.path_step}
 
--- the roots of a store are there
+-- the roots of a store exist
 pub roots_in_range : (c : Contents) → RootsStandApart (rooted_of c) → (n : NodeId) → Contains (root_entry_nodes c) n → Has c.nodes n
 roots_in_range c stand n m =
     let roots = root_nodes c.roots in

@@ -33,7 +33,7 @@ tied_same q k e = nat_cmp-IsAntisymmetric q k (is_equal (nat_cmp q k) e) where
   is_equal Ordering.Equal e = refl
   is_equal Ordering.Greater e = absurd cc
 
--- a value that is there was there before, or was written
+-- a value that exists was there before, or was written
 pub written_or : (m : ScopesById) (gs : List ScopeAssigned) (expr scope : ℕ) → finmap.get (write_all m gs) expr ≡ Some scope → (finmap.get m expr ≡ Some scope) ⊎ ((g : ScopeAssigned) × In g gs × (g.expr ≡ expr) × (g.assigned ≡ scope))
 written_or m [] expr scope e = inl e
 written_or m (g ∷ gs) expr scope e =
@@ -56,14 +56,14 @@ some_if true v o h = refl
 some_if false v o (inl e) = absurd cc
 some_if false v o (inr h) = h
 
--- what is there stays
+-- what exists stays
 stays : (m : ScopesById) (gs : List ScopeAssigned) (expr : ℕ) → IsSome (finmap.get m expr) → IsSome (finmap.get (write_all m gs) expr)
 stays m [] expr h = h
 stays m (g ∷ gs) expr h =
     stays (finmap.insert m g.expr g.assigned) gs expr
     (subst IsSome (sym (get-insert nat_cmp_total m g.expr g.assigned expr)) (some_if (eq_by_cmp nat_cmp expr g.expr) g.assigned (finmap.get m expr) (inr h)))
 
--- what was written is there
+-- what was written exists
 pub written_in_range : (m : ScopesById) (gs : List ScopeAssigned) (g : ScopeAssigned) → In g gs → IsSome (finmap.get (write_all m gs) g.expr)
 written_in_range m [] g h = absurd h
 written_in_range m (f ∷ gs) g h =

@@ -84,7 +84,7 @@ module _ (v : Task → ℕ) (a b : CurrentScopes) (same : v (leave a) ≡ v (lea
 -- Frames
 
 module _ (s : Nodes) (fall : RankDecreases s) where
-  -- a node is met: the frames that it opens are there, those of its tasks are still to come
+  -- a node is entered: the frames that it opens exist, those of its tasks are still to come
   pub weight_met : (w : Frame → ℕ) (a : CurrentScopes) (n : NodeId) (ts : List Task) → Has s n → let x = form_of s n in
       total s (λ (m : NodeId). sum_by w (node_frames s m)) n + weight_left s w ts ≡ sum_by w (opened_frames s x ++ opened_const_frames x) + weight_left s w (form_tasks a x ++ ts)
   weight_met w a n ts h =
@@ -270,7 +270,7 @@ none-spread RecordSpread.None = refl
 none-spread RecordSpread.FieldDefaults = refl
 none-spread (RecordSpread.Expr id) = refl
 
--- no pattern is among what a form meets in turn
+-- no pattern is among what a form visits in turn
 abbrev pub MeetsNone : ScopingForm → Type 0
 MeetsNone (form.InTurn cs) = none cs
 MeetsNone x = none []

@@ -24,7 +24,7 @@ use Rattle.hir_scope.proofs.ChildLemmas.{children_of_form, children_in, child_co
 use Rattle.hir_scope.proofs.MovingLemmas.{over_exceeds, at, opened_none, moves_opened, moves_still}
 use Rattle.hir_scope.proofs.UnderLemmas.{open_frames_at, exprs_under_expr, exprs_under_pat, exprs_under_type}
 
--- 1. What the tasks of a node name is there: the node's children, and the scopes that are taken back.
+-- 1. What the tasks of a node name exists: the node's children, and the scopes that are taken back.
 
 -- Nodes
 
@@ -41,7 +41,7 @@ module _ (s : Nodes) where
   in_range_parts [] ms h = (tt, h)
   in_range_parts (n ∷ ns) ms h = let r = in_range_parts ns ms h.1 in ((h.0, r.0), r.1)
 
-  -- the children of a node that is there
+  -- the children of a node that exists
   pub children_in_range : RankDecreases s → (n : NodeId) → Has s n → AreInRange s (children (met_in_form (form_of s n)))
   unfolding child_contexts
   children_in_range fall n h =
@@ -152,7 +152,7 @@ module _ (s : Nodes) (fall : RankDecreases s) (chain : ℕ → Chain) where
       ∙ (ap (λ (y : ScopingForm). exprs_under s (map (child_in_context h k) (child_contexts_of_form s y)) ++ future s chain (open_frames_of_form s (open_frames s) y ++ h) k ts) is
       ∙ future_form s chain a x ts))
 
-  -- a type stands in the scope of constants
+  -- a type is in the scope of constants
   pub future_type : (a : CurrentScopes) (id : ℕ) (x : ScopingForm) (ts : List Task) → Has s (NodeId.TypeRef id) → form_of s (NodeId.TypeRef id) ≡ x → let h = chain a.scope in let k = chain a.const_scope in future s chain h k (Task.TypeRef id ∷ ts) ≡ future s chain (opened_frames s x ++ k) (opened_const_frames x ++ k) (form_tasks (for_const_frames a) x ++ (leave a ∷ ts))
   unfolding future
   future_type a id x ts in_range is =

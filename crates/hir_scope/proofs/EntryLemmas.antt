@@ -21,7 +21,7 @@ use Rattle.hir_scope.proofs.CountLemmas.{MeetsNone, expr_meets, type_meets, boun
 use Rattle.hir_scope.proofs.ChildLemmas.{children_of_form, children_in, child_contexts_children, about_form}
 use Rattle.hir_scope.proofs.MemberLemmas.{In, contains_in, flat_map_in, sum_flat, sum_same, sum_plus, sum_ones}
 
--- 1. Each binding of a pattern is there, and is one entry
+-- 1. Each binding of a pattern exists, and is one entry
 
 all_below : (n : ℕ) (xs : List ℕ) → list_all (λ id. nat_lt id n) xs ≡ true → (b : ℕ) → In b xs → b < n
 all_below n xs t b i = ltb-true b n (All-contains (λ id. nat_lt id n ≡ true) xs b (AllPass-from_list_all (λ id. nat_lt id n) xs t) (contains_in xs b i))

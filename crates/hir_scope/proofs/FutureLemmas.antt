@@ -1,4 +1,4 @@
--- What tasks will meet: of a form, and of the entry nodes of a body or a signature.
+-- What tasks will visit: of a form, and of the entry nodes of a body or a signature.
 use Rattle.std.proofs.Common.{◌≡◌, ℕ, List, [], ◌∷◌, ◌++◌, map, refl, sym, ap, ◌∙◌, append_assoc, Option, Some, None, suc, ◌<◌, ◌≤◌, length, arith}
 use Rattle.std.proofs.lemmas.List.{append-nil, map-append}
 use Rattle.std.proofs.lemmas.List.{Concat.flat_map-append, Elements.filter-append}
@@ -215,7 +215,8 @@ module _ (s : Nodes) (chain : ℕ → Chain) where
       head (in_context (NodeId.TypeRef ty) k k) (in_context (NodeId.Pat pat) (frame s (pat ∷ []) ∷ h) k ∷ []) _
   future_form a (form.InTurn cs) ts = turn_bare (chain a.scope) (chain a.const_scope) cs ts
 
--- 2. The entry nodes of a body and of a signature: which nodes they are, and that the tasks of a walk over them meet what is under them.
+-- 2. The entry nodes of a body and of a signature: which nodes they are, and that the tasks of a walk over
+-- them visit their descendants.
 
 nodes_of_contexts : (h k : Chain) (xs : List ChildContext) → map (λ (at : InContext). at.node) (map (child_in_context h k) xs) ≡ children_in xs
 nodes_of_contexts h k [] = refl

@@ -309,7 +309,7 @@ module _ (s : Nodes) where
         grows = m.grows;
       })
 
-  -- a task that is known to be this one, where what it calls has an answer
+  -- a task that is known to be this one, where what it calls returns
   pub goes_task : {E : Type 0} (w : Walk) (t u : Task) (n : ℕ) (r : Result (Unit {0}) E) (new : WalkState) → t ≡ u → OnOk r (Step s (with_next w u) new []) → OnOk r (CountedStep s (with_next w t) new n n)
   goes_task w t u n r new e moves =
       let P : Task → Type 0 = λ x. CountedStep s (with_next w x) new n n in

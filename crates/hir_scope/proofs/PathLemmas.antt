@@ -71,7 +71,7 @@ path_short scopes earlier (suc n) (Some s) l h =
 pub path_fits : (scopes : List Scope) → ParentsStandEarlier scopes → (o : Option ℕ) → ScopeIsInRange scopes o → length (path scopes o) ≤ length scopes
 path_fits scopes earlier o h = path_short scopes earlier (length scopes) o (omega arith) h
 
--- each member of a path is there
+-- each member of a path exists
 
 abbrev Below : ℕ → List ℕ → Type 0
 Below n p = All (λ x. x < n) p

@@ -1,4 +1,4 @@
--- What a name means, also through macros.
+-- What a name resolves to, also through macros.
 use Rattle.std.proofs.Common.{◌≡◌, ℕ, suc, ◌<◌, Bool, true, false, cond, List, [], ◌∷◌, ◌++◌, Option, Some, None, length, refl, ap, sym, ◌∙◌, subst, arith, append_assoc}
 use Rattle.std.proofs.lemmas.{List.append-nil, List.Concat.flat_map-append}
 use Rattle.std.proofs.lemmas.List.Elements.{Contains-append_left, Contains-append_right, Contains-push}
@@ -14,9 +14,10 @@ use Rattle.hir_scope.specs.Scopes.{Scope, IsBelow, ScopeIsInRange, ParentsStandE
 use Rattle.hir_scope.specs.declared.{macros.Expansion.Expansion, scope.ScopeEntry.ScopeEntry}
 use Rattle.hir_scope.proofs.PathLemmas.{path_step, weaker}
 
--- 1. A name is looked for scope by scope, from one scope outward: what is found is what the name means along the chain.
+-- 1. A name is looked for scope by scope, from one scope outward: what is found is what the name resolves to
+-- along the chain.
 
--- what a function tells of the scope that is there
+-- what a function tells of the scope that exists
 pub of_some_scope : {X : Type 0} (f : Scope → X) (o : Option Scope) (x : X) → option_map f o ≡ Some x → (s : Scope) × (o ≡ Some s) × (f s ≡ x)
 of_some_scope f None x e = absurd cc
 of_some_scope f (Some s) x e = (s, refl, cc)
@@ -34,13 +35,13 @@ abbrev pub ways : Option ℕ → ℕ
 ways None = 0
 ways (Some s) = suc s
 
--- a parent stands earlier
+-- a parent comes earlier
 pub parent_earlier : (scopes : List Scope) (s : ℕ) (parent : Option ℕ) → ParentsStandEarlier scopes → option_map (λ (x : Scope). x.parent) (slice_get scopes s) ≡ Some parent → IsBelow s parent
 parent_earlier scopes s parent earlier p =
     let x = of_some_scope (λ (x : Scope). x.parent) (slice_get scopes s) parent p in
     subst (IsBelow s) x.2 (earlier s x.0 x.1)
 
--- What a chain in two parts means
+-- What a name resolves to along a chain in two parts
 
 module _ (n : List ℕ) (h : SyntaxContext) where
   first_append : (xs ys : List ScopeEntry) → find_entry n h (xs ++ ys) ≡ option_or (find_entry n h xs) (find_entry n h ys)
@@ -53,7 +54,7 @@ module _ (n : List ℕ) (h : SyntaxContext) where
   pub resolve_append : (xs ys : Chain) → resolve (xs ++ ys) n h ≡ option_or (resolve xs n h) (resolve ys n h)
   resolve_append xs ys = ap (find_entry n h) (flat_map-append (λ (f : Frame). f.entries) xs ys) ∙ first_append (entries_of xs) (entries_of ys)
 
-  -- what the entries of a scope mean
+  -- what a name resolves to in the entries of a scope
   resolve_here : (scopes : List Scope) (s : ℕ) (es : List ScopeEntry) → option_map (λ (x : Scope). x.entries) (slice_get scopes s) ≡ Some es → resolve (frame_at scopes s) n h ≡ find_entry n h es
   resolve_here scopes s es e =
       let x = of_some_scope (λ (x : Scope). x.entries) (slice_get scopes s) es e in
@@ -74,7 +75,7 @@ module _ (scopes : List Scope) (from : ℕ) (n : List ℕ) (h : SyntaxContext) w
   set_out l = record { within = l; before = []; on_the_way = refl; none_before = refl }
 
   module _ (s : ℕ) (w : OnTheWay scopes from n h (Some s)) (es : List ScopeEntry) (e : option_map (λ (x : Scope). x.entries) (slice_get scopes s) ≡ Some es) where
-    -- one that has none is left behind
+    -- a scope that has none is passed
     pub go_outward : (parent : Option ℕ) → ParentsStandEarlier scopes → option_map (λ (x : Scope). x.parent) (slice_get scopes s) ≡ Some parent → find_entry n h es ≡ None → OnTheWay scopes from n h parent
     go_outward parent earlier p none = record {
       within = weaker s (length scopes) parent (let l : s < length scopes = w.within in omega (arith, l)) (parent_earlier scopes s parent earlier p);
@@ -92,7 +93,7 @@ module _ (scopes : List Scope) (from : ℕ) (n : List ℕ) (h : SyntaxContext) w
     found_here entry is =
         record { in_range = w.within; before = w.before; on_the_way = w.on_the_way; none_before = w.none_before; is_first = resolve_here n h scopes s es e ∙ is }
 
--- what is found is what the name means
+-- what is found is what the name resolves to
 pub found_resolves : (scopes : List Scope) → ParentsStandEarlier scopes → (from : ℕ) (n : List ℕ) (h : SyntaxContext) (s : ℕ) (entry : ScopeEntry) → IsFound scopes from n h s entry → resolve (chain scopes (Some from)) n h ≡ Some entry
 found_resolves scopes earlier from n h s entry f =
     let x = item_at scopes s f.in_range in

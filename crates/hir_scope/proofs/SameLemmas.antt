@@ -56,7 +56,7 @@ range_new xs ys row s e = ap (take (row.end - row.start)) (drop_at xs ys row.sta
 pub length_in : (xs : List ScopeEntry) (row : ScopeData) → row.start ≤ row.end → row.end ≤ length xs → length (entries_in xs row) ≡ row.end - row.start
 length_in xs row b w = length-take-le (row.end - row.start) (drop row.start xs) (omega (arith, b, w, length-drop row.start xs))
 
--- all entries stand in the ranges
+-- all entries are in the ranges
 pub entries_are_counted : (xs : List ScopeEntry) (from : ℕ) (rows : List ScopeData) → FollowEachOther from rows (length xs) → entry_count (scopes_of xs rows) + from ≡ length xs
 entries_are_counted xs from [] h = omega (arith, h)
 entries_are_counted xs from (row ∷ rows) h =
@@ -75,7 +75,7 @@ parents_seen es rows h i s e = at (slice_get rows i) refl (sym (slice_get-map (s
   at None q f = absurd cc
   at (Some row) q f = let k : scope_of es row ≡ s = cc in subst (λ (x : Scope). IsBelow i x.parent) k (h i row q)
 
--- a scope that is there is seen by its range
+-- a scope that exists is seen by its range
 pub scope_seen : (es : List ScopeEntry) (rows : List ScopeData) (i : ℕ) (row : ScopeData) → slice_get rows i ≡ Some row → slice_get (scopes_of es rows) i ≡ Some (scope_of es row)
 scope_seen es rows i row e = slice_get-map (scope_of es) rows i ∙ ap (option_map (scope_of es)) e
 

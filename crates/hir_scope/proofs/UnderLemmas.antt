@@ -1,4 +1,5 @@
--- The open frames of a node by its children, what is under a context, and the contexts in which a node occurs.
+-- The frames that a node leaves open by those of its children, the descendants of a node in its context, and in
+-- which contexts a node occurs.
 use Rattle.std.proofs.Common.{◌≡◌, ℕ, zero, suc, List, [], ◌∷◌, map, refl, sym, ap, ◌∙◌, Contains, arith, subst, ◌<◌, inl, inr, ⊎_elim}
 use Rattle.std.proofs.{Math.Path.fun_ext, lemmas.List.append-nil}
 use Rattle.std.proofs.lemmas.List.Sorted.{IsPermutation-sym, Contains-permutation}
@@ -94,7 +95,7 @@ pub exprs_under_type : (s : Nodes) → RankDecreases s → (id : ℕ) (scope con
 unfolding exprs_under
 exprs_under_type s fall id scope const_scope h = exprs_under_at s fall (in_context (NodeId.TypeRef id) scope const_scope) h
 
--- 2. A node stands in a place exactly where it is reached.
+-- 2. A node occurs in a context exactly where it is reached.
 
 module _ {X Y : Type 0} (f : X → Y) where
   pub mapped : (xs : List X) (x : X) → Contains xs x → Contains (map f xs) (f x)
@@ -120,7 +121,7 @@ module _ (s : Nodes) where
       (IsPermutation-sym (children_of s at.node) (children_in (child_contexts s at.node)) (child_contexts_children s at.node)) in_range)
 
   module _ (entry_nodes : List InContext) where
-    -- what is under a node that stands in a place stands in one
+    -- the descendants of a node that occurs in a context occur in one
     occurs_under : (n r : NodeId) → Under s n r → (at : InContext) → at.node ≡ r → Occurs s entry_nodes at → (q : InContext) × Occurs s entry_nodes q × (q.node ≡ n)
     occurs_under n r itself at e h = (at, h, e)
     occurs_under n r (below {k = k} c u) at e h =
@@ -138,14 +139,14 @@ module _ (s : Nodes) where
         let r = occurs_reached parent h in
         (r.0, r.1, under_more s at.node parent.node r.2 (child_of_context parent at c))
 
--- 3. What is listed under some entry nodes is what stands in a place below them.
+-- 3. The list of descendants of some entry nodes has what occurs in a context below them.
 
--- the nodes of entry nodes are there
+-- the nodes of entry nodes exist
 pub contexts_in_range : (s : Nodes) (entry_nodes : List InContext) (nodes : List NodeId) → map (λ (p : InContext). p.node) entry_nodes ≡ nodes → ((n : NodeId) → Contains nodes n → Has s n) → (p : InContext) → In p entry_nodes → Has s p.node
 contexts_in_range s entry_nodes nodes same in_range p i = in_range p.node (contains_in nodes p.node (subst (In p.node) same (map_in (λ (q : InContext). q.node) p entry_nodes i)))
 
 module _ (s : Nodes) (fall : RankDecreases s) where
-  -- a child's place: the child is there, and lower
+  -- a child in its context: the child exists, and has a lower rank
   pub child_in_range : (p q : InContext) → Has s p.node → In q (children_in_context s p) → Has s q.node
   child_in_range p q h i = fall.in_range p.node h q.node (child_of_context s p q (contains_in (children_in_context s p) q i))
 
@@ -198,7 +199,7 @@ module _ (s : Nodes) (fall : RankDecreases s) where
         in_flat_map (contexts_under s) d.0 r entry_nodes d.1
         (under_closed (suc (rank s d.0.node)) d.0 q r (omega arith) (in_range d.0 d.1) d.2 (in_contains (children_in_context s q) r c))
 
-    -- the expressions that are listed are those that stand in a place
+    -- the expressions that are listed are those that occur in a context
     pub exprs_stand : (r : InContext) → In r (exprs_under s entry_nodes) → Occurs s entry_nodes r
     unfolding exprs_under
     exprs_stand r i = listed_occurs r (filter_in (λ (x : InContext). is_expr x.node) r (flat_map (contexts_under s) entry_nodes) i).0

@@ -1,4 +1,5 @@
--- Each node that stands in a place stands in one alone, where nothing lies under two entry nodes or under two children of a node.
+-- Each node that occurs in a context occurs in one alone, where no two entry nodes and no two children of a node
+-- have a common descendant.
 use Rattle.std.proofs.Common.{◌≡◌, ℕ, zero, suc, ◌<◌, ◌≤◌, List, [], ◌∷◌, map, refl, sym, ap, ◌∙◌, arith, subst, inl, inr, ◌⊎◌, ⊎_elim, Some, Contains, eqb}
 use Rattle.std.proofs.lemmas.{Bool.cases_lt, Bool.Decides.eqb_tells, List.Sorted.sum_by-IsPermutation}
 use Rattle.std.proofs.lemmas.{List.Sums.sum_by-cons, Option.slice_get-map}
@@ -13,7 +14,7 @@ use Rattle.hir_scope.proofs.{CountLemmas.one_if, ChildLemmas.children_in, ChildL
 use Rattle.hir_scope.proofs.MemberLemmas.{In, in_contains, contains_in, get_in, sum_mapped}
 use Rattle.hir_scope.proofs.UnderLemmas.{child_of_context, occurs_reached, occurs_in_range}
 
--- 1. How often a node stands in a list
+-- 1. How often a node occurs in a list
 
 abbrev is : NodeId → NodeId → ℕ
 is (NodeId.Expr a) (NodeId.Expr b) = one_if (eqb a b)
@@ -38,7 +39,7 @@ is_itself (NodeId.Expr a) = itself_id a
 is_itself (NodeId.Pat a) = itself_id a
 is_itself (NodeId.TypeRef a) = itself_id a
 
--- it does not stand there
+-- it does not occur there
 absent : (m : NodeId) (xs : List NodeId) → ((j : ℕ) (b : NodeId) → slice_get xs j ≡ Some b → m ≡ b → ⊥) → sum_by (is m) xs ≡ 0
 absent m [] h = refl
 absent m (x ∷ xs) h =
@@ -46,7 +47,7 @@ absent m (x ∷ xs) h =
     let r = absent m xs (λ j b e. h (suc j) b e) in
     ⊎_elim (λ z. omega (arith, a, r, z)) (λ z. absurd (h 0 x refl z.1)) (is_or_not m x)
 
--- it stands there once at most
+-- it occurs there once at most
 once : (m : NodeId) (xs : List NodeId) → ((i j : ℕ) (a b : NodeId) → i < j → slice_get xs i ≡ Some a → slice_get xs j ≡ Some b → m ≡ a → m ≡ b → ⊥) → sum_by (is m) xs ≤ 1
 once m [] h = omega arith
 once m (x ∷ xs) h =
@@ -65,7 +66,7 @@ present m (p ∷ ps) zero q e n =
     omega (arith, a, one)
 present m (p ∷ ps) (suc j) q e n = omega (arith, sum_by-cons (λ (x : InContext). is m x.node) p ps, present m ps j q e n)
 
--- it stands there twice
+-- it occurs there twice
 twice : (m : NodeId) (ps : List InContext) (i j : ℕ) (p q : InContext) → i < j → slice_get ps i ≡ Some p → slice_get ps j ≡ Some q → m ≡ p.node → m ≡ q.node → 2 ≤ sum_by (λ (x : InContext). is m x.node) ps
 twice m [] i j p q l e f n o = absurd cc
 twice m (x ∷ ps) i zero p q l e f n o = absurd (omega (arith, l))
@@ -118,7 +119,7 @@ module _ (s : Nodes) (fall : RankDecreases s)
     entry_nodes_once : OneEach entry_nodes
     entry_nodes_once i j p q l e f n = entry_nodes_apart i j p.node q.node p.node l (node_get entry_nodes i p e) (node_get entry_nodes j q f) itself (subst (Under s p.node) n itself)
 
-    -- a top is no child of what stands in a place
+    -- an entry node is no child of what occurs in a context
     top_free : (p r q : InContext) → Contains entry_nodes p → Occurs s entry_nodes r → In q (children_in_context s r) → p.node ≡ q.node → ⊥
     top_free p r q c h i n =
         let up = occurs_reached s entry_nodes r h in

@@ -1,8 +1,9 @@
--- The scopes of a body or a signature: which expressions have one, the frames along its chain, and how many scopes and
--- entries there are.
+-- The scopes of a body or a signature: which expressions have one, the frames along its chain, and how many
+-- scopes and entries exist.
 use Rattle.std.specs.FinMap as map
 use Rattle.std.specs.{List.filter, Option.option_map}
 use Rattle.std.specs.Prelude.{◌≡◌, ◌↔◌, ◌<◌, ◌⊎◌, ℕ, Bool, true, false, List, Some, IsSome, length}
+use Rattle.hir_path.specs.NodeIds.{ExprId}
 use Rattle.hir_node.specs.declared.node_id.NodeId.{NodeId}
 use Rattle.hir_forest.specs.Faults.{root_nodes}
 use Rattle.hir_validate.specs.Nodes.{Nodes}
@@ -11,7 +12,7 @@ use Rattle.hir_items.specs.Bodies.{BodyContents, BodyReaches, body_nodes, formal
 use Rattle.hir_items.specs.Signatures.{SignatureReaches, signature_nodes}
 use Rattle.hir_scope.specs.Chains.{InContext, HasChain}
 use Rattle.hir_scope.specs.Counts.{body_scope_count, body_entry_count, signature_scope_count, signature_entry_count}
-use Rattle.hir_scope.specs.{Paths.chain, Scopes.Scopes, Scopes.entry_count}
+use Rattle.hir_scope.specs.{Paths.chain, Scopes.Scopes, Scopes.ScopeId, Scopes.entry_count}
 use Rattle.hir_scope.specs.EntryNodes.{body_entry_nodes, signature_entry_nodes}
 
 -- the entry nodes of a body, in their contexts
@@ -24,20 +25,21 @@ entry_nodes_of_body b =
 abbrev pub entry_nodes_of_signature : Contents → List InContext
 entry_nodes_of_signature c = signature_entry_nodes (root_nodes c.roots)
 
--- along the chain of each expression's scope are the lexical frames around the expression
+-- the frames along the chain of each expression's scope are the lexical frames around the expression
 abbrev pub ChainsAreFrames : Nodes → List InContext → Scopes → Type 0
 ChainsAreFrames s entry_nodes scopes =
-    (expr scope : ℕ) → map.get scopes.scope_by_expr expr ≡ Some scope
+    (expr : ExprId) (scope : ScopeId) → map.get scopes.scope_by_expr expr ≡ Some scope
     → HasChain s entry_nodes expr (chain scopes.scopes (Some scope))
 
 pub record AreBodyScopes (b : BodyContents) (result : Scopes) : Type 0 where
-  pub reached : (expr : ℕ) → IsSome (map.get result.scope_by_expr expr) ↔ BodyReaches b (NodeId.Expr expr)
+  pub reached : (expr : ExprId)
+      → IsSome (map.get result.scope_by_expr expr) ↔ BodyReaches b (NodeId.Expr expr)
   pub chains : ChainsAreFrames b.store.nodes (entry_nodes_of_body b) result
   pub scopes : length result.scopes ≡ body_scope_count b.store.nodes (body_nodes b)
   pub entries : entry_count result.scopes ≡ body_entry_count b.store.nodes b.self_param (body_nodes b)
 
 pub record AreSignatureScopes (c : Contents) (result : Scopes) : Type 0 where
-  pub reached : (expr : ℕ)
+  pub reached : (expr : ExprId)
       → IsSome (map.get result.scope_by_expr expr) ↔ SignatureReaches c (NodeId.Expr expr)
   pub chains : ChainsAreFrames c.nodes (entry_nodes_of_signature c) result
   pub scopes : length result.scopes ≡ signature_scope_count c.nodes (length c.roots) (signature_nodes c)
@@ -52,11 +54,11 @@ is_expr (NodeId.TypeRef id) = false
 abbrev pub expr_count : List NodeId → ℕ
 expr_count nodes = length (filter is_expr nodes)
 
--- the most scopes that there may be, and the most entries
+-- the most scopes, and the most entries, that can exist
 abbrev pub limit : ℕ
 limit = 4294967295
 
--- the body needs more scopes or more entries than there may be
+-- the body needs more scopes or more entries than can exist
 abbrev pub BodyIsTooLarge : BodyContents → Type 0
 BodyIsTooLarge b =
     (limit < body_scope_count b.store.nodes (body_nodes b))

@@ -1,12 +1,14 @@
--- The chain of an expression: the lexical frames around it, innermost first, found by going down from entry nodes in their contexts.
-use Rattle.std.specs.Prelude.{◌≡◌, ℕ, List, ◌∷◌, ◌++◌, map, Contains}
+-- The chain of an expression: the lexical frames around it, innermost first, found from the entry nodes
+-- downward.
+use Rattle.std.specs.Prelude.{◌≡◌, List, ◌∷◌, ◌++◌, map, Contains}
+use Rattle.hir_path.specs.NodeIds.{ExprId}
 use Rattle.hir_node.specs.declared.node_id.NodeId.{NodeId}
 use Rattle.hir_validate.specs.Nodes.{Nodes}
 use Rattle.hir_scope.specs.{ScopingForms.ScopingForm, ScopingForms.form_of, Frames.Chain}
 use Rattle.hir_scope.specs.ScopingForms as form
 use Rattle.hir_scope.specs.ChildContexts.{Base, Scope, ConstScope, ChildContext, child_contexts, own_frame}
 
--- a node in its context: the frames around it, and those around the constants in it
+-- a context: a node with the frames around it, and those around the constants in it
 pub record InContext : Type 0 where
   pub node : NodeId
   pub scope : Chain
@@ -16,28 +18,36 @@ abbrev pub on_base : Base → Chain → Chain → Chain
 on_base Scope scope const_scope = scope
 on_base ConstScope scope const_scope = const_scope
 
--- a child in context, by its child context, of a node with these chains
+-- a child in its context, by these chains of its parent
 abbrev pub child_in_context : Chain → Chain → ChildContext → InContext
 child_in_context scope const_scope child_context =
     let const_frames = child_context.const_frames ++ const_scope in
-    record { node = child_context.child; scope = child_context.frames ++ on_base child_context.base scope const_frames; const_scope = const_frames }
+    record {
+      node = child_context.child;
+      scope = child_context.frames
+          ++ on_base child_context.base scope const_frames;
+      const_scope = const_frames;
+    }
 
 -- the children of a node in their contexts
 abbrev pub children_in_context : Nodes → InContext → List InContext
 children_in_context s at = map (child_in_context at.scope at.const_scope) (child_contexts s at.node)
 
--- A node *occurs* in a context: it is an entry node in its context, or a child, in its context, of a node that occurs in its own.
+-- A node *occurs* in a context: it is an entry node in that context, or the child in it of a node that occurs
+-- in its own.
 pub data Occurs (s : Nodes) (entry_nodes : List InContext) : InContext → Type 0 where
   entry_node : {at : InContext} → Contains entry_nodes at → Occurs s entry_nodes at
-  child : {parent at : InContext} → Occurs s entry_nodes parent → Contains (children_in_context s parent) at → Occurs s entry_nodes at
+  child : {parent at : InContext} → Occurs s entry_nodes parent → Contains (children_in_context s parent) at
+      → Occurs s entry_nodes at
 
--- a block is seen within its own frame
+-- the chain of an expression is that within its own frame where it is a block, else that of its context
 abbrev pub within_own : ScopingForm → Chain → Chain
 within_own (form.Block id label statements tail) scope = own_frame id label ∷ scope
 within_own x scope = scope
 
--- an expression has a chain: that of its context, with its own frame on it where it is a block
-pub record HasChain (s : Nodes) (entry_nodes : List InContext) (expr : ℕ) (chain : Chain) : Type 0 where
+-- an expression has a chain: that of a context in which it occurs, with its own frame on it where it is a
+-- block
+pub record HasChain (s : Nodes) (entry_nodes : List InContext) (expr : ExprId) (chain : Chain) : Type 0 where
   pub at : InContext
   pub occurs : Occurs s entry_nodes at
   pub is_node : at.node ≡ NodeId.Expr expr

@@ -22,7 +22,8 @@ statement_scopes (Statement.Let pat type_ref initializer else_branch) = 1
 statement_scopes (Statement.Expr expr has_semi) = 0
 statement_scopes (Statement.Item item) = item_scopes item
 
--- the scopes that a node opens: a block one, with an id one more, and those of its statements; a match one for each arm
+-- the scopes that a node opens: a block one, with an id one more, and those of its statements; a match one
+-- for each arm
 abbrev pub form_scopes : ScopingForm → ℕ
 form_scopes (form.Block id label statements tail) = 1 + count_if_some id + sum_by statement_scopes statements
 form_scopes (form.Match scrutinee arms) = length arms
@@ -34,21 +35,22 @@ form_scopes (form.Assignment target value) = 1
 form_scopes (form.PatternType type pat) = 1
 form_scopes (form.InTurn calls) = 0
 
--- the entries that a node brings: a `Bind` pattern one
+-- the entries that a node adds: a `Bind` pattern one
 abbrev pub node_entries : Nodes → NodeId → ℕ
 node_entries s (NodeId.Pat id) = length (bindings_at s id)
 node_entries s (NodeId.Expr id) = 0
 node_entries s (NodeId.TypeRef id) = 0
 
--- over the nodes that a body reaches: the root scope, and those that the nodes open
+-- the scopes of a body that reaches these nodes: the root scope, and those that the nodes open
 abbrev pub body_scope_count : Nodes → List NodeId → ℕ
 body_scope_count s reached = 1 + sum_by (λ n. form_scopes (form_of s n)) reached
 
--- that of `self`, where there is one, and those of the nodes
+-- the entries of a body that reaches these nodes: that of `self`, where it has one, and those of the nodes
 abbrev pub body_entry_count : {Self : Type 0} → Nodes → Option Self → List NodeId → ℕ
 body_entry_count s self_param reached = count_if_some self_param + sum_by (node_entries s) reached
 
--- over the nodes that a signature with this many roots reaches: the root scope, one for each root, and those that the nodes open
+-- the scopes of a signature with this many roots that reaches these nodes: the root scope, one for each root,
+-- and those that the nodes open
 abbrev pub signature_scope_count : Nodes → ℕ → List NodeId → ℕ
 signature_scope_count s roots reached = 1 + roots + sum_by (λ n. form_scopes (form_of s n)) reached
 

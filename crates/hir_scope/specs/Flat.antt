@@ -1,8 +1,10 @@
--- How scopes are kept: the entries of all in one list, of which each scope has a range, one range after the other.
+-- The lists in which scopes are kept: the entries of all in one list, of which each scope has a range, one
+-- range after the other.
 use Rattle.std.specs.FinMap as finmap
 use Rattle.std.specs.Ordering.{nat_cmp}
 use Rattle.std.specs.Prelude.{◌≡◌, ℕ, ◌-◌, ◌<◌, ◌≤◌, List, [], ◌∷◌, Some, length, map, take, drop, slice_get}
-use Rattle.hir_scope.specs.Scopes.{Scope, IsBelow}
+use Rattle.hir_path.specs.NodeIds.{ExprId}
+use Rattle.hir_scope.specs.Scopes.{Scope, ScopeId, IsBelow}
 use Rattle.hir_scope.specs.declared.{expr_scopes.ScopeData.ScopeData, scope.ScopeEntry.ScopeEntry}
 
 -- the entries in the range of a scope
@@ -22,11 +24,13 @@ FollowEachOther from [] last = from ≡ last
 FollowEachOther from (range ∷ rest) last =
     (range.start ≡ from) × (from ≤ range.end) × FollowEachOther range.end rest last
 
--- the ranges fill the list, each scope's parent, if any, comes before it, and the scope of each expression is there
+-- the ranges fill the list, each scope's parent, if any, comes before it, and the scope of each expression
+-- exists
 pub record IsFlat (entries : List ScopeEntry) (scopes : List ScopeData)
-    (scope_by_expr : finmap.FinMap nat_cmp ℕ) : Type 0 where
+    (scope_by_expr : finmap.FinMap nat_cmp ScopeId) : Type 0 where
   pub fill : FollowEachOther 0 scopes (length entries)
-  pub parents : (i : ℕ) (range : ScopeData) → slice_get scopes i ≡ Some range → IsBelow i range.parent
-  pub in_range : (expr scope : ℕ) → finmap.get scope_by_expr expr ≡ Some scope → scope < length scopes
+  pub parents : (i : ScopeId) (range : ScopeData) → slice_get scopes i ≡ Some range → IsBelow i range.parent
+  pub in_range : (expr : ExprId) (scope : ScopeId)
+      → finmap.get scope_by_expr expr ≡ Some scope → scope < length scopes
   pub few_scopes : length scopes ≤ 4294967295
   pub few_entries : length entries ≤ 4294967295

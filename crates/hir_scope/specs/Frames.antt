@@ -1,5 +1,6 @@
--- A lexical frame: what it is, and the bindings that it brings into scope, all at once.
-use Rattle.std.specs.{List.flat_map, Prelude.ℕ, Prelude.List, Prelude.[], Prelude.◌∷◌, Prelude.slice_get}
+-- A lexical frame: a kind, and the bindings that it binds, all at once.
+use Rattle.std.specs.{List.flat_map, Prelude.List, Prelude.[], Prelude.◌∷◌, Prelude.slice_get}
+use Rattle.hir_path.specs.NodeIds.{PatId, BindingId}
 use Rattle.hir_node.specs.declared.binding.Binding.{Binding}
 use Rattle.hir_validate.specs.{Nodes.Nodes, TestedParts.all_of}
 use Rattle.hir_store_core.specs.PatLists.{bindings_in}
@@ -14,15 +15,15 @@ abbrev pub Chain : Type 0
 Chain = List Frame
 
 -- the entry of a binding: its name, its hygiene, its number
-abbrev pub entry_of : ℕ → Binding → ScopeEntry
+abbrev pub entry_of : BindingId → Binding → ScopeEntry
 entry_of id binding = record { name = binding.name; hygiene = binding.hygiene; binding = id }
 
--- the same where the binding is there
-abbrev pub entry_at : Nodes → ℕ → List ScopeEntry
+-- the entry of a binding, where it exists
+abbrev pub entry_at : Nodes → BindingId → List ScopeEntry
 entry_at s id = all_of (λ binding. entry_of id binding ∷ []) (slice_get s.bindings id)
 
 -- the entries of the `Bind` patterns of a pattern, in the order of its patterns
-abbrev pub binds : Nodes → ℕ → List ScopeEntry
+abbrev pub binds : Nodes → PatId → List ScopeEntry
 binds s p = flat_map (entry_at s) (bindings_in s p)
 
 -- a frame of entries alone
@@ -30,10 +31,10 @@ abbrev pub plain : List ScopeEntry → Frame
 plain entries = record { kind = ScopeKind.None; entries = entries }
 
 -- the frame of this kind of all that these patterns bind
-abbrev pub frame_with : Nodes → ScopeKind → List ℕ → Frame
+abbrev pub frame_with : Nodes → ScopeKind → List PatId → Frame
 frame_with s kind ps = record { kind = kind; entries = flat_map (binds s) ps }
 
-abbrev pub frame : Nodes → List ℕ → Frame
+abbrev pub frame : Nodes → List PatId → Frame
 frame s ps = frame_with s ScopeKind.None ps
 
 -- a frame that is only of a kind

@@ -1,4 +1,5 @@
--- The scopes of what the tables have of a definition: they are missing only where there is no entry.
+-- The scopes of what the tables have of a definition: they are missing only where the tables have no entry of
+-- it.
 use Rattle.std.specs.Option.{option_map}
 use Rattle.std.specs.Prelude.{◌≡◌, Option, None, Some, Result, Err, IfOk}
 use Rattle.hir_base.specs.declared.defs.DefWithBodyId.{DefWithBodyId}
@@ -9,7 +10,8 @@ use Rattle.hir_defs.specs.Lookups.{Tables, body_entry, owner_entry}
 use Rattle.hir_scope.specs.BodyScopes.{AreBodyScopes, BodyIsTooLarge, AreSignatureScopes, SignatureIsTooLarge}
 use Rattle.hir_scope.specs.{Scopes.Scopes, declared.fault.ScopesFault.ScopesFault}
 
--- what is answered for the scopes of what was looked up, of which these are scopes, and which may be too large
+-- what is returned for the scopes of what was looked up, of which these are scopes, and which may be too
+-- large
 abbrev pub Answers : {X : Type 0} → (X → Scopes → Type 0) → (X → Type 0) → Option X
     → Result Scopes ScopesFault → Type 0
 Answers are_scopes is_too_large None result = result ≡ Err ScopesFault.Missing
@@ -17,7 +19,7 @@ Answers are_scopes is_too_large (Some x) result =
     IfOk result (are_scopes x) × (result ≡ Err ScopesFault.Full → is_too_large x)
     × (result ≡ Err ScopesFault.Missing → ⊥)
 
--- for the scopes of a body, and of the store of a signature or of a variant's fields
+-- what is returned for the scopes of a body, and of the store of a signature or of a variant's fields
 abbrev pub AnswersBody : Option BodyContents → Result Scopes ScopesFault → Type 0
 AnswersBody found result = Answers AreBodyScopes BodyIsTooLarge found result
 
@@ -31,7 +33,7 @@ body_in t def = option_map (λ e. e.0) (body_entry t def)
 abbrev pub store_in : Tables → ExpressionStoreOwnerId → Option Contents
 store_in t id = option_map (λ e. e.0) (owner_entry t id)
 
--- for the scopes of an owner: those of the body where it owns one
+-- what is returned for the scopes of an owner: those of the body where it owns one
 abbrev pub AnswersOwner : Tables → ExpressionStoreOwnerId → Result Scopes ScopesFault → Type 0
 AnswersOwner t (ExpressionStoreOwnerId.Signature def) result =
     AnswersStore (store_in t (ExpressionStoreOwnerId.Signature def)) result

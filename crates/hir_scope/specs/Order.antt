@@ -1,6 +1,8 @@
--- The order in which scopes are made: a node's child calls, where a type and what is matched come before the pattern, a guard before the
--- body of its arm, the types of a closure before its arguments and these before its body.
-use Rattle.std.specs.{List.flat_map, Prelude.ℕ, Prelude.List, Prelude.[], Prelude.◌++◌, Prelude.Option}
+-- The order in which scopes are made: a node's child calls, where a type and what is matched come before the
+-- pattern, a guard before the body of its arm, the types of a closure before its arguments and these before
+-- its body.
+use Rattle.std.specs.{List.flat_map, Prelude.List, Prelude.[], Prelude.◌++◌, Prelude.Option}
+use Rattle.hir_path.specs.NodeIds.{ExprId, PatId, TypeRefId}
 use Rattle.hir_node.specs.ChildCalls.{Call, e, p, t, opt}
 use Rattle.hir_node.specs.declared.expr_types.{MatchArm.MatchArm, Statement.Statement}
 use Rattle.hir_scope.specs.ScopingForms.{ScopingForm}
@@ -15,7 +17,7 @@ met_in_statement (Statement.Item item) = []
 abbrev pub met_in_arm : MatchArm → List Call
 met_in_arm arm = p arm.pat ++ opt e arm.guard ++ e arm.expr
 
-abbrev pub met_in_closure : List (Option ℕ) → Option ℕ → List ℕ → ℕ → List Call
+abbrev pub met_in_closure : List (Option TypeRefId) → Option TypeRefId → List PatId → ExprId → List Call
 met_in_closure arg_types ret_type args body =
     (flat_map (opt t) arg_types ++ opt t ret_type) ++ (flat_map p args ++ e body)
 

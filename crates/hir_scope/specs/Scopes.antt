@@ -1,18 +1,24 @@
--- Scopes as a caller sees them: a list of scopes, each with its parent, and the scope of each expression.
+-- The model of scopes: a list of scopes, each with its parent, and the scope of each expression.
 use Rattle.std.specs.FinMap as map
 use Rattle.std.specs.{List.sum_by, Ordering.nat_cmp}
 use Rattle.std.specs.Prelude.{◌≡◌, ℕ, ◌<◌, List, Option, Some, None, length, slice_get, ⊤}
+use Rattle.hir_base.specs.Ids.{BlockId, MacroDefId}
+use Rattle.hir_path.specs.NodeIds.{LabelId}
 use Rattle.hir_scope.specs.Frames.{Frame}
 use Rattle.hir_scope.specs.declared.scope.{ScopeEntry.ScopeEntry, ScopeKind.ScopeKind}
 
+-- the id of a scope: its index in the list of scopes
+abbrev pub ScopeId : Type 0
+ScopeId = ℕ
+
 pub record Scope : Type 0 where
-  pub parent : Option ℕ
+  pub parent : Option ScopeId
   pub kind : ScopeKind
   pub entries : List ScopeEntry
 
 pub record Scopes : Type 0 where
   pub scopes : List Scope
-  pub scope_by_expr : map.FinMap nat_cmp ℕ
+  pub scope_by_expr : map.FinMap nat_cmp ScopeId
 
 -- the frame of a scope
 abbrev pub frame_of : Scope → Frame
@@ -22,31 +28,31 @@ abbrev pub entry_count : List Scope → ℕ
 entry_count scopes = sum_by (λ s. length s.entries) scopes
 
 -- the scope, if any, is below a number
-abbrev pub IsBelow : ℕ → Option ℕ → Type 0
+abbrev pub IsBelow : ℕ → Option ScopeId → Type 0
 IsBelow n None = ⊤
 IsBelow n (Some scope) = scope < n
 
--- the scope, if any, is there
-abbrev pub ScopeIsInRange : List Scope → Option ℕ → Type 0
+-- the scope, if any, exists
+abbrev pub ScopeIsInRange : List Scope → Option ScopeId → Type 0
 ScopeIsInRange scopes scope = IsBelow (length scopes) scope
 
 -- each scope's parent, if any, comes before it
 abbrev pub ParentsStandEarlier : List Scope → Type 0
-ParentsStandEarlier scopes = (i : ℕ) (s : Scope) → slice_get scopes i ≡ Some s → IsBelow i s.parent
+ParentsStandEarlier scopes = (i : ScopeId) (s : Scope) → slice_get scopes i ≡ Some s → IsBelow i s.parent
 
-abbrev pub block_of : ScopeKind → Option ℕ
+abbrev pub block_of : ScopeKind → Option BlockId
 block_of (ScopeKind.Block id label) = Some id
 block_of ScopeKind.None = None
 block_of (ScopeKind.Label label) = None
 block_of (ScopeKind.MacroDef id) = None
 
-abbrev pub label_of : ScopeKind → Option ℕ
+abbrev pub label_of : ScopeKind → Option LabelId
 label_of (ScopeKind.Block id label) = label
 label_of (ScopeKind.Label label) = Some label
 label_of ScopeKind.None = None
 label_of (ScopeKind.MacroDef id) = None
 
-abbrev pub macro_def_of : ScopeKind → Option ℕ
+abbrev pub macro_def_of : ScopeKind → Option MacroDefId
 macro_def_of (ScopeKind.MacroDef id) = Some id
 macro_def_of ScopeKind.None = None
 macro_def_of (ScopeKind.Block id label) = None

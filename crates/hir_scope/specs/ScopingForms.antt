@@ -1,5 +1,8 @@
--- The scoping form of a node: which nodes place their children by a rule of their own. Any other node meets its children in turn.
-use Rattle.std.specs.Prelude.{ℕ, List, [], Option, Some, None, slice_get}
+-- The scoping form of a node: which nodes give their children contexts by a rule of their own. Any other node
+-- visits its children in turn.
+use Rattle.std.specs.Prelude.{List, [], Option, Some, None, slice_get}
+use Rattle.hir_base.specs.Ids.{BlockId}
+use Rattle.hir_path.specs.NodeIds.{ExprId, PatId, LabelId, TypeRefId}
 use Rattle.hir_node.specs.ChildCalls.{Call, expr_calls, pat_calls, type_calls}
 use Rattle.hir_node.specs.declared.expr.Expr.{Expr}
 use Rattle.hir_node.specs.declared.expr_types.{MatchArm.MatchArm, Statement.Statement}
@@ -8,21 +11,21 @@ use Rattle.hir_validate.specs.Nodes.{Nodes}
 
 pub data ScopingForm : Type 0 where
   -- the condition, then, else
-  If : ℕ → ℕ → Option ℕ → ScopingForm
+  If : ExprId → ExprId → Option ExprId → ScopingForm
   -- `let` in a condition: the pattern, the expression
-  Let : ℕ → ℕ → ScopingForm
+  Let : PatId → ExprId → ScopingForm
   -- the block's id, its label, its statements, its tail
-  Block : Option ℕ → Option ℕ → List Statement → Option ℕ → ScopingForm
+  Block : Option BlockId → Option LabelId → List Statement → Option ExprId → ScopingForm
   -- the label, the body
-  Loop : Option ℕ → ℕ → ScopingForm
+  Loop : Option LabelId → ExprId → ScopingForm
   -- the types of the arguments, the return type, the arguments, the body
-  Closure : List (Option ℕ) → Option ℕ → List ℕ → ℕ → ScopingForm
+  Closure : List (Option TypeRefId) → Option TypeRefId → List PatId → ExprId → ScopingForm
   -- the scrutinee, the arms
-  Match : ℕ → List MatchArm → ScopingForm
+  Match : ExprId → List MatchArm → ScopingForm
   -- the target, the value
-  Assignment : ℕ → ℕ → ScopingForm
+  Assignment : PatId → ExprId → ScopingForm
   -- a type with a pattern: the type, the pattern
-  PatternType : ℕ → ℕ → ScopingForm
+  PatternType : TypeRefId → PatId → ScopingForm
   -- any other node, by its child calls
   InTurn : List Call → ScopingForm
 
@@ -44,7 +47,7 @@ abbrev pub type_form : TypeRef → ScopingForm
 type_form (TypeRef.PatternType id pat) = PatternType id pat
 type_form x = InTurn (type_calls x)
 
--- that of what is there
+-- the form of a node, where it exists
 abbrev pub form_at : {X : Type 0} → (X → ScopingForm) → Option X → ScopingForm
 form_at form None = InTurn []
 form_at form (Some x) = form x

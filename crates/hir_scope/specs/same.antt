@@ -1,2 +1,2 @@
--- Proofs alone, that `==` decides whether two values are the same: they are here because code cites them.
+-- Only proofs that `==` decides whether two values are the same: code cites them.
 pub mod SameScopes

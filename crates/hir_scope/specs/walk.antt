@@ -1,4 +1,4 @@
--- The state of the walk that makes scopes, and how it goes on: only contracts within this crate cite what is here.
+-- The state of the walk that makes scopes, and its steps: only contracts within this crate cite what is here.
 pub mod ContextsUnder
 pub mod Pending
 pub mod WalkState

@@ -15,17 +15,17 @@ use crate::scope::{ScopeEntry, ScopeId, ScopeKind};
 use crate::tasks::{CurrentScopes, Task, Tasks};
 use crate::walk::Walk;
 use hir_base::{MOST_ITEMS, Steps};
-use hir_store_core::ExpressionStore;
-use hir_store_core::laws::{
-    bindings_in_unfold, rank_decreases, nodes_are_sound, nodes_under_unfold, roots_stand_apart,
-};
 use hir_items::body_laws::entry_nodes_are_in_range;
 use hir_items::{Body, Param};
 use hir_node::{BindingId, PatId};
 use hir_stack::Stack;
+use hir_store_core::ExpressionStore;
+use hir_store_core::laws::{
+    bindings_in_unfold, nodes_are_sound, nodes_under_unfold, rank_decreases, roots_stand_apart,
+};
 use std::alloc::Global;
 
-/// Tells a proof what the laws say of the store, and does nothing.
+/// Tells a proof what the theorems say of the store, and does nothing.
 fn is_sound_store(store: &ExpressionStore)
     ensures { IsSoundStore store.now }
 {
@@ -37,7 +37,7 @@ fn is_sound_store(store: &ExpressionStore)
     roots_stand_apart();
 }
 
-/// Tells a proof what the laws say of the body, and does nothing.
+/// Tells a proof what the theorems say of the body, and does nothing.
 fn is_sound_body(body: &Body)
     ensures { IsSoundBody body.now }
 {
@@ -50,7 +50,7 @@ fn is_sound_body(body: &Body)
     let _ = body.self_param();
 }
 
-/// Appends the entry of `self`, where there is one.
+/// Appends the entry of `self`, where the body has one.
 fn add_self(
     entries: &mut Vec<ScopeEntry>,
     store: &ExpressionStore,
@@ -98,7 +98,8 @@ fn push_formals(tasks: &mut Tasks, params: &[Param<PatId>]) -> Result<(), Scopes
 }
 
 impl Walk {
-    /// A walk without scopes, with nothing to do. It has room for the scopes of the store's expressions, and for an entry of each binding.
+    /// Returns a walk without scopes and without tasks. It has room for the scopes of the store's
+    /// expressions, and for an entry of each binding.
     fn new(alloc: Global, store: &ExpressionStore) -> Result<Walk, ScopesFault>
         ensures scopes { IfOk result (λ walk. walk.scopes ≡ for_none []) }
         ensures current { IfOk result (λ walk. walk.current ≡ at_first) }
@@ -138,7 +139,7 @@ impl Walk {
         Ok(())
     }
 
-    /// The walk over a body, before its first step.
+    /// Returns the walk over a body, before its first step.
     fn over_body(alloc: Global, body: &Body) -> Result<Walk, ScopesFault>
         ensures ok { IfOk result (λ walk. state walk ≡ body_begins body.now) }
         ensures full { result ≡ Err ScopesFault.Full → MOST_ITEMS < length (root_entries body.now) }
@@ -151,7 +152,8 @@ impl Walk {
         Ok(walk)
     }
 
-    /// The walk over a signature, before its first step: a scope for each root in the root scope, which is empty.
+    /// Returns the walk over a signature, before its first step: it has a scope for each root in the root
+    /// scope, which is empty.
     fn over_roots(alloc: Global, store: &ExpressionStore) -> Result<Walk, ScopesFault>
         ensures ok { IfOk result (λ walk. state walk ≡ signature_begins store.now) }
         ensures full { result ≡ Err ScopesFault.Full → MOST_ITEMS < 1 + length store.now.roots }
@@ -173,10 +175,11 @@ impl Walk {
 }
 
 impl ExprScopes {
-    /// The scopes of a body: each expression that the body reaches, from its formals and its last root, gets its scope, and no other.
+    /// Returns the scopes of a body: each expression that the body reaches, from its formals and its last
+    /// root, gets its scope, and no other.
     ///
-    /// Answers `Full` only where the body needs more than 2^32 - 1 scopes or entries, and `Memory` where room was refused. It takes
-    /// time in the number of nodes and entries, and doesn't recurse.
+    /// Returns `Full` only where the body needs more than 2^32 - 1 scopes or entries, and `Memory` where an
+    /// allocation fails. It takes time in the number of nodes and entries, and doesn't recurse.
     pub fn new_body(alloc: Global, body: &Body) -> Result<ExprScopes, ScopesFault>
         ensures scopes { IfOk result (AreBodyScopes body.now) }
         ensures full { result ≡ Err ScopesFault.Full → BodyIsTooLarge body.now }
@@ -186,7 +189,8 @@ impl ExprScopes {
         ExprScopes::new_body_counted(alloc, body, &mut steps)
     }
 
-    /// The same, counting a step for each expression that gets its scope: each that the body reaches gets it once.
+    /// Returns the scopes of a body as `new_body` does, and counts a step for each expression that gets its
+    /// scope: each that the body reaches gets it once.
     pub fn new_body_counted(
         alloc: Global,
         body: &Body,
@@ -205,10 +209,11 @@ impl ExprScopes {
         Ok(walk.scopes)
     }
 
-    /// The scopes of a signature: each expression under a root of its store gets its scope, and no other.
+    /// Returns the scopes of a signature: each expression that a root of its store reaches gets its scope,
+    /// and no other.
     ///
-    /// Answers `Full` only where more than 2^32 - 1 scopes or entries are needed, and `Memory` where room was refused. It takes
-    /// time in the number of nodes and entries, and doesn't recurse.
+    /// Returns `Full` only where more than 2^32 - 1 scopes or entries are needed, and `Memory` where an
+    /// allocation fails. It takes time in the number of nodes and entries, and doesn't recurse.
     pub fn new_store(alloc: Global, store: &ExpressionStore) -> Result<ExprScopes, ScopesFault>
         ensures scopes { IfOk result (AreSignatureScopes store.now) }
         ensures full { result ≡ Err ScopesFault.Full → SignatureIsTooLarge store.now }

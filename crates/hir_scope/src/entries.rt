@@ -7,8 +7,8 @@ ghost use Rattle.hir_scope.specs.Frames.{entry_at, binds};
 use crate::fault::ScopesFault;
 use crate::scope::ScopeEntry;
 use hir_base::TryClone;
-use hir_store_core::ExpressionStore;
 use hir_node::{BindingId, PatId};
+use hir_store_core::ExpressionStore;
 
 /// Appends the entry of a binding, where the store has it.
 pub(crate) fn add_entry(

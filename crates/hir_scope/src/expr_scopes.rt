@@ -12,7 +12,7 @@ use hir_node::{ExprId, ExprKind, LabelId};
 use std::alloc::Global;
 use std::marker::Model;
 
-/// A scope: its parent, its kind, and the range of its entries in the list of all.
+/// A scope: its parent, its kind, and the range of its entries in the list of all entries.
 #[derive(Clone, Copy, PartialEq, Eq)]
 pub struct ScopeData {
     parent: Option<ScopeId>,
@@ -57,7 +57,7 @@ impl Model for ExprScopes {
     ghost invariant = { λ s. IsFlat s.entries.items s.scopes.items s.scope_by_expr };
 }
 
-/// The most scopes that there may be, and the most entries in all.
+/// The most scopes, and the most entries in all, that can exist.
 const LIMIT: usize = 4_294_967_295;
 
 impl ExprScopes {
@@ -65,9 +65,10 @@ impl ExprScopes {
     ghost use Rattle.hir_scope.specs.Paths.{path};
     ghost use Rattle.std.specs.List.{All, range_with_len};
 
-    /// No scopes yet, with room for the scopes of this number of expressions, and for this number of entries and as many scopes.
+    /// Returns no scopes, with room for the scopes of this number of expressions, for this number of entries,
+    /// and for as many scopes.
     ///
-    /// Answers `Memory` where that room was refused.
+    /// Returns `Memory` where an allocation fails.
     pub(crate) fn with_room(
         alloc: Global,
         exprs: usize,
@@ -77,14 +78,15 @@ impl ExprScopes {
         ensures err { OnErr result (result ≡ Err ScopesFault.Memory) }
     {
         Ok(ExprScopes {
-            // Scopes aren't counted beforehand. Code has about one for each binding; where it has more, their list grows.
+            // Scopes aren't counted beforehand. Code has about one for each binding; where it has more, their
+            // list grows.
             scopes: Vec::with_capacity(alloc, entries)?,
             entries: Vec::with_capacity(alloc, entries)?,
             scope_by_expr: ArenaMap::with_capacity(alloc, exprs)?,
         })
     }
 
-    /// The number of scopes.
+    /// Returns the number of scopes.
     pub fn scope_count(&self) -> usize
         ensures count { result ≡ length self.now.scopes }
         ensures most { result ≤ MOST_ITEMS }
@@ -92,7 +94,7 @@ impl ExprScopes {
         self.scopes.len()
     }
 
-    /// The number of entries of all scopes.
+    /// Returns the number of entries of all scopes.
     pub fn entry_count(&self) -> usize
         ensures count { result ≡ entry_count self.now.scopes }
         ensures most { result ≤ MOST_ITEMS }
@@ -100,14 +102,14 @@ impl ExprScopes {
         self.entries.len()
     }
 
-    /// Whether there is a scope with this id.
+    /// Returns whether a scope with this id exists.
     pub fn has_scope(&self, scope: ScopeId) -> bool
         ensures { IsTrue result ↔ scope < length self.now.scopes }
     {
         (scope.into_raw() as usize) < self.scopes.len()
     }
 
-    /// The entries that a scope brings in, all at once. The scope has to be there: `has_scope` tests it.
+    /// Returns the entries that a scope binds, all at once. The scope has to exist: `has_scope` tests it.
     pub fn entries(&self, scope: ScopeId) -> &[ScopeEntry]
         requires { scope < length self.now.scopes }
         ensures { option_map (λ s. s.entries) (slice_get self.now.scopes scope) ≡ Some result.now }
@@ -116,7 +118,8 @@ impl ExprScopes {
         &self.entries[data.start as usize..data.end as usize]
     }
 
-    /// The block whose scope this is, where the block has an id. The scope has to be there: `has_scope` tests it.
+    /// Returns the block whose scope this is, where the block has an id. The scope has to exist: `has_scope`
+    /// tests it.
     pub fn block(&self, scope: ScopeId) -> Option<BlockId>
         requires { scope < length self.now.scopes }
         ensures { option_map (λ s. block_of s.kind) (slice_get self.now.scopes scope) ≡ Some result }
@@ -129,8 +132,8 @@ impl ExprScopes {
         }
     }
 
-    /// The macro that is known from this scope on, where it is the scope of a macro's definition. The scope has to be there: `has_scope`
-    /// tests it.
+    /// Returns the macro that is known from this scope on, where it is the scope of a macro's definition. The
+    /// scope has to exist: `has_scope` tests it.
     pub fn macro_def(&self, scope: ScopeId) -> Option<MacroDefId>
         requires { scope < length self.now.scopes }
         ensures { option_map (λ s. macro_def_of s.kind) (slice_get self.now.scopes scope) ≡ Some result }
@@ -143,7 +146,8 @@ impl ExprScopes {
         }
     }
 
-    /// The label of the block or loop whose scope this is, where it has one. The scope has to be there: `has_scope` tests it.
+    /// Returns the label of the block or loop whose scope this is, where it has one. The scope has to exist:
+    /// `has_scope` tests it.
     pub fn label(&self, scope: ScopeId) -> Option<LabelId>
         requires { scope < length self.now.scopes }
         ensures { option_map (λ s. label_of s.kind) (slice_get self.now.scopes scope) ≡ Some result }
@@ -156,7 +160,8 @@ impl ExprScopes {
         }
     }
 
-    /// The scope around a scope, where it has one. It was made before it. The scope has to be there: `has_scope` tests it.
+    /// Returns the scope around a scope, where it has one, which was made before it. The scope has to exist:
+    /// `has_scope` tests it.
     pub fn parent(&self, scope: ScopeId) -> Option<ScopeId>
         requires { scope < length self.now.scopes }
         ensures is { option_map (λ s. s.parent) (slice_get self.now.scopes scope) ≡ Some result }
@@ -167,8 +172,8 @@ impl ExprScopes {
         self.scopes[scope.into_raw() as usize].parent
     }
 
-    /// Tells a proof that each scope's parent was made before it, and that the scope of each expression is there. It does
-    /// nothing.
+    /// Tells a proof that each scope's parent was made before it, and that the scope of each expression
+    /// exists. It does nothing.
     pub fn parents_stand_earlier(&self)
         ensures parents { ParentsStandEarlier self.now.scopes }
         ensures in_range { (expr scope : ℕ) → map.get self.now.scope_by_expr expr ≡ Some scope
@@ -177,7 +182,7 @@ impl ExprScopes {
         let _ = &self.scopes;
     }
 
-    /// The scope of an expression, where it has one.
+    /// Returns the scope of an expression, where it has one.
     pub fn scope_for(&self, expr: ExprId) -> Option<ScopeId>
         ensures scope { result ≡ map.get self.now.scope_by_expr expr }
         ensures in_range { ScopeIsInRange self.now.scopes result }
@@ -188,7 +193,7 @@ impl ExprScopes {
         }
     }
 
-    /// The scope of each expression that has one.
+    /// Returns the scope of each expression that has one.
     pub fn scope_by_expr(&self) -> &ArenaMap<ExprKind, ScopeId>
         ensures { result.now ≡ self.now.scope_by_expr }
     {
@@ -197,8 +202,8 @@ impl ExprScopes {
 
     /// Adds a scope of this kind in the scope `parent`, with these entries, which it takes.
     ///
-    /// Answers `Full` exactly where there would be more than `MOST_ITEMS` scopes or entries, and `Memory` where room was refused. Either
-    /// leaves the scopes and the entries as they were.
+    /// Returns `Full` exactly where there would be more than `MOST_ITEMS` scopes or entries, and `Memory`
+    /// where an allocation fails. Either leaves the scopes and the entries as they were.
     pub(crate) fn new_scope(
         &mut self,
         parent: Option<ScopeId>,
@@ -240,9 +245,9 @@ impl ExprScopes {
         Ok(ScopeId::from_raw(count as u32))
     }
 
-    /// Gives an expression its scope, which has to be there.
+    /// Sets the scope of an expression. The scope has to exist.
     ///
-    /// Answers `Memory` where room for it was refused: nothing has changed then.
+    /// Returns `Memory` where an allocation fails: nothing has changed then.
     pub(crate) fn set_scope(&mut self, expr: ExprId, scope: ScopeId) -> Result<(), ScopesFault>
         requires { scope < length self.old.scopes }
         ensures ok { OnOk result (self.new ≡ record {
@@ -258,7 +263,7 @@ impl ExprScopes {
         }
     }
 
-    /// The scopes, in the order in which they were made.
+    /// Returns the scopes, in the order in which they were made.
     pub fn scopes(&self) -> ScopeIds
         ensures all { result ≡ range_with_len 0 (length self.now.scopes) }
         ensures in_range { All (λ scope. scope < length self.now.scopes) result }
@@ -269,7 +274,8 @@ impl ExprScopes {
         }
     }
 
-    /// A scope and those around it, innermost first; no scope for `None`. The scope has to be there: `has_scope` tests it.
+    /// Returns a scope and those around it, innermost first; no scope for `None`. The scope has to exist:
+    /// `has_scope` tests it.
     pub fn scope_chain(&self, scope: Option<ScopeId>) -> ScopeChain<'_>
         requires { ScopeIsInRange self.now.scopes scope }
         ensures is { result ≡ path self.now.scopes scope }
@@ -284,7 +290,8 @@ impl ExprScopes {
     }
 }
 
-/// Scopes are equal where the scope of each expression and the list of scopes are: their kinds, entries and parents.
+/// Scopes are equal where the scope of each expression and the list of scopes are: their kinds, entries and
+/// parents.
 impl PartialEq for ExprScopes {
     ghost use Rattle.hir_scope.specs.same.SameScopes.{same_scopes, scopes_per};
 

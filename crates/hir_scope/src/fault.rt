@@ -1,4 +1,4 @@
-//! Why scopes were not made.
+//! The faults with which scopes fail.
 ghost use Rattle.std.specs.Prelude.{◌≡◌};
 ghost use Rattle.hir_base.specs.Exact.{exact};
 
@@ -15,7 +15,7 @@ pub enum ScopesFault {
     /// More than 2^32 - 1 scopes, or more than 2^32 - 1 entries, are needed.
     #[error("Full")]
     Full,
-    /// Memory was refused.
+    /// An allocation failed.
     #[error("Memory")]
     Memory,
 }

@@ -1,7 +1,9 @@
 //! Lexical scopes: which bindings each expression of a body or signature sees.
-//! `ExprScopes` holds the scopes and answers questions on them; `specs/` defines what a scope's chain has to be.
+//! `ExprScopes` holds the scopes and finds names in them; `specs/` defines what the chain of a scope has to
+//! be.
 #![tactic(auto)]
 
+mod constructors;
 mod entries;
 mod expr_scopes;
 mod fault;
@@ -9,7 +11,6 @@ pub mod laws;
 mod lookups;
 pub mod macro_laws;
 mod macros;
-mod constructors;
 mod open_scopes;
 mod order;
 mod resolve;

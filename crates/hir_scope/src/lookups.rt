@@ -7,11 +7,11 @@ use crate::expr_scopes::ExprScopes;
 use crate::fault::ScopesFault;
 use hir_base::{DefWithBodyId, ExpressionStoreOwnerId, GenericDefId, VariantId};
 use hir_defs::{StoreOf, Tables};
-use hir_store_core::ExpressionStore;
 use hir_items::Body;
+use hir_store_core::ExpressionStore;
 use std::alloc::Global;
 
-/// The scopes of an owner's store, made as for a signature.
+/// Returns the scopes of an owner's store, made as for a signature.
 fn of_store(
     alloc: Global,
     tables: &Tables,
@@ -26,9 +26,9 @@ fn of_store(
 }
 
 impl ExprScopes {
-    /// The scopes of the body of a definition.
+    /// Returns the scopes of the body of a definition.
     ///
-    /// Answers `Missing` exactly where the tables have no body of it, and otherwise what `new_body` answers.
+    /// Returns `Missing` exactly where the tables have no body of it, and otherwise what `new_body` returns.
     pub fn body_expr_scopes(
         alloc: Global,
         tables: &Tables,
@@ -42,9 +42,10 @@ impl ExprScopes {
         }
     }
 
-    /// The scopes of the signature of a definition.
+    /// Returns the scopes of the signature of a definition.
     ///
-    /// Answers `Missing` exactly where the tables have no signature of it, and otherwise what `new_store` answers.
+    /// Returns `Missing` exactly where the tables have no signature of it, and otherwise what `new_store`
+    /// returns.
     pub fn sig_expr_scopes(
         alloc: Global,
         tables: &Tables,
@@ -55,9 +56,10 @@ impl ExprScopes {
         of_store(alloc, tables, ExpressionStoreOwnerId::Signature(def))
     }
 
-    /// The scopes of the fields of a variant.
+    /// Returns the scopes of the fields of a variant.
     ///
-    /// Answers `Missing` exactly where the tables have no fields of it, and otherwise what `new_store` answers.
+    /// Returns `Missing` exactly where the tables have no fields of it, and otherwise what `new_store`
+    /// returns.
     pub fn variant_scopes(
         alloc: Global,
         tables: &Tables,
@@ -72,10 +74,10 @@ impl ExprScopes {
         )
     }
 
-    /// The scopes of a body, of a signature or of the fields of a variant, by who owns their store.
+    /// Returns the scopes of a body, of a signature or of the fields of a variant, by who owns their store.
     ///
-    /// Answers `Missing` exactly where the tables have no entry of the owner, and otherwise what `new_body` answers for a body, and
-    /// `new_store` for a signature or fields.
+    /// Returns `Missing` exactly where the tables have no entry of the owner, and otherwise what `new_body`
+    /// returns for a body, and `new_store` for a signature or fields.
     pub fn of<O: Into<ExpressionStoreOwnerId>>(
         alloc: Global,
         tables: &Tables,

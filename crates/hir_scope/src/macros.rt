@@ -1,4 +1,4 @@
-//! What a name means in a scope, where a macro may name what is bound around its definition.
+//! Resolution of a name in a scope, where a macro may name what is bound around its definition.
 ghost use Rattle.std.specs.Prelude.{◌≡◌, ◌<◌, length, Some};
 ghost use Rattle.std.specs.Option.{option_copied};
 ghost use Rattle.hir_base.specs.Exact.{exact};
@@ -10,12 +10,13 @@ use crate::scope::{ScopeEntry, ScopeId};
 use hir_base::{ExactEq, HygieneId, MacroDefId, TryClone};
 use std::collections::HashMap;
 
-/// Where the names of one hygiene come from: an expansion of a macro, in whose definition they have the hygiene `parent`.
+/// Where the names of one hygiene come from: an expansion of a macro, in whose definition they have the
+/// hygiene `parent`.
 #[derive(Clone, Copy, PartialEq, Eq)]
 pub struct Expansion {
     /// The macro.
     pub macro_def: MacroDefId,
-    /// The hygiene that the names have in the definition of the macro: `ROOT` where it stands in source text.
+    /// The hygiene that the names have in the definition of the macro: `ROOT` where it is in source text.
     pub parent: HygieneId,
 }
 
@@ -27,7 +28,8 @@ impl TryClone for Expansion {
     ghost clone_is_same = { Prim.search exact };
 }
 
-/// The expansion that names of this hygiene come from, where it is known. Source text comes from none.
+/// Returns the expansion that names of this hygiene come from, where it is known. Source text comes from
+/// none.
 fn expansion_of(
     expansions: &HashMap<HygieneId, Expansion>,
     hygiene: HygieneId,
@@ -40,7 +42,7 @@ fn expansion_of(
     expansions.get(&hygiene)
 }
 
-/// The hygiene that a name has outward of a scope, which may be that of a macro's definition.
+/// Returns the hygiene that a name has outward of a scope, which may be that of a macro's definition.
 fn outward(
     macro_def: Option<MacroDefId>,
     hygiene: HygieneId,
@@ -61,11 +63,13 @@ impl ExprScopes {
     ghost use Rattle.hir_scope.specs.Paths.{chain};
     ghost use Rattle.hir_scope.specs.Macros.{resolve_through};
 
-    /// The first entry with this name and hygiene, scope by scope from this one outward, where a macro may name what is bound around its
-    /// definition: at the definition of the macro that the hygiene's expansion comes from, the name goes on outward with the hygiene of
-    /// the code around that definition. The scope has to be there: `has_scope` tests it.
+    /// Returns the first entry with this name and hygiene, scope by scope from this one outward, where a
+    /// macro may name what is bound around its definition: at the definition of the macro that the hygiene's
+    /// expansion comes from, the search goes on outward with the hygiene of the code around that definition.
+    /// The scope has to exist: `has_scope` tests it.
     ///
-    /// `expansions` says of a hygiene which expansion it comes from. Where it says nothing, as of source text, the hygiene stays.
+    /// `expansions` gives for a hygiene the expansion that it comes from. A hygiene that is no key of it, as
+    /// that of source text, stays.
     pub fn resolve_name_through_macros(
         &self,
         scope: ScopeId,

@@ -14,9 +14,9 @@ use crate::fault::ScopesFault;
 use crate::scope::ScopeKind;
 use crate::walk::Walk;
 use hir_base::BlockId;
+use hir_node::{Expr, ExprId, LabelId, PatId};
 use hir_store_core::ExpressionStore;
 use hir_store_core::laws::rank_decreases;
-use hir_node::{Expr, ExprId, LabelId, PatId};
 
 fn loop_kind(label: Option<LabelId>) -> ScopeKind
     ensures { result ≡ loop_kind label }
@@ -69,7 +69,9 @@ impl Walk {
     {
         self.open(store, scope, &[])?;
         let parent = Some(self.current.const_scope);
-        self.current.const_scope = self.scopes.new_scope(parent, const_scope, &mut self.entries)?;
+        self.current.const_scope = self
+            .scopes
+            .new_scope(parent, const_scope, &mut self.entries)?;
         Ok(())
     }
 

@@ -76,8 +76,9 @@ impl Visit for MatchArm {
     }
 }
 
-/// Calls the visitor with each child of an expression, as `Expr::visit_children` does, in the order in which scopes are made: where a
-/// value is matched with a pattern it comes before the pattern, an arm's guard before its body, a closure's types before its arguments.
+/// Calls the visitor with each child of an expression, as `Expr::visit_children` does, in the order in which
+/// scopes are made: where a value is matched with a pattern it comes before the pattern, an arm's guard
+/// before its body, a closure's types before its arguments.
 // One arm a form: split, the function would name variants twice.
 pub fn visit_in_scope_order<V: StoreVisitor>(expr: &Expr, visitor: &mut V)
     requires { MayRun V.may V.step visitor.old (met_in_form (expr_form expr.now)) }

@@ -1,4 +1,4 @@
-//! What a name means in a scope, and which binding a path means.
+//! Resolution of a name in a scope, and of a path to a binding.
 ghost use Rattle.std.specs.Prelude.{◌≡◌, ◌<◌, length, option_map, IfSome, None, Some};
 ghost use Rattle.std.specs.Option.{option_copied};
 ghost use Rattle.hir_scope.specs.Paths.{chain};
@@ -8,10 +8,11 @@ ghost use Rattle.hir_scope.specs.PathResolution.{local_name, binding_at, resolve
 use crate::expr_scopes::ExprScopes;
 use crate::scope::{ScopeEntry, ScopeId};
 use hir_base::{HygieneId, Name, PathKind};
-use hir_store_core::ExpressionStore;
 use hir_node::{BindingId, Expr, ExprId, Pat, PatId, Path};
+use hir_store_core::ExpressionStore;
 
-/// The name by which a path may mean a local variable: that of a path of one name without arguments, and `self` for the path `self`.
+/// Returns the name by which a path may resolve to a local variable: the name of a path of one name without
+/// arguments, and `self` for the path `self`.
 pub fn local_name(path: &Path) -> Option<&str>
     ensures { option_map (λ name. name.now) result ≡ local_name path.now }
 {
@@ -26,7 +27,7 @@ pub fn local_name(path: &Path) -> Option<&str>
     }
 }
 
-/// The first of these entries with this name and this hygiene.
+/// Returns the first of these entries with this name and this hygiene.
 // The hygiene first: it is compared in less time.
 pub(crate) fn find_entry<'a>(
     entries: &'a [ScopeEntry],
@@ -44,8 +45,8 @@ pub(crate) fn find_entry<'a>(
 }
 
 impl ExprScopes {
-    /// The first entry with this name and this hygiene, scope by scope from this one outward, and the scope that brings it in. The
-    /// scope that is asked has to be there: `has_scope` tests it.
+    /// Returns the first entry with this name and this hygiene, scope by scope from this one outward, and the
+    /// scope that binds it. The scope has to exist: `has_scope` tests it.
     ///
     /// Hygienes are compared as they are: definitions of macros are not consulted.
     pub fn find_name_in_scope(
@@ -70,7 +71,7 @@ impl ExprScopes {
         None
     }
 
-    /// The first entry with this name and this hygiene, scope by scope from this one outward.
+    /// Returns the first entry with this name and this hygiene, scope by scope from this one outward.
     fn entry_in_scope(&self, scope: ScopeId, name: &str, hygiene: HygieneId) -> Option<&ScopeEntry>
         requires { scope < length self.now.scopes }
         ensures { option_copied result ≡ resolve (chain self.now.scopes (Some scope)) name.now hygiene }
@@ -82,8 +83,8 @@ impl ExprScopes {
         }
     }
 
-    /// The first entry with this name and this hygiene, scope by scope from this one outward. The scope that is asked has to be there:
-    /// `has_scope` tests it. `find_name_in_scope` finds the scope that brings it in, too.
+    /// Returns the first entry with this name and this hygiene, scope by scope from this one outward. The
+    /// scope has to exist: `has_scope` tests it. `find_name_in_scope` finds the scope that binds it, too.
     pub fn resolve_name_in_scope(
         &self,
         scope: ScopeId,
@@ -96,7 +97,7 @@ impl ExprScopes {
         self.entry_in_scope(scope, name.as_str(), hygiene)
     }
 
-    /// The binding of the store that a path of this hygiene means at an expression.
+    /// Returns the binding of the store that a path of this hygiene resolves to at an expression.
     fn resolve_path(
         &self,
         store: &ExpressionStore,
@@ -113,8 +114,9 @@ impl ExprScopes {
         store.has_binding(binding).then_some(binding)
     }
 
-    /// The binding that an expression means: where it is there, has a scope, and is a path of one name or `self` that resolves in it to
-    /// a binding of the store. In the scopes of the store's own body, or of its signature, each entry's binding is one of the store.
+    /// Returns the binding that an expression resolves to: where it exists, has a scope, and is a path of one
+    /// name or `self` that resolves in it to a binding of the store. In the scopes of the store's own body,
+    /// or of its signature, each entry's binding is one of the store.
     pub fn binding_at(&self, store: &ExpressionStore, expr: ExprId) -> Option<BindingId>
         ensures is { result ≡ binding_at store.now self.now expr }
         ensures in_range { IfSome result (λ id. id < length store.now.nodes.bindings) }
@@ -128,8 +130,8 @@ impl ExprScopes {
         self.resolve_path(store, expr, path, store.expr_path_hygiene(expr))
     }
 
-    /// The binding that a pattern in the target of an assignment means, as `binding_at` answers for an expression. It is looked up where
-    /// the assignment is, with the hygiene of the pattern.
+    /// Returns the binding that a pattern in the target of an assignment resolves to, as `binding_at` does
+    /// for an expression. It is looked up in the scope of the assignment, with the hygiene of the pattern.
     pub fn target_binding_at(
         &self,
         store: &ExpressionStore,

@@ -1,4 +1,4 @@
-//! What a scope is made of: its kind and its entries.
+//! The parts of a scope: its kind and its entries.
 ghost use Rattle.std.specs.Prelude.{◌≡◌, codes};
 ghost use Rattle.hir_base.specs.Exact.{exact};
 
@@ -19,7 +19,7 @@ impl Kind for ScopeMarker {
 /// The number of a scope.
 pub type ScopeId = Idx<ScopeMarker>;
 
-/// A name that a scope brings in: the binding that it names, and the hygiene that it was written with.
+/// A name that a scope binds: the binding that it names, and the hygiene that it was written with.
 #[derive(Drop, PartialEq, Eq)]
 pub struct ScopeEntry {
     name: Name,
@@ -28,7 +28,7 @@ pub struct ScopeEntry {
 }
 
 impl ScopeEntry {
-    /// The entry of a binding with this name and hygiene.
+    /// Returns the entry of a binding with this name and hygiene.
     pub(crate) fn new(name: Name, hygiene: HygieneId, binding: BindingId) -> ScopeEntry
         ensures { result ≡ record { name = name; hygiene = hygiene; binding = binding } }
     {
@@ -39,21 +39,21 @@ impl ScopeEntry {
         }
     }
 
-    /// The name.
+    /// Returns the name.
     pub fn name(&self) -> &Name
         ensures { result.now ≡ self.now.name }
     {
         &self.name
     }
 
-    /// Which macro expansion, if any, wrote the name.
+    /// Returns the hygiene of the name: which macro expansion, if any, wrote it.
     pub fn hygiene(&self) -> HygieneId
         ensures { result ≡ self.now.hygiene }
     {
         self.hygiene
     }
 
-    /// The binding that the name stands for.
+    /// Returns the binding that the name stands for.
     pub fn binding(&self) -> BindingId
         ensures { result ≡ self.now.binding }
     {
@@ -65,7 +65,7 @@ impl ExactEq for ScopeEntry {
     ghost eq_decides = { Prim.search exact };
 }
 
-/// The kind of a scope, apart from the bindings that it brings in.
+/// The kind of a scope, beside the bindings of its entries.
 #[derive(Clone, Copy, PartialEq, Eq)]
 pub enum ScopeKind {
     /// A scope of bindings alone.

@@ -6,7 +6,7 @@ use crate::scope::ScopeId;
 use std::iter::FusedIterator;
 use std::marker::Model;
 
-/// A scope and those around it, innermost first, seen as the list of those that are left.
+/// A scope and those around it, innermost first, modelled as the list of those that are left.
 #[derive(Drop)]
 pub struct ScopeChain<'a> {
     pub(crate) scopes: &'a ExprScopes,

@@ -5,7 +5,8 @@ use crate::scope::ScopeId;
 use std::iter::FusedIterator;
 use std::marker::Model;
 
-/// The ids of scopes, in the order in which the scopes were made, seen as the list of those that are left.
+/// The ids of scopes, in the order in which the scopes were made, modelled as the list of those that are
+/// left.
 #[derive(Drop)]
 pub struct ScopeIds {
     pub(crate) next: u32,

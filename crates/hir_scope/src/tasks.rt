@@ -1,4 +1,4 @@
-//! What a walk has still to do: tasks, and those that a node brings.
+//! The tasks that a walk has still to do, and those that a node adds.
 #![tactic(auto, using(crate::proofs::DeferLemmas::defers))]
 
 ghost use Rattle.std.specs.Prelude.{◌≡◌, List, [], ◌∷◌, ◌++◌, false, Err, None, OnErr, OnOk, IfSome};
@@ -19,15 +19,16 @@ use hir_node::{
 };
 use hir_stack::Stack;
 
-/// The current scopes: that of what is entered next, and that of the constants in it.
+/// The scope around what is visited next, and that around the constants in it.
 #[derive(Clone, Copy)]
 pub(crate) struct CurrentScopes {
     pub(crate) scope: ScopeId,
     pub(crate) const_scope: ScopeId,
 }
 
-/// What a walk has still to do.
-// Flat, ids alone: the prover cannot build a function that borrows a list of values with records or options in them.
+/// A task of a walk.
+// Flat, ids alone: the prover cannot build a function that borrows a list of values with records or options
+// in them.
 #[derive(Clone, Copy)]
 pub(crate) enum Task {
     /// An expression, in the current scope.
@@ -38,7 +39,7 @@ pub(crate) enum Task {
     Pat(PatId),
     /// What is inside a type, in the scope of constants.
     TypeRef(TypeRefId),
-    /// A pattern, in a scope of its own that stays.
+    /// A pattern, in a scope of its own that stays open.
     Bound(PatId),
     /// An arm without a guard, in a scope of its own that ends with it.
     Arm(PatId, ExprId),
@@ -46,7 +47,7 @@ pub(crate) enum Task {
     GuardedArm(PatId, ExprId, ExprId),
     /// A macro's definition: a scope for what follows, and one for the constants in it.
     MacroDef(MacroDefId),
-    /// Restores the scopes that were current before: the one around, and the one around constants.
+    /// Restores the scopes that were current before: the current scope, and that around constants.
     Leave(ScopeId, ScopeId),
 }
 
@@ -79,7 +80,7 @@ impl StoreVisitor for Tasks {
     fn on_lifetime(&mut self, _lifetime: LifetimeRefId) {}
 }
 
-/// A part of a node that brings tasks.
+/// A part of a node that adds tasks.
 trait Brings {
     // its tasks, in order
     ghost tasks: { Self → List Task };
@@ -131,7 +132,9 @@ impl Brings for MatchArm {
     fn defer(&self, onto: &mut Tasks) {
         match self.guard {
             None => onto.stack.defer(Task::Arm(self.pat, self.expr)),
-            Some(guard) => onto.stack.defer(Task::GuardedArm(self.pat, guard, self.expr)),
+            Some(guard) => onto
+                .stack
+                .defer(Task::GuardedArm(self.pat, guard, self.expr)),
         }
     }
 }
@@ -161,7 +164,8 @@ impl Tasks {
     fn defer_leave(&mut self, current: CurrentScopes)
         ensures { Runs DefersTask self.old.stack (leave current ∷ []) self.new.stack }
     {
-        self.stack.defer(Task::Leave(current.scope, current.const_scope));
+        self.stack
+            .defer(Task::Leave(current.scope, current.const_scope));
     }
 
     /// Puts the tasks of what is inside an expression. Leaving the expression restores `current`.
@@ -240,7 +244,8 @@ impl Tasks {
 
     /// Puts the tasks of what is inside a type. Leaving the type restores `current`.
     fn defer_in_type(&mut self, type_ref: &TypeRef, current: CurrentScopes)
-        ensures { Runs DefersTask self.old.stack (form_tasks current (type_form type_ref.now)) self.new.stack }
+        ensures { Runs DefersTask self.old.stack
+            (form_tasks current (type_form type_ref.now)) self.new.stack }
     {
         match type_ref {
             TypeRef::PatternType(inner, pat) => {
@@ -265,7 +270,11 @@ impl Tasks {
     }
 
     /// Pushes the tasks of what is inside an expression, the first on top.
-    pub(crate) fn push_in_expr(&mut self, expr: &Expr, current: CurrentScopes) -> Result<(), ScopesFault>
+    pub(crate) fn push_in_expr(
+        &mut self,
+        expr: &Expr,
+        current: CurrentScopes,
+    ) -> Result<(), ScopesFault>
         ensures ok { OnOk result (self.new.stack.items
             ≡ form_tasks current (expr_form expr.now) ++ self.old.stack.items) }
         ensures memory { OnErr result (result ≡ Err ScopesFault.Memory) }

@@ -10,11 +10,11 @@ use crate::fault::ScopesFault;
 use crate::scope::{ScopeEntry, ScopeId, ScopeKind};
 use crate::tasks::{CurrentScopes, Task, Tasks};
 use hir_base::Steps;
+use hir_node::{Expr, ExprId, PatId, Path, TypeRefId};
 use hir_store_core::ExpressionStore;
 use hir_store_core::laws::rank_decreases;
-use hir_node::{Expr, ExprId, PatId, Path, TypeRefId};
 
-/// A walk: the scopes so far, those around what is met next, and what is still to do.
+/// A walk: the scopes so far, those around what is visited next, and the tasks that are still to do.
 #[derive(Drop)]
 pub(crate) struct Walk {
     pub(crate) scopes: ExprScopes,
@@ -24,8 +24,9 @@ pub(crate) struct Walk {
     pub(crate) entries: Vec<ScopeEntry>,
 }
 
-/// Whether an expression is a bare path, a literal or missing: nothing is inside these.
-// Half of all expressions are such. That they take no turn is for speed alone: 3 % of a run with all questions.
+/// Returns whether an expression is a bare path, a literal or missing: nothing is inside these.
+// Half of all expressions are such. They take no turn of the loop, for speed alone: 3 % of a run with all
+// questions.
 fn is_alone(expr: &Expr) -> bool
     ensures { IsTrue result → expr_form expr.now ≡ InTurn [] }
 {
@@ -35,7 +36,7 @@ fn is_alone(expr: &Expr) -> bool
     )
 }
 
-/// The scope of an expression: of a block the one inside it, of any other the one around it.
+/// Returns the scope of an expression: of a block the one inside it, of any other the one around it.
 fn scope_within(expr: &Expr, inside: ScopeId, outside: ScopeId) -> ScopeId
     ensures { result ≡ scope_within (expr_form expr.now) inside outside }
 {
@@ -46,7 +47,7 @@ fn scope_within(expr: &Expr, inside: ScopeId, outside: ScopeId) -> ScopeId
 }
 
 impl Walk {
-    /// Enters an expression, and returns its scope: what is inside it comes next.
+    /// Enters an expression, and returns its scope: what is inside it is visited next.
     fn enter_expr(&mut self, store: &ExpressionStore, expr: ExprId) -> Result<ScopeId, ScopesFault>
         requires ready { IsReady store.now.nodes (with_next self.old (Task.Expr expr)) }
         ensures meets { IfOk result (EntersExpr store.now.nodes self.old expr self.new) }
@@ -73,7 +74,8 @@ impl Walk {
         ensures memory { OnErr result (result ≡ Err ScopesFault.Memory) }
     {
         let before = self.current;
-        self.tasks.push(Task::Leave(before.scope, before.const_scope))?;
+        self.tasks
+            .push(Task::Leave(before.scope, before.const_scope))?;
         self.tasks.push(Task::Expr(expr))?;
         self.current.scope = before.const_scope;
         Ok(())
@@ -93,7 +95,11 @@ impl Walk {
     }
 
     /// Enters a type, in the scope of constants.
-    fn enter_type(&mut self, store: &ExpressionStore, type_ref: TypeRefId) -> Result<(), ScopesFault>
+    fn enter_type(
+        &mut self,
+        store: &ExpressionStore,
+        type_ref: TypeRefId,
+    ) -> Result<(), ScopesFault>
         requires ready { IsReady store.now.nodes (with_next self.old (Task.TypeRef type_ref)) }
         ensures moves { IfOk result (λ _. Step store.now.nodes
             (with_next self.old (Task.TypeRef type_ref)) (state self.new) []) }
@@ -108,7 +114,7 @@ impl Walk {
         Ok(())
     }
 
-    /// Enters a pattern in a scope of its own, which stays.
+    /// Enters a pattern in a scope of its own, which stays open.
     fn bind(&mut self, store: &ExpressionStore, bound: PatId) -> Result<(), ScopesFault>
         requires ready { IsReady store.now.nodes (with_next self.old (Task.Bound bound)) }
         ensures moves { IfOk result (λ _. Step store.now.nodes
@@ -140,7 +146,8 @@ impl Walk {
         store.has_no_fault();
         rank_decreases();
         let before = self.current;
-        self.tasks.push(Task::Leave(before.scope, before.const_scope))?;
+        self.tasks
+            .push(Task::Leave(before.scope, before.const_scope))?;
         self.tasks.push(Task::Expr(expr))?;
         self.tasks.push_expr_opt(guard)?;
         self.tasks.push(Task::Pat(pat))?;
@@ -185,9 +192,10 @@ impl Walk {
         }
     }
 
-    /// Does all that is still to do: gives each expression under it its scope, with one step each.
+    /// Does all tasks: sets the scope of each expression that they reach, with one step each.
     ///
-    /// Answers `Full` only where more than `MOST_ITEMS` scopes or entries are needed, and `Memory` where room was refused.
+    /// Returns `Full` only where more than `MOST_ITEMS` scopes or entries are needed, and `Memory` where an
+    /// allocation fails.
     pub(crate) fn run(
         &mut self,
         store: &ExpressionStore,

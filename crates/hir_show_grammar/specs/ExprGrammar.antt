@@ -1,6 +1,8 @@
--- The words behind `expr`, for each expression that a line makes.
+-- The words after `expr`, for each expression that a line makes.
 use Rattle.std.specs.Prelude.{ℕ, ℤ, List, [], ◌∷◌, map, Option, None, Some, codes}
 use Rattle.hir_base.specs.declared.operators.BinaryOp.{BinaryOp}
+use Rattle.hir_base.specs.Ids.{BlockId}
+use Rattle.hir_path.specs.NodeIds.{ExprId, PatId}
 use Rattle.hir_node.specs.declared.expr.Expr.{Expr}
 use Rattle.hir_node.specs.declared.expr.Expr.TheVariants.{Missing, Path, Literal as LiteralExpr, Array as ArrayExpr, Const, If, Let, Block, Loop, Call, Match, Ref as RefExpr, BinaryOp as BinaryExpr, Assignment, Closure as ClosureExpr, Tuple}
 use Rattle.hir_node.specs.declared.literal.Literal.TheVariants.{Int}
@@ -21,30 +23,31 @@ pub data IsExpr : Expr → List Token → Type 0 where
   missing : IsExpr Missing (Word (codes "missing") ∷ [])
   path : {name : List ℕ} → IsExpr (Path (plain name)) (Word (codes "path") ∷ Name name ∷ [])
   int : {n : ℤ} → IsExpr (LiteralExpr (Int n None)) (Word (codes "int") ∷ Integer n ∷ [])
-  call : {callee : ℕ} {args : List ℕ} →
+  call : {callee : ExprId} {args : List ExprId} →
       IsExpr (Call callee args) (Word (codes "call") ∷ Number callee ∷ Numbers args ∷ [])
-  tuple : {exprs : List ℕ} → IsExpr (Tuple exprs) (Word (codes "tuple") ∷ Numbers exprs ∷ [])
-  array : {elements : List ℕ} →
+  tuple : {exprs : List ExprId} → IsExpr (Tuple exprs) (Word (codes "tuple") ∷ Numbers exprs ∷ [])
+  array : {elements : List ExprId} →
       IsExpr (ArrayExpr (ElementList elements)) (Word (codes "array") ∷ Numbers elements ∷ [])
-  repeat : {initializer count : ℕ} →
+  repeat : {initializer count : ExprId} →
       IsExpr (ArrayExpr (Repeat initializer count))
       (Word (codes "repeat") ∷ Number initializer ∷ Number count ∷ [])
-  reference : {expr : ℕ} → IsExpr (RefExpr expr Reference Shared) (Word (codes "ref") ∷ Number expr ∷ [])
-  binary : {op : BinaryOp} {lhs rhs : ℕ} →
+  reference : {expr : ExprId} → IsExpr (RefExpr expr Reference Shared) (Word (codes "ref") ∷ Number expr ∷ [])
+  binary : {op : BinaryOp} {lhs rhs : ExprId} →
       IsExpr (BinaryExpr lhs rhs (Some op)) (Word (codes "bin") ∷ Operator op ∷ Number lhs ∷ Number rhs ∷ [])
-  let_expr : {pat expr : ℕ} → IsExpr (Let pat expr) (Word (codes "let") ∷ Number pat ∷ Number expr ∷ [])
-  if_expr : {condition then_branch : ℕ} {else_branch : Option ℕ} →
+  let_expr : {pat : PatId} {expr : ExprId} → IsExpr (Let pat expr)
+      (Word (codes "let") ∷ Number pat ∷ Number expr ∷ [])
+  if_expr : {condition then_branch : ExprId} {else_branch : Option ExprId} →
       IsExpr (If condition then_branch else_branch)
       (Word (codes "if") ∷ Number condition ∷ Number then_branch ∷ Optional else_branch ∷ [])
-  loop_expr : {body : ℕ} → IsExpr (Loop body None PlainLoop) (Word (codes "loop") ∷ Number body ∷ [])
-  assign : {target value : ℕ} →
+  loop_expr : {body : ExprId} → IsExpr (Loop body None PlainLoop) (Word (codes "loop") ∷ Number body ∷ [])
+  assign : {target : PatId} {value : ExprId} →
       IsExpr (Assignment target value) (Word (codes "assign") ∷ Number target ∷ Number value ∷ [])
-  constant : {body : ℕ} → IsExpr (Const body) (Word (codes "const") ∷ Number body ∷ [])
-  match_expr : {expr : ℕ} {arms : List MatchArm} →
+  constant : {body : ExprId} → IsExpr (Const body) (Word (codes "const") ∷ Number body ∷ [])
+  match_expr : {expr : ExprId} {arms : List MatchArm} →
       IsExpr (Match expr arms) (Word (codes "match") ∷ Number expr ∷ map Arm arms)
-  closure : {body : ℕ} {args : List ℕ} →
+  closure : {body : ExprId} {args : List PatId} →
       IsExpr (ClosureExpr args (no_types args) None body Closure ByRef)
       (Word (codes "closure") ∷ Number body ∷ Numbers args ∷ [])
-  block : {id tail : Option ℕ} {statements : List Statement} →
+  block : {id : Option BlockId} {tail : Option ExprId} {statements : List Statement} →
       IsExpr (Block id statements tail None Safe)
       (Word (codes "block") ∷ Optional id ∷ Optional tail ∷ map Stmt statements)

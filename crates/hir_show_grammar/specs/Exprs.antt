@@ -1,5 +1,6 @@
--- What the words behind `expr` say.
+-- What the words after `expr` say.
 use Rattle.std.specs.Prelude.{ℕ, List, [], ◌∷◌, map, Option, None, Some, codes}
+use Rattle.hir_path.specs.NodeIds.{PatId, TypeRefId}
 use Rattle.hir_node.specs.declared.expr.Expr.{Expr}
 use Rattle.hir_node.specs.declared.expr.Expr.TheVariants.{Missing, Path, Literal as LiteralExpr, Array as ArrayExpr, Const, If, Let, Block, Loop, Call, Match, Ref as RefExpr, BinaryOp as BinaryExpr, Assignment, Closure as ClosureExpr, Tuple}
 use Rattle.hir_node.specs.declared.literal.Literal.TheVariants.{Int}
@@ -94,7 +95,7 @@ match_expr = do
   gives (Match expr arms)
 
 -- no type for each argument
-abbrev pub no_types : List ℕ → List (Option ℕ)
+abbrev pub no_types : List PatId → List (Option TypeRefId)
 no_types args = map (λ _. None) args
 
 abbrev pub closure_expr : Reading Expr
@@ -131,6 +132,6 @@ expr_forms =
     ∷ (codes "block", block_expr)
     ∷ []
 
--- the words behind `expr`
+-- the words after `expr`
 unfoldable pub expr : Reading Expr
 expr words = one_of expr_forms words

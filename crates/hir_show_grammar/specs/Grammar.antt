@@ -1,7 +1,8 @@
 -- The lines as they are written.
 use Rattle.std.specs.Prelude.{◌≡◌, ℕ, List, [], ◌∷◌, codes, ⊤}
 use Rattle.hir_base.specs.declared.hygiene.SyntaxContext.TheVariants.{Expansion}
-use Rattle.hir_path.specs.declared.ids.ExprOrPatId.TheVariants.{ExprId, PatId}
+use Rattle.hir_path.specs.declared.ids.ExprOrPatId.TheVariants as any_id
+use Rattle.hir_path.specs.NodeIds.{ExprId, PatId, BindingId}
 use Rattle.hir_node.specs.declared.expr.Expr.{Expr}
 use Rattle.hir_node.specs.declared.pat.Pat.{Pat}
 use Rattle.hir_node.specs.declared.type_ref.TypeRef.{TypeRef}
@@ -29,31 +30,33 @@ pub data IsMaker : Maker → List Token → Type 0 where
       IsMaker (MakeType t) (Word (codes "type") ∷ tokens)
   expr : {e : Expr} {tokens : List Token} → IsExpr e tokens →
       IsMaker (MakeExpr e) (Word (codes "expr") ∷ tokens)
-  expr_hygiene : {expr expansion : ℕ} →
-      IsMaker (Hygiene (ExprId expr) (Expansion expansion))
+  expr_hygiene : {expr : ExprId} {expansion : ℕ} →
+      IsMaker (Hygiene (any_id.ExprId expr) (Expansion expansion))
       (Word (codes "hygiene") ∷ Number expr ∷ Number expansion ∷ [])
-  pat_hygiene : {pat expansion : ℕ} →
-      IsMaker (Hygiene (PatId pat) (Expansion expansion))
+  pat_hygiene : {pat : PatId} {expansion : ℕ} →
+      IsMaker (Hygiene (any_id.PatId pat) (Expansion expansion))
       (Word (codes "pat-hygiene") ∷ Number pat ∷ Number expansion ∷ [])
-  self_param : {binding : ℕ} → IsMaker (SelfParam binding) (Word (codes "self") ∷ Number binding ∷ [])
-  param : {pat : ℕ} → IsMaker (Param pat) (Word (codes "param") ∷ Number pat ∷ [])
+  self_param : {binding : BindingId} → IsMaker (SelfParam binding) (Word (codes "self") ∷ Number binding ∷ [])
+  param : {pat : PatId} → IsMaker (Param pat) (Word (codes "param") ∷ Number pat ∷ [])
   fn_name : {name : List ℕ} → IsMaker (FnName name) (Word (codes "fn") ∷ Name name ∷ [])
   roots : IsMaker Roots (Word (codes "roots") ∷ [])
-  root : {expr : ℕ} → IsMaker (Root expr) (Word (codes "root") ∷ Number expr ∷ [])
+  root : {expr : ExprId} → IsMaker (Root expr) (Word (codes "root") ∷ Number expr ∷ [])
 
 -- the words of a question
 pub data IsQuestion : Question → List Token → Type 0 where
-  children : {expr : ℕ} → IsQuestion (OfStore (Children expr)) (Word (codes "children") ∷ Number expr ∷ [])
-  root_of : {expr : ℕ} → IsQuestion (OfStore (RootOf expr)) (Word (codes "root-of") ∷ Number expr ∷ [])
-  chain : {expr : ℕ} → IsQuestion (OfBody (Chain expr)) (Word (codes "chain") ∷ Number expr ∷ [])
-  resolve : {expr : ℕ} {name : List ℕ} →
+  children : {expr : ExprId} → IsQuestion (OfStore (Children expr))
+      (Word (codes "children") ∷ Number expr ∷ [])
+  root_of : {expr : ExprId} → IsQuestion (OfStore (RootOf expr)) (Word (codes "root-of") ∷ Number expr ∷ [])
+  chain : {expr : ExprId} → IsQuestion (OfBody (Chain expr)) (Word (codes "chain") ∷ Number expr ∷ [])
+  resolve : {expr : ExprId} {name : List ℕ} →
       IsQuestion (OfBody (Resolve expr name of_source))
       (Word (codes "resolve") ∷ Number expr ∷ Name name ∷ [])
-  resolve_expanded : {expr : ℕ} {name : List ℕ} {expansion : ℕ} →
+  resolve_expanded : {expr : ExprId} {name : List ℕ} {expansion : ℕ} →
       IsQuestion (OfBody (Resolve expr name (Expansion expansion)))
       (Word (codes "resolve") ∷ Number expr ∷ Name name ∷ Number expansion ∷ [])
   print : IsQuestion (OfBody Print) (Word (codes "print") ∷ [])
-  captures : {expr : ℕ} → IsQuestion (OfBody (Captures expr)) (Word (codes "captures") ∷ Number expr ∷ [])
+  captures : {expr : ExprId} → IsQuestion (OfBody (Captures expr))
+      (Word (codes "captures") ∷ Number expr ∷ [])
 
 -- how each line is written; a bad line is any text
 abbrev pub IsLine : Line → List ℕ → Type 0

@@ -116,7 +116,7 @@ chain = do
   id ← number
   gives (OfBody (Chain id))
 
--- what a name means at an expression
+-- what a name resolves to at an expression
 abbrev pub resolve : Reading Question
 resolve = do
   id ← number

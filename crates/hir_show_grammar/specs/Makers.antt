@@ -2,6 +2,7 @@
 use Rattle.std.specs.Prelude.{ℕ, List}
 use Rattle.hir_base.specs.declared.hygiene.SyntaxContext.{SyntaxContext}
 use Rattle.hir_path.specs.declared.ids.ExprOrPatId.{ExprOrPatId}
+use Rattle.hir_path.specs.NodeIds.{ExprId, PatId, BindingId}
 use Rattle.hir_node.specs.declared.binding.Binding.{Binding as ABinding}
 use Rattle.hir_node.specs.declared.expr.Expr.{Expr as AnExpr}
 use Rattle.hir_node.specs.declared.pat.Pat.{Pat as APat}
@@ -19,12 +20,12 @@ pub data Maker : Type 0 where
   -- `hygiene E N`, `pat-hygiene P N`: the hygiene of the path that the expression or the pattern is
   Hygiene : ExprOrPatId → SyntaxContext → Maker
   -- `self B`: the self parameter, by its binding
-  SelfParam : ℕ → Maker
+  SelfParam : BindingId → Maker
   -- `param P`: the next parameter, by its pattern
-  Param : ℕ → Maker
+  Param : PatId → Maker
   -- `fn NAME`: the name of the function
   FnName : List ℕ → Maker
   -- `roots`: begins the list of roots, where there is no list yet
   Roots : Maker
   -- `root E`: one more root
-  Root : ℕ → Maker
+  Root : ExprId → Maker

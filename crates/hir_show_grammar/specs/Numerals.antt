@@ -36,7 +36,7 @@ with_sign minus n =
     if minus then (if nat_le n (2 ^ 127) then Some (neg_ℤ (pos n)) else None)
     else (if nat_lt n (2 ^ 127) then Some (pos n) else None)
 
--- an integer: a numeral, perhaps behind a minus
+-- an integer: a numeral, perhaps after a minus
 unfoldable pub int_of : List ℕ → Option ℤ
 int_of text =
     if is_numeral (without_minus text) then with_sign (has_minus text) (value (without_minus text)) else None

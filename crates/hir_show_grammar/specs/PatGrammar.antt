@@ -1,6 +1,7 @@
--- The words behind `pat`, for each pattern that a line makes.
+-- The words after `pat`, for each pattern that a line makes.
 use Rattle.std.specs.Prelude.{ℕ, List, [], ◌∷◌, Option, None, codes}
 use Rattle.hir_base.specs.declared.operators.RangeOp.TheVariants.{Inclusive}
+use Rattle.hir_path.specs.NodeIds.{ExprId, PatId, BindingId}
 use Rattle.hir_node.specs.declared.pat.Pat.{Pat}
 use Rattle.hir_node.specs.declared.pat.Pat.TheVariants.{Missing, Rest, Wild, Tuple, Or, Range, Lit, Expr, Bind, TupleStruct}
 use Rattle.hir_show_grammar.specs.Words.{plain}
@@ -10,13 +11,13 @@ pub data IsPat : Pat → List Token → Type 0 where
   wild : IsPat Wild (Word (codes "wild") ∷ [])
   missing : IsPat Missing (Word (codes "missing") ∷ [])
   rest : IsPat Rest (Word (codes "rest") ∷ [])
-  bind : {id : ℕ} {subpat : Option ℕ} →
+  bind : {id : BindingId} {subpat : Option PatId} →
       IsPat (Bind id subpat) (Word (codes "bind") ∷ Number id ∷ Optional subpat ∷ [])
-  tuple : {args : List ℕ} → IsPat (Tuple args None) (Word (codes "tuple") ∷ Numbers args ∷ [])
-  or_pat : {pats : List ℕ} → IsPat (Or pats) (Word (codes "or") ∷ Numbers pats ∷ [])
-  tuple_struct : {name args : List ℕ} →
+  tuple : {args : List PatId} → IsPat (Tuple args None) (Word (codes "tuple") ∷ Numbers args ∷ [])
+  or_pat : {pats : List PatId} → IsPat (Or pats) (Word (codes "or") ∷ Numbers pats ∷ [])
+  tuple_struct : {name : List ℕ} {args : List PatId} →
       IsPat (TupleStruct (plain name) args None) (Word (codes "tstruct") ∷ Name name ∷ Numbers args ∷ [])
-  range : {start end : Option ℕ} →
+  range : {start end : Option ExprId} →
       IsPat (Range start end Inclusive) (Word (codes "range") ∷ Optional start ∷ Optional end ∷ [])
-  lit : {expr : ℕ} → IsPat (Lit expr) (Word (codes "lit") ∷ Number expr ∷ [])
-  expr : {expr : ℕ} → IsPat (Expr expr) (Word (codes "expr") ∷ Number expr ∷ [])
+  lit : {expr : ExprId} → IsPat (Lit expr) (Word (codes "lit") ∷ Number expr ∷ [])
+  expr : {expr : ExprId} → IsPat (Expr expr) (Word (codes "expr") ∷ Number expr ∷ [])

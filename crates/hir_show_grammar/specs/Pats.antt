@@ -1,4 +1,4 @@
--- What the words behind `pat` say.
+-- What the words after `pat` say.
 use Rattle.std.specs.Prelude.{ℕ, List, [], ◌∷◌, None, codes}
 use Rattle.hir_base.specs.declared.operators.RangeOp.TheVariants.{Inclusive}
 use Rattle.hir_node.specs.declared.pat.Pat.{Pat}
@@ -58,6 +58,6 @@ pat_forms =
     ∷ (codes "expr", expr_pat)
     ∷ []
 
--- the words behind `pat`
+-- the words after `pat`
 unfoldable pub pat : Reading Pat
 pat words = one_of pat_forms words

@@ -1,4 +1,5 @@
--- Reading words from the front. A reading gives what the first words say and the words behind them, or nothing where they don't fit.
+-- Reading words from the first on. A reading gives what the first words say and the words after them, or
+-- nothing where they don't fit.
 use Rattle.std.specs.Prelude.{◌≡◌, ◌≢◌, ◌+◌, ℕ, zero, suc, All, Bool, false, eqb, if◌then◌else◌, List, [], ◌∷◌, Option, None, Some, Result, MatchResult, length, drop, ◌↔◌}
 use Rattle.std.specs.List.{slice_split}
 use Rattle.std.specs.Option.{option_map, option_and_then}
@@ -38,7 +39,7 @@ abbrev pub Reading : Type 0 → Type 0
 Reading X = List (List ℕ) → Option (X × List (List ℕ))
 
 infixl 20 ◌>>=◌
--- one reading, and then another of the words behind it
+-- one reading, and then another of the words after it
 abbrev pub ◌>>=◌ : {X Y : Type 0} → Reading X → (X → Reading Y) → Reading Y
 ◌>>=◌ first next words = option_and_then (λ found. next found.0 found.1) (first words)
 
@@ -99,17 +100,19 @@ abbrev pub SaysOrStops : {X : Type 0} → (List ℕ → Option X) → List ℕ �
 SaysOrStops read word result =
     MatchResult result (λ x. read word ≡ Some x) (λ why. why ≡ Syntax ↔ read word ≡ None)
 
--- what a reading of these words finds that leaves none, where memory may be refused. They are bad exactly where there is nothing such
+-- what a reading of these words finds that leaves none, where an allocation may fail. They are bad exactly
+-- where there is nothing such
 abbrev pub ReadsAll : {X : Type 0} → Reading X → List (List ℕ) → Result X LineError → Type 0
 ReadsAll reading words result =
     MatchResult result (λ x. reading words ≡ Some (x, [])) (λ why. why ≡ Syntax ↔ whole reading words ≡ None)
 
--- what the words say, if none is left behind it; or that they say nothing
+-- what the words say, if none is left after it; or that they say nothing
 abbrev pub SaysWhole : {X E : Type 0} → Reading X → List (List ℕ) → Result X E → Type 0
 SaysWhole reading words result =
     MatchResult result (λ x. whole reading words ≡ Some x) (λ bad. whole reading words ≡ None)
 
--- the same, where memory may be refused. They are bad exactly where they say nothing: memory is refused where they say something
+-- what all these words say, where an allocation may fail. They are bad exactly where they say nothing: an
+-- allocation fails only where they say something
 abbrev pub SaysAll : {X : Type 0} → Reading X → List (List ℕ) → Result X LineError → Type 0
 SaysAll reading words result =
     MatchResult result (λ x. whole reading words ≡ Some x) (λ why. why ≡ Syntax ↔ whole reading words ≡ None)

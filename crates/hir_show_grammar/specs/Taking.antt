@@ -1,5 +1,5 @@
--- What a line does to what was made before it. A builder says what is made with one thing more, and whether a self parameter and a name
--- were given, since a second one of these is bad.
+-- What a line does to what was made before it. A builder says what is made with one thing more, and whether a
+-- self parameter and a name were given, since a second one of these is bad.
 use Rattle.std.specs.Prelude.{◌≡◌, ◌≢◌, ℕ, true, false, Bool, if◌then◌else◌, List, Option, None, Some, Result, MatchResult, ◌↔◌}
 use Rattle.std.specs.Option.{option_and_then}
 use Rattle.hir_show_grammar.specs.declared.question.Question.{Question}
@@ -10,7 +10,7 @@ use Rattle.hir_show_grammar.specs.Makers.{Maker}
 use Rattle.hir_show_grammar.specs.Makers as make
 use Rattle.hir_show_grammar.specs.Readings.{Reading, whole}
 
--- a thing is added; or memory for it was refused, and nothing is changed
+-- a thing is added; or an allocation for it failed, and nothing is changed
 abbrev pub AddsOne : {B : Type 0} → B → B → B → Result (Unit {0}) LineError → Type 0
 AddsOne added old new result = MatchResult result (λ done. new ≡ added) (λ why. (why ≡ stop.Memory)
     × (new ≡ old))
@@ -28,8 +28,8 @@ is_second has_self has_name (make.Param id) = false
 is_second has_self has_name make.Roots = false
 is_second has_self has_name (make.Root id) = false
 
--- from what was made to what is made now; or nothing is changed. It is bad exactly where there is no such step: memory is refused where
--- there is one
+-- from what was made to what is made now; or nothing is changed. It is bad exactly where there is no such
+-- step: an allocation fails where there is one
 abbrev pub Steps : {B : Type 0} → Option B → B → B → Result (Unit {0}) LineError → Type 0
 Steps found old new result =
     MatchResult result (λ done. found ≡ Some new) (λ why. (new ≡ old) × (why ≡ stop.Syntax ↔ found ≡ None))
@@ -67,7 +67,8 @@ abbrev pub line_asked : Option Question → Line
 line_asked None = Blank
 line_asked (Some question) = Ask question
 
--- a line that asks something, or is empty, is taken. It is bad exactly where it is neither: memory is refused where it asks
+-- a line that asks something, or is empty, is taken. It is bad exactly where it is neither: an allocation
+-- fails where it asks
 abbrev pub Asks : Line → Result (Option Question) LineError → Type 0
 Asks line result =
     MatchResult result (λ asked. line ≡ line_asked asked)

@@ -53,7 +53,7 @@ IsArm arm word =
     (pat guard body : List ℕ) × IsNumber arm.pat pat × IsOptional arm.guard guard × IsNumber arm.expr body
     × (word ≡ colons (pat ∷ guard ∷ body ∷ []))
 
--- of a `let` the pattern, type, initializer, else
+-- the parts of a `let`: pattern, type, initializer, else
 abbrev pub IsStatement : Statement → List ℕ → Type 0
 IsStatement (Let pat type_ref initializer else_branch) word =
     (p t i e : List ℕ) × IsNumber pat p × IsOptional type_ref t × IsOptional initializer i

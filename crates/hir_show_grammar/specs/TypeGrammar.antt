@@ -1,5 +1,6 @@
--- The words behind `type`, for each type that a line makes.
+-- The words after `type`, for each type that a line makes.
 use Rattle.std.specs.Prelude.{ℕ, List, [], ◌∷◌, codes}
+use Rattle.hir_path.specs.NodeIds.{ExprId, PatId, TypeRefId}
 use Rattle.hir_node.specs.declared.type_ref.TypeRef.{TypeRef}
 use Rattle.hir_node.specs.declared.type_ref.TypeRef.TheVariants.{Never, Tuple, Path, Array, PatternType}
 use Rattle.hir_show_grammar.specs.Words.{plain}
@@ -8,8 +9,9 @@ use Rattle.hir_show_grammar.specs.Tokens.{Token, Word, Name, Number, Numbers}
 
 pub data IsType : TypeRef → List Token → Type 0 where
   path : {name : List ℕ} → IsType (Path (plain name)) (Word (codes "path") ∷ Name name ∷ [])
-  tuple : {types : List ℕ} → IsType (Tuple types) (Word (codes "tuple") ∷ Numbers types ∷ [])
-  array : {element len : ℕ} →
+  tuple : {types : List TypeRefId} → IsType (Tuple types) (Word (codes "tuple") ∷ Numbers types ∷ [])
+  array : {element : TypeRefId} {len : ExprId} →
       IsType (Array (array_of element len)) (Word (codes "array") ∷ Number element ∷ Number len ∷ [])
-  pattern : {ty pat : ℕ} → IsType (PatternType ty pat) (Word (codes "pattern") ∷ Number ty ∷ Number pat ∷ [])
+  pattern : {ty : TypeRefId} {pat : PatId} → IsType (PatternType ty pat)
+      (Word (codes "pattern") ∷ Number ty ∷ Number pat ∷ [])
   never : IsType Never (Word (codes "never") ∷ [])

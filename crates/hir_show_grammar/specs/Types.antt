@@ -1,5 +1,6 @@
--- What the words behind `type` say.
+-- What the words after `type` say.
 use Rattle.std.specs.Prelude.{ℕ, List, [], ◌∷◌, codes}
+use Rattle.hir_path.specs.NodeIds.{ExprId, TypeRefId}
 use Rattle.hir_node.specs.declared.type_ref.ArrayType.{ArrayType}
 use Rattle.hir_node.specs.declared.type_ref.TypeRef.{TypeRef}
 use Rattle.hir_node.specs.declared.type_ref.TypeRef.TheVariants.{Never, Tuple, Path, Array, PatternType}
@@ -16,8 +17,8 @@ tuple_type = do
   types ← list
   gives (Tuple types)
 
--- of this element and this length
-abbrev pub array_of : ℕ → ℕ → ArrayType
+-- the type of an array with this element and this length
+abbrev pub array_of : TypeRefId → ExprId → ArrayType
 array_of element len = record { ty = element; len = record { expr = len } }
 
 abbrev pub array_type : Reading TypeRef
@@ -41,6 +42,6 @@ type_forms =
     ∷ (codes "never", gives Never)
     ∷ []
 
--- the words behind `type`
+-- the words after `type`
 unfoldable pub type_ref : Reading TypeRef
 type_ref words = one_of type_forms words

@@ -13,7 +13,8 @@ use std::alloc::Global;
 
 /// Takes a line, if it asks something: its question; or is empty: none.
 ///
-/// `Bad` where it is neither, as where it makes something; `Memory` where memory was refused: of no line that is bad.
+/// `Bad` where it is neither, as where it makes something; `Memory` where an allocation fails: of no line
+/// that is bad.
 pub fn ask(alloc: Global, text: &[u8]) -> Result<Option<Question>, LineError>
     ensures asks { Asks (line_of text.now) result }
 {

@@ -6,7 +6,8 @@ use hir_node::{Binding, BindingId, Expr, ExprId, ExprOrPatId, Pat, PatId, TypeRe
 
 /// Takes what lines make.
 ///
-/// Each call adds one thing. `Memory` where memory for it was refused, or an arena is full: nothing is changed then. It is never `Bad`.
+/// Each call adds one thing. `Memory` where an allocation for it failed, or an arena is full: nothing is
+/// changed then. It is never `Bad`.
 pub trait Builder {
     ghost use Rattle.std.specs.Prelude.{◌≡◌, Bool};
     ghost use Rattle.hir_show_grammar.specs.Makers.{Maker};

@@ -17,7 +17,7 @@ use hir_node::{
 };
 use std::alloc::{AllocError, Global};
 
-/// Makes the expression of the words behind `expr`.
+/// Makes the expression of the words after `expr`.
 #[tactic(auto, unfolding(crate::specs::Exprs::expr))]
 pub fn expr<B: Builder>(
     alloc: Global,

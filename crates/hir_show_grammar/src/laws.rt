@@ -1,4 +1,4 @@
-//! Laws of the grammar, as contracts of functions that do nothing.
+//! Theorems of the grammar, as contracts of functions that do nothing.
 
 ghost use Rattle.std.specs.Prelude.{◌≡◌, ◌≢◌, ℕ, List};
 ghost use Rattle.hir_show_grammar.specs.Line.{Line, Bad, line_of};

@@ -1,5 +1,5 @@
-//! The lines that the program knows: how each is written, and what it says.
-//! A line is words separated by one space. Its first word says in a table of forms how the others are read, and each form is one short
+//! The lines that the program knows: how each is written, and what it says. A line is words separated by one
+//! space. Its first word says in a table of forms how the others are read, and each form is one short
 //! function, which takes them one by one.
 #![tactic(auto)]
 

@@ -7,7 +7,7 @@ use hir_base::ExactEq;
 use std::alloc::AllocError;
 use thiserror::Error;
 
-/// Words that aren't written so. Who answers this alone takes no memory.
+/// Words that aren't written so. A call that returns this alone takes no memory.
 #[derive(Clone, Copy, Drop)]
 pub struct Malformed;
 
@@ -17,7 +17,7 @@ pub enum LineError {
     /// No line is written so, or what it makes may not be made.
     #[error("Syntax")]
     Syntax,
-    /// Memory was refused, or an arena is full.
+    /// An allocation failed, or an arena is full.
     #[error("Memory")]
     Memory,
 }

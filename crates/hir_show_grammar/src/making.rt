@@ -15,10 +15,11 @@ use crate::words::{Line, Words, name_of};
 use hir_node::{Binding, BindingAnnotation, ExprOrPatId};
 use std::alloc::Global;
 
-/// Takes a line that makes something or is empty, and answers whether it is one: its first word tells. Another is left to `ask`.
+/// Takes a line that makes something or is empty, and returns whether it is one, by its first word. Another
+/// is left to `ask`.
 ///
-/// `Bad` where no line is written so, or a second self parameter or name comes; `Memory` where memory was refused or an arena is full,
-/// at no bad line. After either nothing was added.
+/// `Bad` where no line is written so, or a second self parameter or name comes; `Memory` where an allocation
+/// fails or an arena is full, at no bad line. After either nothing was added.
 pub fn make<B: Builder>(alloc: Global, text: &[u8], builder: &mut B) -> Result<bool, LineError>
     ensures makes { Makes B.has_self B.has_name B.add (line_of text.now) builder.old builder.new result }
 {

@@ -28,7 +28,7 @@ fn is_numeral(text: &[u8]) -> bool
     !text.is_empty() && !has_needless_zero(text) && are_digits(text)
 }
 
-/// The number that the first word of a text is, which is read where it stands, and how long that word is.
+/// The number that the first word of a text is, read in place, and how long that word is.
 pub fn first_number(text: &[u8], separator: u8) -> Result<(u32, usize), Malformed>
     ensures within { IfOk result (λ found. found.1 ≤ length text.now) }
     ensures number { MatchResult result
@@ -36,7 +36,7 @@ pub fn first_number(text: &[u8], separator: u8) -> Result<(u32, usize), Malforme
         ≡ Some (found.0, words_from separator (found.1 + 1) text.now))
         (λ bad. number (split_parts separator text.now) ≡ None) }
 {
-    // A number has at most ten digits. So its value is tested once, behind them.
+    // A number has at most ten digits. So its value is tested once, after them.
     let most = text.len().min(10);
     let mut value: u64 = 0;
     let mut end = 0;

@@ -11,7 +11,7 @@ use hir_base::RangeOp;
 use hir_node::Pat;
 use std::alloc::Global;
 
-/// Makes the pattern of the words behind `pat`.
+/// Makes the pattern of the words after `pat`.
 #[tactic(auto, unfolding(crate::specs::Pats::pat))]
 pub fn pat<B: Builder>(
     alloc: Global,

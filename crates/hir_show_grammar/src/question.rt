@@ -22,7 +22,8 @@ impl ExactEq for StoreQuestion {
 pub enum BodyQuestion {
     /// `chain E`: the names that the expression sees, innermost first.
     Chain(ExprId),
-    /// `resolve E NAME`, `resolve E NAME N`: the binding that the name of this hygiene means at the expression.
+    /// `resolve E NAME`, `resolve E NAME N`: the binding that the name of this hygiene resolves to at the
+    /// expression.
     Resolve(ExprId, Name, HygieneId),
     /// `print`: the body, printed as that of a function.
     Print,

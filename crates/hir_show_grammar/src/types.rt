@@ -8,7 +8,7 @@ use crate::words::{Line, path_of};
 use hir_node::{ArrayType, ConstRef, TypeRef};
 use std::alloc::Global;
 
-/// The type that the words behind `type` make.
+/// The type that the words after `type` make.
 #[tactic(auto, unfolding(crate::specs::Types::type_ref))]
 pub fn type_ref(alloc: Global, words: &mut Line<'_>) -> Result<TypeRef, LineError>
     ensures { SaysAll type_ref words.old result }

@@ -14,7 +14,8 @@ use hir_node::Path;
 use std::alloc::{AllocError, Global};
 use std::marker::Model;
 
-/// The words of a text that are left, between bytes that separate them: spaces in a line, colons in a word, commas in a list.
+/// The words of a text that are left, between bytes that separate them: spaces in a line, colons in a word,
+/// commas in a list.
 #[derive(Drop)]
 pub struct Words<'a, const SEPARATOR: u8> {
     text: &'a [u8],
@@ -52,7 +53,7 @@ impl<'a, const SEPARATOR: u8> Words<'a, SEPARATOR> {
         Ok(&text[..end])
     }
 
-    /// Takes the next word, if it is this one, and answers whether it is.
+    /// Takes the next word, if it is this one, and returns whether it is.
     pub fn skip(&mut self, word: &[u8]) -> bool
         requires { Plain SEPARATOR word.now }
         ensures yes { IsTrue result → self.old ≡ word.now ∷ self.new }
@@ -128,7 +129,8 @@ impl<'a, const SEPARATOR: u8> Words<'a, SEPARATOR> {
         Ok(HygieneId::new(SyntaxContext::Expansion(self.number()?)))
     }
 
-    /// Takes the next word, if it is the number of a macro expansion; where no word is left, the hygiene is that of source text.
+    /// Takes the next word, if it is the number of a macro expansion; where no word is left, the hygiene is
+    /// that of source text.
     pub fn hygiene(&mut self) -> Result<HygieneId, Malformed>
         ensures { ReadsWords hygiene self.old result self.new }
     {
@@ -138,7 +140,8 @@ impl<'a, const SEPARATOR: u8> Words<'a, SEPARATOR> {
         self.expansion()
     }
 
-    /// Takes all the words that are left, if each says a value of this type. That memory was refused is said behind the last.
+    /// Takes all the words that are left, if each says a value of this type. That an allocation fails is said
+    /// after the last.
     pub fn each<T: Word + Drop>(&mut self, alloc: Global) -> Result<Seq<T>, LineError>
         ensures { ReadsAll (each T.meaning) self.old result }
     {
@@ -178,8 +181,9 @@ impl<'a, const SEPARATOR: u8> Words<'a, SEPARATOR> {
 }
 
 impl<'a> Words<'a, b' '> {
-    /// The numbers of the last word, if it is a list of them. That memory was refused is said behind the last.
-    // The word isn't cut off first: where another is behind it, one of the numbers has a space, and is none.
+    /// The numbers of the last word, if it is a list of them. That an allocation fails is said after the
+    /// last.
+    // The word isn't cut off first: where another is after it, one of the numbers has a space, and is none.
     pub fn list<K>(&self, alloc: Global) -> Result<ShortList<Idx<K>>, LineError>
         ensures { ReadsAll list self.now result }
     {
@@ -200,7 +204,8 @@ pub trait Word: Sized {
 }
 
 /// The name that a word is.
-// Always inlined, as `path_of` is, so that the name goes into its arena without a copy on the way: see `with_zeros` of `hir_base`.
+// Always inlined, as `path_of` is, so that the name goes into its arena without a copy on the way: see
+// `with_zeros` of `hir_base`.
 #[inline(always)]
 pub fn name_of(alloc: Global, word: &[u8]) -> Result<Name, AllocError>
     requires { is_name word.now ≡ true }
@@ -251,7 +256,7 @@ fn and_id<K>(
     kept.push(alloc, id)
 }
 
-/// An item more, where the items before it were kept.
+/// One element more, where the elements before it were kept.
 fn and_item<T: Drop>(kept: Result<Seq<T>, AllocError>, item: T) -> Result<Seq<T>, AllocError>
     ensures { (items : List T) → IfOk kept (λ old. old ≡ items)
         → IfOk result (λ new. new ≡ items ++ item ∷ []) }

@@ -14,6 +14,6 @@ AppendsPrefix (Some xs) None bytes = Unit {0}
 AppendsPrefix (Some xs) (Some ys) bytes =
     (done missing : List ℕ) × (bytes ≡ done ++ missing) × (ys ≡ xs ++ done)
 
--- of these bytes all but the rest were written
+-- all of these bytes but the suffix that is left were written
 abbrev pub IsWrittenUpTo : Option (List ℕ) → Option (List ℕ) → List ℕ → List ℕ → Type 0
 IsWrittenUpTo old new bytes rest = (done : List ℕ) × (bytes ≡ done ++ rest) × Appends old new done

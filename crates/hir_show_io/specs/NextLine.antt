@@ -1,4 +1,5 @@
--- What asking for the next line does: to the lines, to the bytes that the source shows, and to the output that waits.
+-- What asking for the next line does: to the lines, to the bytes that the source shows, and to the output
+-- that waits.
 use Rattle.std.specs.Prelude.{◌≡◌, ℕ, Bool, true, false, List, [], ◌++◌, Option, None, Some, Result, Ok, Err, IfSome}
 use Rattle.std.specs.Io.KnownBytes.{Appends, IsAtEnd, Keeps}
 use Rattle.hir_show_io.specs.declared.next.LineFault.{LineFault}
@@ -7,7 +8,8 @@ use Rattle.hir_show_io.specs.Effects.{AppendsPrefix, IsWrittenUpTo}
 use Rattle.hir_show_io.specs.Text.{HasNoLineEnd, TakesLine}
 use Rattle.hir_show_io.specs.LineState.{LineState}
 
--- the bytes that are still to be taken, if shown: those pending, and after them what the source has left, unless its end was met
+-- the bytes that are still to be taken, if shown: those pending, and after them what the source has left,
+-- unless its end was reached
 abbrev pub bytes_left : List ℕ → Bool → Option (List ℕ) → Option (List ℕ)
 bytes_left pending at_end None = None
 bytes_left pending true (Some rest) = Some pending
@@ -26,7 +28,8 @@ IsBegunLine (Some text) remaining begun =
     (unread : List ℕ) × (text ≡ begun ++ unread) × HasNoLineEnd begun
     × IfSome remaining (λ rest. rest ≡ unread)
 
--- what becomes of the lines, by the bytes still to be taken before and after, and those that the source has left
+-- what becomes of the lines, by the bytes still to be taken before and after, and those that the source has
+-- left
 abbrev pub NextTakes : Option (List ℕ) → Option (List ℕ) → Option (List ℕ) → LineState → LineState →
     Result Bool LineFault → Type 0
 NextTakes known known' remaining old new (Ok true) = TakesTold known known' new.line new.at_end

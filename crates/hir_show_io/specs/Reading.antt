@@ -21,7 +21,7 @@ Takes old new Line =
 Takes old new More = (new ≡ old) × (old.at_end ≡ false) × HasNoLineEnd old.pending
 Takes old new End = (new ≡ without_line old) × (old.at_end ≡ true) × (old.pending ≡ [])
 
--- a read gave these bytes; none of them mean the end
+-- a read gave these bytes; no bytes are the end of the input
 abbrev pub with_bytes : LineState → List ℕ → LineState
 with_bytes old bytes =
     record { line = []; pending = old.pending ++ bytes; at_end = eqb (length bytes) 0; count = old.count }

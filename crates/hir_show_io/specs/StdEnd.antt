@@ -1,4 +1,4 @@
--- What the answer of one call of a std reader or writer means, and what a failed read leaves.
+-- What the result of one call of a std reader or writer says, and what a failed read leaves.
 use Rattle.std.specs.Prelude.{◌≡◌, ◌≢◌, ℕ, ◌<◌, ◌≤◌, Bool, cond, List, length, Option, None, Some, Result, Ok, Err}
 use Rattle.std.specs.IoError.{error_kind}
 use Rattle.std.specs.declared.io.Error.{Error}
@@ -6,7 +6,8 @@ use Rattle.std.specs.declared.io.ErrorKind.TheVariants.{Interrupted}
 use Rattle.hir_show_io.specs.declared.std_end.Attempt.{Attempt}
 use Rattle.hir_show_io.specs.declared.std_end.Attempt.TheVariants.{Done, Again, Failed, Overrun}
 
--- a read that took no more than may still be read is done, and an overrun is one that took more; one that was interrupted is retried
+-- a read that took no more than may still be read is done, and an overrun is one that took more; one that was
+-- interrupted is retried
 abbrev pub ReadMeans : Result ℕ Error → ℕ → Attempt → Type 0
 ReadMeans (Ok n) left (Done count) = (count ≡ n) × (n ≤ left)
 ReadMeans (Ok n) left Again = ⊥
@@ -32,7 +33,8 @@ WriteMeans (Err e) asked Overrun = ⊥
 abbrev pub unless_overrun : Bool → Option (List ℕ) → Option (List ℕ)
 unless_overrun has_overrun known = cond has_overrun None known
 
--- what a failed read leaves: the shown bytes as they were. They are no longer shown only if they were more than may be read
+-- what a failed read leaves: the shown bytes as they were. They are no longer shown only if they were more
+-- than may be read
 abbrev pub IsKeptWithin : ℕ → Option (List ℕ) → Option (List ℕ) → Type 0
 IsKeptWithin left None new = Unit {0}
 IsKeptWithin left (Some xs) None = left < length xs

@@ -28,13 +28,15 @@ IsFirstLineEnd bytes None = HasNoLineEnd bytes
 IsFirstLineEnd bytes (Some i) =
     (i < length bytes) × HasNoLineEnd (take i bytes) × (bytes ≡ take i bytes ++ 10 ∷ drop (i + 1) bytes)
 
--- the first line of a text, and the text after it; only if no more bytes can come is a line without its end one
+-- the first line of a text, and the text after it; only if no more bytes can come is a line without its end
+-- one
 abbrev pub TakesLine : List ℕ → List ℕ → List ℕ → Bool → Type 0
 TakesLine text rest line at_end =
     HasNoLineEnd line
     × ((text ≡ line ++ 10 ∷ rest) ⊎ ((at_end ≡ true) × (0 < length line) × (text ≡ line) × (rest ≡ [])))
 
--- these are the first lines of the input, and this is what follows them; before its end is met, each of them has its own line end
+-- these are the first lines of the input, and this is what follows them; before its end is reached, each of
+-- them has its own line end
 abbrev pub IsRead : List ℕ → List (List ℕ) → List ℕ → Bool → Type 0
 IsRead input texts rest false = (input ≡ flat_map with_line_end texts ++ rest)
     × AllByRecursion HasNoLineEnd texts

@@ -1,4 +1,5 @@
-//! Sources and sinks: where bytes are read from and written to, what they show of them, and how to write a whole slice.
+//! Sources and sinks: where bytes are read from and written to, what they show of them, and how to write a
+//! whole slice.
 
 ghost use Rattle.std.specs.Prelude.{◌≡◌, ◌+◌, ◌≤◌, ◌<◌, ◌^◌, ◌||◌, [], List, ℕ, Bool, Option, IfOk, IsOk, OnErr, OnOk, take, length, is_err};
 ghost use Rattle.std.specs.Fmt.{decimal};
@@ -27,8 +28,9 @@ impl fmt::Display for EndFailed {
 
 /// Where bytes are read from.
 ///
-/// A contract sees a source as the bytes that it has left, if it shows them, whether a call has failed, and a number below 2^64
-/// that falls by each byte read, so that reading ends and lines can be counted in 64 bits.
+/// A contract sees a source as the bytes that it has left, if it shows them, whether a call has failed, and a
+/// number below 2^64 that decreases with each byte read, so that reading ends and lines can be counted in 64
+/// bits.
 pub trait Source {
     // The bytes that are left to read, if they are shown.
     ghost remaining: { Self → Option (List ℕ) };
@@ -36,11 +38,12 @@ pub trait Source {
     // Whether a call has failed.
     ghost is_failed: { Self → Bool };
 
-    // A number that falls by each byte that is read.
+    // A number that decreases with each byte that is read.
     ghost allowance: { Self → ℕ };
 
-    /// Reads some bytes into the front of the buffer, and answers how many: none only at the end, or if there is no room.
-    /// After an `Err` the bytes left are as before or no longer shown, and `has_failed` is true from then on.
+    /// Reads some bytes into the start of the buffer, and returns how many: none only at the end, or if there
+    /// is no room. After an `Err` the bytes left are as before or no longer shown, and `has_failed` is true
+    /// from then on.
     fn read(&mut self, buffer: &mut [u8]) -> Result<usize, EndFailed>
         ensures count { IfOk result (λ n. n ≤ length buffer.new) }
         ensures bytes { IfOk result
@@ -60,7 +63,8 @@ pub trait Source {
 
 /// Where bytes are written to.
 ///
-/// A contract sees a sink as the bytes that were written to it, if it shows them, and whether a call has failed.
+/// A contract sees a sink as the bytes that were written to it, if it shows them, and whether a call has
+/// failed.
 pub trait Sink {
     // The bytes that were written, if they are shown.
     ghost contents: { Self → Option (List ℕ) };
@@ -68,8 +72,9 @@ pub trait Sink {
     // Whether a call has failed.
     ghost is_failed: { Self → Bool };
 
-    /// Writes some bytes from the front of the buffer, at least one if there are any, and answers how many. After an
-    /// `Err` what was written is as before or no longer shown, and `has_failed` is true from then on.
+    /// Writes some bytes from the start of the buffer, at least one if there are any, and returns how many.
+    /// After an `Err` what was written is as before or no longer shown, and `has_failed` is true from then
+    /// on.
     fn write(&mut self, buffer: &[u8]) -> Result<usize, EndFailed>
         ensures count { IfOk result (λ n. n ≤ length buffer.now) }
         ensures progress { IfOk result (λ n. 0 < length buffer.now → 0 < n) }
@@ -83,7 +88,8 @@ pub trait Sink {
         ensures { result ≡ is_failed self.now };
 }
 
-/// Writes all the bytes. After an `Err` a prefix of them was written. If there are none, the writer isn't called.
+/// Writes all the bytes. After an `Err` a prefix of them was written. If there are none, the writer isn't
+/// called.
 pub fn write_all<W: Sink>(writer: &mut W, bytes: &[u8]) -> Result<(), EndFailed>
     ensures bytes { OnOk result (Appends (W.contents writer.old) (W.contents writer.new) bytes.now) }
     ensures err { OnErr result (AppendsPrefix (W.contents writer.old) (W.contents writer.new) bytes.now) }

@@ -1,4 +1,4 @@
-//! What is true of the values that calls answer, as a contract of a function that does nothing.
+//! Theorems about the values that calls return, each the contract of a function that does nothing.
 
 ghost use Rattle.std.specs.Prelude.{◌≡◌};
 ghost use Rattle.std.specs.Bool.{Decides};
@@ -8,7 +8,7 @@ use crate::lines::{FillFault, LineTaken};
 use crate::next::LineFault;
 use crate::std_end::Attempt;
 
-/// Answers and faults of this crate are equal exactly if all their fields are.
+/// Results and faults of this crate are equal exactly if all their fields are.
 pub fn answers_are_compared_by_all_fields()
     ensures failures { (x y : EndFailed) → Decides (⟦<EndFailed as PartialEq>⟧.eq x y) (x ≡ y) }
     ensures fills { (x y : FillFault) → Decides (⟦<FillFault as PartialEq>⟧.eq x y) (x ≡ y) }

@@ -1,5 +1,5 @@
-//! Where the program's bytes come from and where they go: sources and sinks, the lines of a source, buffered output, and
-//! asking for the next line.
+//! Where the program's bytes come from and where they go: sources and sinks, the lines of a source, buffered
+//! output, and asking for the next line.
 #![tactic(auto)]
 
 mod ends;

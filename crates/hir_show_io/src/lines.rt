@@ -1,4 +1,5 @@
-//! The lines of a source, which is read block by block: a line that is whole in the buffer is borrowed from it and never copied.
+//! The lines of a source, which is read block by block: a line that is whole in the buffer is borrowed from
+//! it and never copied.
 
 ghost use Rattle.hir_show_io.specs.Text.{IsFirstLineEnd};
 ghost use Rattle.std.specs.Prelude.{◌≡◌, ◌+◌, ◌-◌, ◌*◌, ◌≤◌, ◌<◌, ◌^◌, ◌||◌, [], false, IfOk, OnOk, length, take, slice_range, vec_len, List, ℕ};
@@ -27,7 +28,7 @@ pub enum LineTaken {
 /// Why no more bytes were read.
 #[derive(Clone, Copy, Debug, Drop, PartialEq, Eq, Error)]
 pub enum FillFault {
-    /// Memory for a longer line was refused, before the read.
+    /// An allocation for a longer line failed, before the read.
     OutOfMemory,
     /// The read failed.
     InputFailed,
@@ -50,8 +51,9 @@ impl fmt::Display for FillFault {
 
 /// Takes the lines of a source.
 ///
-/// It is seen as the line taken last, the bytes that were read and not yet taken, whether the end was met, and how many lines
-/// were taken. A line is borrowed from the buffer, which grows only for a longer line.
+/// It is modelled as the line taken last, the bytes that were read and not yet taken, whether the end was
+/// reached, and how many lines were taken. A line is borrowed from the buffer, which grows only for a longer
+/// line.
 #[derive(Drop)]
 pub struct LineReader {
     bytes: Vec<u8>,
@@ -96,7 +98,7 @@ fn find_line_end(bytes: &[u8]) -> Option<usize>
     memchr_iter(b'\n', bytes).next()
 }
 
-/// Moves the bytes from `start` to `filled` to the front, with room for a block after them.
+/// Moves the bytes from `start` to `filled` to the start of the buffer, with room for a block after them.
 fn make_room(bytes: &mut Vec<u8>, start: usize, filled: usize) -> Result<(), AllocError>
     requires in_order { (start ≤ filled) × (filled ≤ vec_len bytes.old) }
     requires has_block { 65536 ≤ vec_len bytes.old }
@@ -119,7 +121,7 @@ impl LineReader {
 
     /// A reader that has taken no line, with room for one block.
     ///
-    /// `AllocError` if that memory was refused.
+    /// `AllocError` if an allocation fails.
     pub fn new(alloc: Global) -> Result<Self, AllocError>
         ensures { IfOk result (λ r. r ≡ record { line = []; pending = []; at_end = false; count = 0 }) }
     {
@@ -135,7 +137,8 @@ impl LineReader {
         })
     }
 
-    /// The line taken last, without its end; empty before the first, once more bytes were asked for, and once all lines were taken.
+    /// The line taken last, without its end; empty before the first, once more bytes were asked for, and once
+    /// all lines were taken.
     pub fn line(&self) -> &[u8]
         ensures { result.now ≡ self.now.line }
     {
@@ -149,7 +152,8 @@ impl LineReader {
         self.count
     }
 
-    /// Takes a line from the pending bytes, without a read. The last line may lack its end once the end of the input was met.
+    /// Takes a line from the pending bytes, without a read. The last line may lack its end once the end of
+    /// the input was reached.
     pub fn take_line(&mut self) -> LineTaken
         requires { self.old.count + length self.old.pending < 2 ^ 64 }
         ensures { Takes self.old self.new result }
@@ -183,10 +187,11 @@ impl LineReader {
         }
     }
 
-    /// Reads once, after the pending bytes, and asks for a block at least. A read of no bytes is the end of the input.
+    /// Reads once, after the pending bytes, and asks for a block at least. A read of no bytes is the end of
+    /// the input.
     ///
-    /// `OutOfMemory` if the buffer had to grow and couldn't: nothing was read. `InputFailed` if the read failed. After either
-    /// the pending bytes are as before, and the call can be retried.
+    /// `OutOfMemory` if the buffer had to grow and couldn't: nothing was read. `InputFailed` if the read
+    /// failed. After either the pending bytes are as before, and the call can be retried.
     pub fn fill<R: Source>(&mut self, reader: &mut R) -> Result<(), FillFault>
         ensures fills { Fills self.old self.new (R.remaining reader.old) (R.remaining reader.new) result }
         ensures unread { result ≡ Err FillFault.OutOfMemory → reader.new ≡ reader.old }

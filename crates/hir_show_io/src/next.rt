@@ -1,4 +1,5 @@
-//! Asking for the next line. Waiting output is written before each read: who asks one question and waits gets its answer.
+//! Reading the next line. Waiting output is written before each read: a user who asks one question and waits
+//! gets its answer.
 
 ghost use Rattle.std.specs.Prelude.{◌≡◌, ◌+◌, ◌≤◌, ◌<◌, ◌^◌, ◌||◌, ◌⊎◌, [], true, false, length, cond};
 ghost use Rattle.hir_show_io.specs.Text.{HasNoLineEnd};
@@ -13,7 +14,7 @@ use thiserror::Error;
 /// Why the next line can't be taken.
 #[derive(Clone, Copy, Debug, Drop, PartialEq, Eq, Error)]
 pub enum LineFault {
-    /// Memory for a longer line was refused.
+    /// An allocation for a longer line failed.
     OutOfMemory,
     /// A read failed.
     InputFailed,
@@ -37,11 +38,13 @@ impl fmt::Display for LineFault {
     }
 }
 
-/// Takes the next line, and answers whether there is one. It reads only if no whole line is pending, and first writes what waits.
+/// Takes the next line, and returns whether there is one. It reads only if no whole line is pending, and
+/// first writes what waits.
 ///
-/// `InputFailed` if a read failed: the pending bytes are the beginning of a line. `OutputFailed` if what waited couldn't be
-/// written: a prefix of it was. `OutOfMemory` if memory for a longer line was refused. After the first and the last what waited
-/// is written, after each nothing waits, and no byte that was read is lost.
+/// `InputFailed` if a read failed: the pending bytes are the beginning of a line. `OutputFailed` if what
+/// waited couldn't be written: a prefix of it was. `OutOfMemory` if an allocation for a longer line failed.
+/// After the first and the last what waited is written, after each nothing waits, and no byte that was read
+/// is lost.
 pub fn next_line<R: Source, W: Sink>(
     lines: &mut LineReader,
     reader: &mut R,
@@ -74,7 +77,8 @@ pub fn next_line<R: Source, W: Sink>(
 }
 
 /// Does what `next_line` does, where no whole line is pending.
-// Nearly every line is pending as a whole. That this stands apart takes six hundredths of the instructions of making away.
+// Nearly every line is pending as a whole. A function of its own for the other case saves 6 % of the
+// instructions of making.
 #[inline(never)]
 fn read_line<R: Source, W: Sink>(
     lines: &mut LineReader,

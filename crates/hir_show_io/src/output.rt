@@ -1,4 +1,5 @@
-//! Buffered output, so that many short writes become few calls of a sink. It takes its memory once, at the start.
+//! Buffered output, so that many short writes become few calls of a sink. It takes its memory once, at the
+//! start.
 
 ghost use Rattle.std.specs.Prelude.{◌≡◌, ◌+◌, ◌≤◌, ◌||◌, ◌++◌, [], true, length, IfOk, OnOk, OnErr, IsOk, is_err, cond};
 ghost use Rattle.std.specs.Fmt.{decimal};
@@ -13,7 +14,7 @@ use std::marker::Model;
 /// How many bytes can wait at most.
 const CAPACITY: usize = 65536;
 
-/// The bytes that wait to be written, seen as a list. Writing needs no memory.
+/// The bytes that wait to be written, modelled as a list. Writing needs no memory.
 #[derive(Drop)]
 pub struct OutputBuffer {
     bytes: Vec<u8>,
@@ -32,7 +33,7 @@ impl Model for OutputBuffer {
 impl OutputBuffer {
     /// An empty buffer, with all its memory.
     ///
-    /// `AllocError` if that memory was refused.
+    /// `AllocError` if an allocation fails.
     pub fn new(alloc: Global) -> Result<Self, AllocError>
         ensures { IfOk result (λ b. b ≡ []) }
     {
@@ -41,7 +42,7 @@ impl OutputBuffer {
         })
     }
 
-    /// Adds bytes to those that wait, if they fit, and answers whether they did.
+    /// Adds bytes to those that wait, if they fit, and returns whether they did.
     fn hold(&mut self, bytes: &[u8]) -> bool
         ensures added { self.new ≡ self.old ++ cond result bytes.now [] }
         ensures fits { length self.old + length bytes.now ≤ CAPACITY → result ≡ true }
@@ -50,8 +51,8 @@ impl OutputBuffer {
             && self.bytes.extend_from_slice(bytes).is_ok()
     }
 
-    /// Adds bytes to those that wait. If they would be more than 65,536, it first writes what waits; if they fit, the
-    /// writer isn't called.
+    /// Adds bytes to those that wait. If they would be more than 65,536, it first writes what waits; if they
+    /// fit, the writer isn't called.
     ///
     /// After an `Err` a prefix of what waited followed by these bytes was written, and nothing waits.
     pub fn write<W: Sink>(&mut self, bytes: &[u8], writer: &mut W) -> Result<(), EndFailed>

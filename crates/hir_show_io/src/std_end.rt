@@ -1,5 +1,5 @@
-//! The readers and writers of the standard library as sources and sinks: which of their answers count as failed, and how often
-//! an interrupted call is retried.
+//! The readers and writers of the standard library as sources and sinks: which of their results count as
+//! failed, and how often an interrupted call is retried.
 
 ghost use Rattle.std.specs.Prelude.{◌≡◌, ◌+◌, ◌-◌, ◌^◌, ◌≤◌, ◌<◌, ◌||◌, false, min, length, take, is_err, IfOk, OnErr};
 ghost use Rattle.std.specs.Io.KnownBytes.{Appends, Consumes, IsAtEnd, Keeps};
@@ -11,7 +11,7 @@ use std::io::{ErrorKind, Read, Result as IoResult, Write};
 /// How often in a row an interrupted call is retried.
 const RETRIES: u32 = 1000;
 
-/// What the answer of one std call means for a source or a sink.
+/// What the result of one std call says to a source or a sink.
 #[derive(Clone, Copy, PartialEq, Eq)]
 pub enum Attempt {
     /// The call took so many bytes.
@@ -24,8 +24,8 @@ pub enum Attempt {
     Overrun,
 }
 
-/// What the answer of a std read means, if at most `left` bytes may still be read: more of them are an overrun, and each error
-/// but an interruption counts as failed.
+/// Classifies the result of a std read, if at most `left` bytes may still be read: more of them are an
+/// overrun, and each error but an interruption counts as failed.
 pub fn read_attempt(answer: IoResult<usize>, left: u64) -> Attempt
     ensures { ReadMeans answer left result }
 {
@@ -47,8 +47,8 @@ pub fn read_attempt(answer: IoResult<usize>, left: u64) -> Attempt
     }
 }
 
-/// What the answer of a std write of `asked` bytes means: to take none of some bytes counts as failed, and so does each error
-/// but an interruption.
+/// Classifies the result of a std write of `asked` bytes: to take none of some bytes counts as failed, and so
+/// does each error but an interruption.
 pub fn write_attempt(answer: IoResult<usize>, asked: usize) -> Attempt
     ensures { WriteMeans answer asked result }
 {
@@ -72,10 +72,10 @@ pub fn write_attempt(answer: IoResult<usize>, asked: usize) -> Attempt
 
 /// A reader or a writer of the standard library, as a source or a sink.
 ///
-/// An interrupted call is retried, at most 1,000 times in a row; one interruption more is a failed call. So is a read of more
-/// bytes than the allowance, which is at first the greatest `u64`, and a write that takes none of some bytes. A failed call
-/// leaves the bytes as they were, but for a read past the allowance, whose bytes are lost: after it the source no longer shows
-/// what it has left.
+/// An interrupted call is retried, at most 1,000 times in a row; one interruption more is a failed call. So
+/// is a read of more bytes than the allowance, which is at first the greatest `u64`, and a write that takes
+/// none of some bytes. A failed call leaves the bytes as they were, but for a read past the allowance, whose
+/// bytes are lost: after it the source no longer shows what it has left.
 #[derive(Drop)]
 pub struct StdEnd<T> {
     inner: T,

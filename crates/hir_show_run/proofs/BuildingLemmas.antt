@@ -87,7 +87,7 @@ module _ (known : Option (List ℕ)) (p : RunState) (parts : Parts) (all : SoFar
     there : (maker : Maker) → line_of q.lines.line ≡ Make maker → line_after texts q.lines.line ≡ (if is_second parts maker then Bad else Make maker)
     there maker says = after_make parts texts q.lines.line maker tells says
 
-    -- it is bad there, or memory was refused to it
+    -- it is bad there, or an allocation for it failed
     pub build_line_fails : (new after : Parts) (fault : RunFault) → BuildsLine q.lines parts new (Err fault) → Builds known q after (Err fault)
     build_line_fails new after OutOfMemory (maker, says, first) =
         let good : line_after texts q.lines.line ≡ Make maker = there maker says ∙ ap (λ b. if b then Bad else Make maker) first in
@@ -100,7 +100,7 @@ module _ (known : Option (List ℕ)) (p : RunState) (parts : Parts) (all : SoFar
     build_line_fails new after (Refused fault) does = absurd does
     build_line_fails new after (BodyRefused fault) does = absurd does
 
-    -- it makes nothing: it is a question, or bad, or memory was refused to it
+    -- it makes nothing: it is a question, or bad, or an allocation for it failed
     pub asked_next : (result : Result (Option Question) RunFault) → makes (line_of q.lines.line) ≡ false → IsAsked q.lines result → Builds known q parts result
     asked_next (Ok None) left says = absurd (true≢false (sym (ap makes says) ∙ left))
     asked_next (Ok (Some question)) left says = (texts, m, says, read_on, counted_on)

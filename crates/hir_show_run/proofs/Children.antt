@@ -1,4 +1,4 @@
--- What is known of an expression, by whether it is there; and of its root, by whether there is one.
+-- What is known of an expression, by whether it exists; and of its root, by whether there is one.
 use Rattle.std.proofs.Common.{◌≡◌, ◌<◌, ◌≤◌, ◌++◌, ℕ, List, Option, Some, None, IsSome, length, if◌then◌else◌, refl, ap, codes, decimal, lt-ltb, le-ltb}
 use Rattle.hir_forest.specs.declared.roots.Root.{Root}
 use Rattle.hir_validate.specs.Nodes.{Nodes}

@@ -32,7 +32,7 @@ then_some_waiting : (start p : Output) (new : Option (List ℕ)) (text : List �
 then_some_waiting start p new text none w g =
     subst (λ (x : List ℕ). AppendsPrefix start.contents new (x ++ text)) none (subst (λ (x : List ℕ). AppendsPrefix start.contents new x) (sym w.1) (AppendsPrefix-after start.contents p.contents new w.0 p.waiting w.2 g))
 
--- a front of the text, where nothing waited
+-- a prefix of the text, where nothing waited
 prefix : (start p : Output) (text : List ℕ) → start.waiting ≡ [] → WrotePrefix start p text → AppendsPrefix start.contents p.contents text
 prefix start p text none g = subst (λ (x : List ℕ). AppendsPrefix start.contents p.contents (x ++ text)) none g.0
 
@@ -116,7 +116,7 @@ accept_reads_none old new (Err (BodyRefused fault)) a = absurd a
 pub none_before : (now old : Bool) (failed : Bool) → now ≡ (failed || old) → old ≡ false → now ≡ failed
 none_before now old failed is none = is ∙ ap (λ b. failed || b) none ∙ or-false failed
 
--- what waits can't be lost behind a failed read
+-- what waits can't be lost after a failed read
 pub closes_reads : (old new : Option (List ℕ)) (waiting : List ℕ) (outcome result : Outcome) → Closes old new waiting outcome result → (is_input_failed outcome ≡ true → waiting ≡ []) → is_input_failed outcome ≡ is_input_failed result
 closes_reads old new waiting outcome result (inl c) quiet = ap (λ (r : Outcome). is_input_failed r) (sym c.0)
 closes_reads old new waiting outcome result (inr c) quiet =

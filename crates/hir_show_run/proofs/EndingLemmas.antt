@@ -26,11 +26,11 @@ answers-alone ls all =
     let e : ls ++ [] ≡ ls = append-nil ls in
     rw e at (runs_after (writes [] (Ok tt)) ls [] [] (Ok tt) all no_line (refl, refl))
 
--- a bad line behind them
+-- a bad line after them
 meaning-bad : (ls rest : List Line) → list_all makes ls ≡ true → IsMeaning (ls ++ Bad ∷ rest) [] (Err (BadLine (length ls + 1)))
 meaning-bad ls rest all = means_after ls (Bad ∷ rest) [] _ all (outside refl) (refl, refl)
 
--- no line behind them
+-- no line after them
 meaning-alone : (ls : List Line) (text : List ℕ) (outcome : Outcome) → list_all makes ls ≡ true → accepts (built_by ls) text outcome → IsMeaning ls text outcome
 meaning-alone ls text outcome all trace =
     let e : ls ++ [] ≡ ls = append-nil ls in
@@ -110,7 +110,7 @@ module _ (input : List ℕ) (start : Output) (p : RunState) (built : Parts) (not
       by (Err InputFailed) a = absurd a
       by (Err OutOfMemory) a = absurd a
 
--- the parts of a body have a fault, or memory was refused
+-- the parts of a body have a fault, or an allocation fails
 pub body_ends : (input : List ℕ) (start : Output) (p : RunState) (question : Question) (built : Parts) (text : List ℕ) (fault : RunFault) → StandsAt input p question (on_body built) text → IsBodyOf (body_parts built) (Err fault) → Wrote start p.output text → EndsWith input (Wrote start p.output) (WrotePrefix start p.output) p.remaining p.lines (Err fault)
 body_ends input start p question built text (BodyRefused fault) at (first, same, verdict) wrote =
     rw same (ends_there input p question (on_body built) text at (Wrote start p.output) _ wrote (λ good more. (Some first, verdict, (refl, refl))))
@@ -121,7 +121,8 @@ body_ends input start p question built text (BadLine n) at m wrote = absurd m
 body_ends input start p question built text InputFailed at m wrote = absurd m
 body_ends input start p question built text OutputFailed at m wrote = absurd m
 
--- what comes behind the questions on the store: nothing, or a bad line, ends the run; a question on the body goes on
+-- what comes after the questions on the store: nothing, or a bad line, ends the run; a question on the body
+-- goes on
 pub store_end : (built : Parts) (n : ℕ) → after_store built n [] [] (Ok tt)
 store_end built n = (refl, refl)
 

@@ -19,7 +19,7 @@ use Rattle.hir_show_run.specs.Parts.{Parts, body_parts}
 use Rattle.hir_show_run.specs.Answer.{IsChainOf, AreCapturesOf, IsBodyAnswer, IsStoreAnswer, IsAnswer, chain_answer, resolve_answer, captures_answer}
 use Rattle.hir_show_run.specs.Program.{Outcome, Trace, writes, stops, unless_refused, fault_or, if_so, is_of_store, prefix, suffix, IsLineAnswer, AreAnswers, section, on_body, after_store, on_store, after_making, accepts, first_parts, making, ScriptRuns, IsMeaning}
 
--- a course writes one text and ends in one way
+-- a trace writes one text and ends in one way
 abbrev pub One : Trace → Type 0
 One trace = (text more : List ℕ) (outcome other : Outcome) → trace text outcome → trace more other → (text ≡ more) × (outcome ≡ other)
 

@@ -208,7 +208,7 @@ missing_parenthesized : (b : Bool) (ps : List DocPiece) → first_missing ps ≡
 missing_parenthesized true ps h = missing_two ps (Present _ ∷ []) h refl
 missing_parenthesized false ps h = h
 
--- the pieces of items that lack none, where those of nodes lack none
+-- the doc pieces of documents that lack none, where those of nodes lack none
 module _ (s : PrintEnv) (self : NodeId → List DocPiece) (none : (n : NodeId) → first_missing (self n) ≡ None) where
   item_missing : (is : List Doc) → NoneLacks is → first_missing (flat_map (doc_pieces s self) is) ≡ None
   item_missing [] h = refl

@@ -1,4 +1,4 @@
--- What the printer answers of a body, over the tables that have the name of function 0.
+-- What the printer returns of a body, over the tables that have the name of function 0.
 use Rattle.std.proofs.Common.{◌≡◌, ℕ, List, Option, Some, None, Result, Ok, Err, false, sym, subst, ◌∙◌, IfOk, String, string_bytes}
 use Rattle.hir_base.specs.RawWords.{words_of}
 use Rattle.hir_base.specs.declared.defs.DefWithBodyId.TheVariants as body
@@ -19,7 +19,7 @@ use Rattle.hir_show_run.specs.OfLines.{AreOfLines}
 use Rattle.hir_show_run.specs.Printing.{tables_of, printed_from, body_pieces, body_text}
 use Rattle.hir_show_run.proofs.OutsideLemmas.{nothing_missing}
 
--- what printing the body of a function answers over some tables
+-- what printing the body of a function returns over some tables
 abbrev Printing : {Z : Type 0} → BodyContents → Tables → ℕ → Result (String Z) PrintFault → Type 0
 Printing b t id result =
     PrintsPieces (print_env b.store (lookups_of t) (words_of t.words Edition2021) false)

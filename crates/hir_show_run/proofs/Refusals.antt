@@ -1,4 +1,4 @@
--- Where memory was refused: at the line that was taken last, or behind all lines that were taken.
+-- Where an allocation fails: at the line that was taken last, or after all lines that were taken.
 use Rattle.std.proofs.Common.{◌≡◌, ◌≢◌, ◌+◌, ℕ, true, List, [], ◌∷◌, ◌++◌, Option, Some, length, refl, sym, ap, ◌∙◌, subst, append_assoc, arith}
 use Rattle.std.specs.List.{list_all}
 use Rattle.hir_show_io.specs.Reads.{ReadsPrefix}
@@ -20,7 +20,7 @@ pub after_line : (MayCome : List ℕ → Type 0) (before : ℕ) (known : Option 
 after_line MayCome before known texts [] count some prefix counted may = absurd (some refl)
 after_line MayCome before known texts (b ∷ bs) count some prefix counted may = (prefix, counted, may)
 
--- behind all
+-- after all
 pub after_none : (MayCome : List ℕ → Type 0) (before : ℕ) (known : Option (List ℕ)) (texts : List (List ℕ)) (line : List ℕ) (count : ℕ) → line ≡ [] → ReadsPrefix known texts → count ≡ before + length texts → OutOfMemoryAt MayCome before known texts line count
 after_none MayCome before known texts line count none prefix counted = subst (λ (l : List ℕ). OutOfMemoryAt MayCome before known texts l count) (sym none) (prefix, counted)
 
@@ -46,7 +46,7 @@ refused_asking texts rest [] count question is counted = absurd (some_text [] (A
 refused_asking texts rest (b ∷ bs) count question is counted =
     (counted, rest, refl, asks_come (script texts) (line_after texts (b ∷ bs)) (ap asks (after_question texts (b ∷ bs) question is)))
 
--- at a line that asks, behind others
+-- at a line that asks, after others
 pub refused_after : (texts rest : List (List ℕ)) (line : List ℕ) (count : ℕ) → (line ≡ [] → ⊥) → count ≡ length texts + 1 → asks (line_of line) ≡ true → IsRefusedAfter texts (line ∷ rest) line count
 refused_after texts rest [] count some counted asked = absurd (some refl)
 refused_after texts rest (b ∷ bs) count some counted asked =

@@ -25,7 +25,7 @@ nothing_appended : (known : Option (List ℕ)) → Appends known known []
 nothing_appended None = tt
 nothing_appended (Some bytes) = sym (append-nil bytes)
 
--- memory is refused before any line is read
+-- an allocation fails before any line is read
 pub runs_out_first : (known old remaining : Option (List ℕ)) (ls : LineState) → ls ≡ no_lines → RunsTo known old remaining old ls (Err OutOfMemory)
 runs_out_first None old remaining ls fresh = tt
 runs_out_first (Some input) old remaining ls fresh = rw fresh ([], lines input, refl, refl, [], answers-alone [] refl, nothing_appended old)

@@ -1,4 +1,4 @@
--- Scripts in parts: which lines are a second self parameter or a second name is told by the lines before.
+-- Scripts in parts: which lines are a second self parameter or a second name is decided by the lines before.
 use Rattle.std.proofs.Common.{◌≡◌, Bool, true, false, ◌||◌, List, [], ◌∷◌, ◌++◌, None, is_some, ℕ, suc, if◌then◌else◌, refl, sym, ap, ◌∙◌, length, append-nil, append_assoc, true≢false}
 use Rattle.std.proofs.Math.Bool.{or_assoc, or-false, or-true}
 use Rattle.std.specs.Cmp.{first_so, second_so}
@@ -27,7 +27,7 @@ once_each-length s n (line ∷ ls) = ap suc (once_each-length (s || gives_self l
 pub script-length : (texts : List (List ℕ)) → length (script texts) ≡ length texts
 script-length texts = once_each-length false false (says texts) ∙ length-map texts line_of
 
--- what stands behind some texts
+-- what comes after some texts
 abbrev pub lines_after : List (List ℕ) → List (List ℕ) → List Line
 lines_after texts more = once_each (list_any gives_self (says texts)) (list_any gives_name (says texts)) (says more)
 
@@ -44,7 +44,7 @@ any-push : (p : Line → Bool) (texts : List (List ℕ)) (text : List ℕ) → l
 any-push p texts text =
     ap (list_any p) (map-append line_of texts (text ∷ [])) ∙ list_any-append p (says texts) (line_of text ∷ []) ∙ ap (λ b. list_any p (says texts) || b) (or-false (p (line_of text)))
 
--- one text behind others, and then more
+-- one text after others, and then more
 pub suffix-cons : (texts more : List (List ℕ)) (text : List ℕ) → lines_after texts (text ∷ more) ≡ line_after texts text ∷ lines_after (texts ++ text ∷ []) more
 suffix-cons texts more text = rw (any-push gives_self texts text, any-push gives_name texts text) refl
 
@@ -65,7 +65,7 @@ after_question texts text question e = suffix_is texts text (ap asks e) ∙ e
 pub bad_is : (texts : List (List ℕ)) (text : List ℕ) → line_of text ≡ Bad → line_after texts text ≡ Bad
 bad_is texts text e = ap (unless_second (list_any gives_self (says texts)) (list_any gives_name (says texts))) e
 
--- questions behind others stand as they are
+-- questions after others are as they are
 pub suffix-asked : (texts questions more : List (List ℕ)) → list_all asks (says questions) ≡ true → lines_after texts (questions ++ more) ≡ says questions ++ lines_after (texts ++ questions) more
 suffix-asked texts [] more h = rw (append-nil texts) refl
 suffix-asked texts (text ∷ questions) more h =
@@ -88,12 +88,12 @@ asks-second s n Bad h = refl
 pub suffix-bad : (texts : List (List ℕ)) (text : List ℕ) → asks (line_of text) ≡ false → asks (line_after texts text) ≡ false
 suffix-bad texts text h = asks-second (list_any gives_self (says texts)) (list_any gives_name (says texts)) (line_of text) h
 
--- whether a self parameter and a name were given is told by what was made
+-- whether a self parameter and a name were given is decided by what was made
 pub record Tells (parts : Parts) (texts : List (List ℕ)) : Type 0 where
   pub self_param : is_some parts.self_param ≡ list_any gives_self (says texts)
   pub name : is_some parts.name ≡ list_any gives_name (says texts)
 
--- a line that makes something, behind others
+-- a line that makes something, after others
 pub after_make : (parts : Parts) (texts : List (List ℕ)) (text : List ℕ) (maker : Maker) → Tells parts texts → line_of text ≡ Make maker → line_after texts text ≡ (if is_second parts maker then Bad else Make maker)
 after_make parts texts text maker t e =
     ap (unless_second (list_any gives_self (says texts)) (list_any gives_name (says texts))) e

@@ -1,4 +1,4 @@
--- What a run comes to that stands at the first question of a section, by how the section ends.
+-- What a run comes to that is at the first question of a section, by how the section ends.
 use Rattle.std.proofs.Common.{◌≡◌, ◌+◌, ℕ, Bool, true, false, List, [], ◌∷◌, ◌++◌, None, Some, Ok, Err, length, inl, inr, refl, sym, ap, subst, ◌∙◌, append_assoc, append-nil, add-zero, arith, length-append}
 use Rattle.std.specs.List.{list_all}
 use Rattle.std.proofs.lemmas.List.{length-map}
@@ -31,11 +31,11 @@ module _ (input : List ℕ) (p : RunState) (question : Question) (may : Question
   taken-length : (texts : List (List ℕ)) → length (taken texts) ≡ p.lines.count + length texts
   taken-length texts = omega (arith, length-append (at.texts ++ at.last ∷ []) texts, length-append at.texts (at.last ∷ []), at.count)
 
-  -- how many lines stand before what comes behind them
+  -- how many lines come before what comes after them
   good : (texts : List (List ℕ)) → length at.texts + length (section_from question texts) ≡ p.lines.count + length texts
   good texts = omega (arith, at.count, length-map texts line_of)
 
-  -- memory was refused at one of them, or behind them
+  -- an allocation fails at one of them, or after them
   refused_line : (texts : List (List ℕ)) (line : List ℕ) (count : ℕ) → OutOfMemoryAt (λ t. asks (line_of t) ≡ true) p.lines.count (unread p) texts line count →
       (more : List (List ℕ)) × (lines input ≡ taken texts ++ more) × IsRefusedAfter (taken texts) more line count
   refused_line texts [] count (prefix, counted) =
@@ -101,7 +101,7 @@ module _ (input : List ℕ) (p : RunState) (question : Question) (may : Question
       section_ends (Refused fault) a = absurd a
       section_ends (BodyRefused fault) a = absurd a
 
-      -- it ends before a question that may not be asked in it: from there the run goes on by the next course
+      -- it ends before a question that may not be asked in it: from there the run goes on by the next trace
       pub section_left : (left : Question) → AsksUpTo may Is p q question (Some left) → (t : List ℕ) × StandsAt input q left next t × Wrote start q.output t
       section_left left (refuses, inl (is, same)) =
           let handed : may question ≡ false = subst (λ (l : Question). may l ≡ false) is refuses in
@@ -111,7 +111,7 @@ module _ (input : List ℕ) (p : RunState) (question : Question) (may : Question
           record {
             texts = at.texts;
             last = at.last;
-            here = at.scope;
+            here = at.here;
             read = at.read;
             count = at.count;
             is = at.is;

@@ -57,7 +57,7 @@ first_so : (old : code.BodyBuilder) (maker : Maker) (second : Bool) → ((if sec
 first_so old maker true e = absurd (e refl)
 first_so old maker false e = refl
 
--- or memory was refused to it: it makes something, and isn't second
+-- or an allocation for it failed: it makes something, and isn't second
 pub no_memory : (line : Line) (old : code.BodyBuilder) → asks line ≡ false → (with_line_of old line ≡ None → ⊥) →
     (maker : Maker) × (line ≡ Make maker) × (is_second (builder_parts old) maker ≡ false)
 no_memory Blank old asked e = absurd (true≢false asked)

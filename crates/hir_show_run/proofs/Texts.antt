@@ -10,12 +10,12 @@ pub text_by : {X E : Type 0} (old new : Option (List ℕ)) (text : List ℕ) (re
 text_by old new text (Ok x) ok err = ok
 text_by old new text (Err e) ok err = err
 
--- two pieces, one behind the other
+-- two pieces, one after the other
 pub text_then : {X E : Type 0} (old mid new : Option (List ℕ)) (first second : List ℕ) (result : Result X E) →
     Appends old mid first → WritesText mid new second result → WritesText old new (first ++ second) result
 text_then old mid new first second (Ok x) p q = Appends-twice old mid new first second p q
 text_then old mid new first second (Err e) p q = AppendsPrefix-after old mid new first second p q
 
--- a front of the first piece is one of both
+-- a prefix of the first piece is one of both
 pub text_failed : (old new : Option (List ℕ)) (first second : List ℕ) → AppendsPrefix old new first → AppendsPrefix old new (first ++ second)
 text_failed old new first second g = AppendsPrefix-more old new first second g

@@ -1,4 +1,4 @@
--- The course of a script, section by section.
+-- The trace of a script, section by section.
 use Rattle.std.proofs.Common.{◌≡◌, ◌+◌, ℕ, Bool, true, false, List, [], ◌∷◌, ◌++◌, length, refl, ap, ◌∙◌, append-nil}
 use Rattle.std.specs.Cmp.{first_so, second_so}
 use Rattle.std.specs.List.{list_all}
@@ -6,7 +6,7 @@ use Rattle.hir_show_grammar.specs.Line.{Line, Blank, Make, Ask, Bad, makes, may_
 use Rattle.hir_show_grammar.specs.declared.question.Question.{Question}
 use Rattle.hir_show_run.specs.Program.{prefix, suffix, Outcome, Trace, AreAnswers, section, after_making, accepts, making, built_by, ScriptRuns, IsMeaning}
 
--- lines of which each passes, and others behind them
+-- lines of which each passes, and others after them
 prefix-all : (p : Line → Bool) (xs ys : List Line) → list_all p xs ≡ true → prefix p (xs ++ ys) ≡ xs ++ prefix p ys
 prefix-all p [] ys all = refl
 prefix-all p (x ∷ xs) ys all =
@@ -39,7 +39,7 @@ prefix-is p xs ys all out = prefix-all p xs ys all ∙ ap (λ v. xs ++ v) (prefi
 suffix-is : (p : Line → Bool) (xs ys : List Line) → list_all p xs ≡ true → BeginsOutside p ys → suffix p (xs ++ ys) ≡ ys
 suffix-is p xs ys all out = suffix-all p xs ys all ∙ suffix-outside p ys out
 
--- lines that make, and what stands behind them
+-- lines that make, and what comes after them
 pub runs_after : (idle : Trace) (ls rest : List Line) (text : List ℕ) (outcome : Outcome) → list_all makes ls ≡ true → BeginsOutside makes rest → after_making idle (built_by ls) (length ls) rest text outcome → ScriptRuns idle (ls ++ rest) text outcome
 unfolding ScriptRuns making
 runs_after idle ls rest text outcome all out trace = rw (prefix-is makes ls rest all out, suffix-is makes ls rest all out) trace
@@ -48,7 +48,7 @@ pub means_after : (ls rest : List Line) (text : List ℕ) (outcome : Outcome) �
 unfolding ScriptRuns making
 means_after ls rest text outcome all out trace = rw (prefix-is makes ls rest all out, suffix-is makes ls rest all out) trace
 
--- a section of questions that are answered, and what stands behind them
+-- a section of questions that are answered, and what comes after them
 pub section_after : (may : Question → Bool) (Is : Question → List ℕ → Type 0) (next : ℕ → List Line → Trace) (good : ℕ) (done rest : List Line) (answers text : List ℕ) (outcome : Outcome) → list_all (may_ask may) done ≡ true → AreAnswers Is done answers → BeginsOutside (may_ask may) rest → next (good + length done) rest text outcome → section may Is next good (done ++ rest) (answers ++ text) outcome
 section_after may Is next good done rest answers text outcome all are out trace =
     let prefix_is = prefix-is (may_ask may) done rest all out in

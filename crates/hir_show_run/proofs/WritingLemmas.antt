@@ -1,4 +1,4 @@
--- Text that is put piece by piece behind what waits.
+-- Text that is put piece by piece after what waits.
 use Rattle.std.proofs.Common.{◌≡◌, ◌+◌, ◌<◌, [], ◌∷◌, ◌++◌, List, ℕ, Bool, true, false, Option, refl, sym, ap, ◌∙◌, subst, append_assoc, append-nil, get_or, take, length, codes, flat_map, decimal}
 use Rattle.std.proofs.lemmas.Grind.{flat_map-append}
 use Rattle.std.proofs.lemmas.List.{take_more}
@@ -43,13 +43,13 @@ pub all_written : (b c : Output) → Appends b.contents c.contents b.waiting →
 all_written b c a none =
     (b.waiting, subst (λ (x : List ℕ). b.waiting ≡ b.waiting ++ x) (sym none) (sym (append-nil b.waiting)), a)
 
--- or a front of it
+-- or a prefix of it
 pub cut : (a b c : Output) (text : List ℕ) → Wrote a b text → AppendsPrefix b.contents c.contents b.waiting → c.waiting ≡ [] → WrotePrefix a c text
 cut a b c text w g none =
     subst (λ (x : List ℕ). WrotePrefix a c x) (append-nil text)
     (WrotePrefix-then a b c text [] w (subst (λ (x : List ℕ). AppendsPrefix b.contents c.contents x) (sym (append-nil b.waiting)) g, none))
 
--- two pieces, one behind the other
+-- two pieces, one after the other
 pub put_then : {W : Type 0} (w : Ghosts W) (old mid new : code.Output W) (text more : List ℕ) → OutputsText w old mid text → OutputsText w mid new more → OutputsText w old new (text ++ more)
 put_then w old mid new text more p q =
     (q.0 ∙ p.0, by (output_of w old).failed (output_of w mid).failed (output_of w new).failed p.1 q.1)

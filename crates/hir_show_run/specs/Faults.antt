@@ -9,13 +9,13 @@ use Rattle.hir_items.specs.declared.body_fault.BodyFault.TheVariants as body
 use Rattle.hir_show_run.specs.declared.fault.RunFault.{RunFault}
 use Rattle.hir_show_run.specs.declared.fault.RunFault.TheVariants.{BadLine, Refused, BodyRefused, InputFailed, OutputFailed, OutOfMemory}
 
--- where a line can't be read
+-- the fault of a run in which a line can't be read
 abbrev pub fault_of_line : LineFault → RunFault
 fault_of_line line.OutOfMemory = OutOfMemory
 fault_of_line line.InputFailed = InputFailed
 fault_of_line line.OutputFailed = OutputFailed
 
--- where a builder has this fault
+-- the fault of a run whose builder has this fault
 abbrev pub fault_of_finish : FinishFault → RunFault
 fault_of_finish finish.Memory = OutOfMemory
 fault_of_finish finish.NoRoots = Refused finish.NoRoots
@@ -31,7 +31,7 @@ fault_of_finish (finish.RootRepeated index) = Refused (finish.RootRepeated index
 fault_of_finish (finish.RootUnderRoot index) = Refused (finish.RootUnderRoot index)
 fault_of_finish (finish.RootEnds index) = Refused (finish.RootEnds index)
 
--- where a body's parts have this fault
+-- the fault of a run whose body has this fault
 abbrev pub fault_of_body : BodyFault → RunFault
 fault_of_body body.Memory = OutOfMemory
 fault_of_body body.NoRoot = BodyRefused body.NoRoot

@@ -1,5 +1,6 @@
 -- Nodes that lines make: each is written as the grammar has it.
-use Rattle.std.specs.Prelude.{◌≡◌, ℕ, List, Some, slice_get}
+use Rattle.std.specs.Prelude.{◌≡◌, List, Some, slice_get}
+use Rattle.hir_path.specs.NodeIds.{ExprId, PatId, TypeRefId}
 use Rattle.hir_node.specs.declared.expr.Expr.{Expr}
 use Rattle.hir_node.specs.declared.pat.Pat.{Pat}
 use Rattle.hir_node.specs.declared.type_ref.TypeRef.{TypeRef}
@@ -9,7 +10,7 @@ use Rattle.hir_show_grammar.specs.PatGrammar.{IsPat}
 use Rattle.hir_show_grammar.specs.TypeGrammar.{IsType}
 use Rattle.hir_validate.specs.Nodes.{Nodes}
 
--- what a line makes
+-- a line makes this expression
 abbrev pub IsExprOfLine : Expr → Type 0
 IsExprOfLine x = (tokens : List Token) × IsExpr x tokens
 
@@ -19,8 +20,8 @@ IsPatOfLine x = (tokens : List Token) × IsPat x tokens
 abbrev pub IsTypeOfLine : TypeRef → Type 0
 IsTypeOfLine x = (tokens : List Token) × IsType x tokens
 
--- the expressions, patterns and types are those of lines
+-- the expressions, patterns and types are each made by a line
 pub record AreOfLines (s : Nodes) : Type 0 where
-  pub exprs : (id : ℕ) (x : Expr) → slice_get s.exprs id ≡ Some x → IsExprOfLine x
-  pub pats : (id : ℕ) (x : Pat) → slice_get s.pats id ≡ Some x → IsPatOfLine x
-  pub types : (id : ℕ) (x : TypeRef) → slice_get s.types id ≡ Some x → IsTypeOfLine x
+  pub exprs : (id : ExprId) (x : Expr) → slice_get s.exprs id ≡ Some x → IsExprOfLine x
+  pub pats : (id : PatId) (x : Pat) → slice_get s.pats id ≡ Some x → IsPatOfLine x
+  pub types : (id : TypeRefId) (x : TypeRef) → slice_get s.types id ≡ Some x → IsTypeOfLine x

@@ -3,7 +3,8 @@ use Rattle.std.specs.Prelude.{ℕ, Bool, true, false, Result, Ok, Err}
 use Rattle.hir_show_run.specs.declared.fault.RunFault.{RunFault}
 use Rattle.hir_show_run.specs.declared.fault.RunFault.TheVariants.{BadLine, Refused, BodyRefused, InputFailed, OutputFailed, OutOfMemory}
 
--- one fact where it is done, where a line is bad, where what was made is refused, where a read or a write failed, where memory was refused
+-- one fact for each outcome: it is done, a line is bad, what was made is refused, a read or a write failed,
+-- an allocation failed
 abbrev pub Outcomes : {X : Type 0} → (X → Type 0) → (ℕ → Type 0) → (RunFault → Type 0) → Type 0 → Type 0
     → Type 0 →
     Result X RunFault → Type 0

@@ -1,18 +1,18 @@
--- What the output of a run is seen as, and what becomes of text that is put behind what waits there.
+-- What the output of a run is modelled as, and what becomes of text that is put after what waits there.
 use Rattle.std.specs.Prelude.{◌≡◌, ℕ, List, [], ◌++◌, Option, Bool, true, false}
 use Rattle.std.specs.Borrow.{GName}
 use Rattle.hir_show_io.specs.declared.ends.Sink.{Ghosts}
 use Rattle.hir_show_io.specs.Effects.{AppendsPrefix, IsWrittenUpTo}
 use Rattle.hir_show_run.specs.declared.output.Output as code
 
--- which sink it has, what the sink tells, whether a write has failed, and what waits to be written
+-- which sink it has, what the sink shows, whether a write has failed, and what waits to be written
 pub record Output : Type 0 where
   pub sink_name : GName
   pub contents : Option (List ℕ)
   pub failed : Bool
   pub waiting : List ℕ
 
--- what the code holds
+-- the model of the code's `Output`
 abbrev pub output_of : {W : Type 0} → Ghosts W → code.Output W → Output
 output_of w o = record {
   sink_name = o.writer.ghost_name;
@@ -25,11 +25,12 @@ output_of w o = record {
 abbrev pub Wrote : Output → Output → List ℕ → Type 0
 Wrote old new text = IsWrittenUpTo old.contents new.contents (old.waiting ++ text) new.waiting
 
--- a write failed: a front of it was written, and nothing waits
+-- a write failed: a prefix of what waited and this text was written, and nothing waits
 abbrev pub WrotePrefix : Output → Output → List ℕ → Type 0
 WrotePrefix old new text = AppendsPrefix old.contents new.contents (old.waiting ++ text) × (new.waiting ≡ [])
 
--- by whether a write had failed before, and has failed now: nothing more is written to a sink that has failed
+-- what becomes of the output, by whether a write had failed before, and has failed now: nothing is written to
+-- a sink that has failed
 abbrev pub PutsBy : Bool → Bool → Output → Output → List ℕ → Type 0
 PutsBy true failed old new text =
     (failed ≡ true) × (new.contents ≡ old.contents) × (new.waiting ≡ old.waiting)
@@ -39,7 +40,7 @@ PutsBy false true old new text = WrotePrefix old new text
 abbrev pub PutsText : Output → Output → List ℕ → Type 0
 PutsText old new text = (new.sink_name ≡ old.sink_name) × PutsBy old.failed new.failed old new text
 
--- text is put behind what waits
+-- text is put after what waits
 abbrev pub OutputsText : {W : Type 0} → Ghosts W → code.Output W → code.Output W → List ℕ → Type 0
 OutputsText w old new text = PutsText (output_of w old) (output_of w new) text
 

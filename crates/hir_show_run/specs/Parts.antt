@@ -1,9 +1,11 @@
--- The parts of a body that lines have made so far: what is built, the parameters and the name of the function.
+-- The parts of a body that lines have made so far: what is built, the parameters and the name of the
+-- function.
 use Rattle.std.specs.Prelude.{ℕ, List, [], ◌∷◌, ◌++◌, Bool, Option, None, Some, is_some}
 use Rattle.std.specs.FinMap as map
 use Rattle.hir_base.specs.declared.hygiene.SyntaxContext.{SyntaxContext}
 use Rattle.hir_path.specs.declared.ids.ExprOrPatId.{ExprOrPatId}
 use Rattle.hir_path.specs.Keys.{expr_or_pat_code}
+use Rattle.hir_path.specs.NodeIds.{PatId, BindingId}
 use Rattle.hir_show_grammar.specs.Makers.{Maker}
 use Rattle.hir_show_grammar.specs.Makers as make
 use Rattle.hir_show_grammar.specs.Taking.{is_second as is_second_of}
@@ -18,8 +20,8 @@ use Rattle.hir_show_run.specs.declared.body_builder.BodyBuilder as code
 -- what is built, the self parameter, the other parameters and the name of the function
 pub record Parts : Type 0 where
   pub built : Building
-  pub self_param : Option (Param ℕ)
-  pub params : List (Param ℕ)
+  pub self_param : Option (Param BindingId)
+  pub params : List (Param PatId)
   pub name : Option (List ℕ)
 
 abbrev pub no_nodes : Nodes
@@ -33,16 +35,16 @@ no_parts = record {
   name = None;
 }
 
--- what the code holds
+-- the model of the code's `BodyBuilder`
 abbrev pub builder_parts : code.BodyBuilder → Parts
 builder_parts m =
     record { built = building_of m.builder; self_param = m.self_param; params = m.params; name = m.name }
 
--- the same with other nodes; with other roots
+-- these parts with other nodes
 abbrev pub with_nodes : Parts → Nodes → Parts
 with_nodes m nodes = record m { built = record m.built { nodes = nodes } }
 
--- the same with this hygiene of a path, in place of the one that it had before
+-- these side tables with this hygiene of a path, in place of the one that it had before
 abbrev pub with_hygiene : SideTables → ExprOrPatId → SyntaxContext → SideTables
 with_hygiene tables id hygiene =
     record tables { hygiene = map.insert tables.hygiene (expr_or_pat_code id) hygiene }
@@ -51,7 +53,7 @@ with_hygiene tables id hygiene =
 abbrev pub as_written : ℕ → Param ℕ
 as_written id = record { formal = id; user_written = id }
 
--- what is made with one more line
+-- these parts with what one more line makes
 abbrev pub with_line : Parts → Maker → Parts
 with_line m (make.Binding binding) =
     with_nodes m (record m.built.nodes { bindings = m.built.nodes.bindings ++ binding ∷ [] })
@@ -72,7 +74,7 @@ with_line m (make.Root id) = record m { built = record m.built { roots = and_roo
 abbrev pub is_second : Parts → Maker → Bool
 is_second m maker = is_second_of (is_some m.self_param) (is_some m.name) maker
 
--- what with_line says, of the fields of the code's `BodyBuilder`
+-- `with_line` over the fields of the code's `BodyBuilder`
 abbrev pub with_maker : code.BodyBuilder → Maker → code.BodyBuilder
 with_maker m (make.Binding binding) =
     record m { builder = record m.builder { bindings = m.builder.bindings ++ binding ∷ [] } }

@@ -32,6 +32,6 @@ body_pieces name b =
 unfoldable pub body_text : Option (List ℕ) → BodyContents → List ℕ
 body_text name b = text_of (printed_from name b) (body_pieces name b)
 
--- and a line end
+-- what `print` writes: the text of the body and a line end
 abbrev pub print_text : Option (List ℕ) → BodyContents → List ℕ
 print_text name b = body_text name b ++ codes "\n"

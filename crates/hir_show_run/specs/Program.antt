@@ -39,7 +39,7 @@ Trace = List ℕ → Outcome → Type 0
 abbrev pub writes : List ℕ → Outcome → Trace
 writes bytes end text outcome = (text ≡ bytes) × (outcome ≡ end)
 
--- one course or another
+-- the first trace if the condition holds, else the second
 abbrev pub if_so : Bool → Trace → Trace → Trace
 if_so true trace other = trace
 if_so false trace other = other
@@ -71,7 +71,8 @@ AreAnswers Is [] text = text ≡ []
 AreAnswers Is (line ∷ rest) text =
     (first more : List ℕ) × IsLineAnswer Is line first × AreAnswers Is rest more × (text ≡ first ++ more)
 
--- A section of questions, after this many good lines: those that may be asked are answered, as far as they come. Then the run goes on
+-- A section of questions, after this many good lines: those that may be asked are answered, as far as they
+-- come. Then the run goes on
 abbrev pub section : (Question → Bool) → (Question → List ℕ → Type 0) → (ℕ → List Line → Trace) → ℕ
     → List Line → Trace
 section may Is next good script text outcome =
@@ -79,7 +80,8 @@ section may Is next good script text outcome =
     × next (good + length (prefix (may_ask may) script)) (suffix (may_ask may) script) more outcome
     × (text ≡ answers ++ more)
 
--- the section from the first question on the body on: the first fault of the body's parts is looked for, and any question is answered
+-- the section from the first question on the body on: the first fault of the body's parts is looked for, and
+-- any question is answered
 abbrev pub on_body : Parts → ℕ → List Line → Trace
 on_body parts good script =
     unless_refused (body_fault (body_parts parts)) BodyRefused
@@ -90,13 +92,14 @@ after_store parts good [] = stops good []
 after_store parts good (line ∷ rest) =
     if_so (asks line) (on_body parts good (line ∷ rest)) (stops good (line ∷ rest))
 
--- the section from the first question on: the builder's first fault is looked for, and questions on the store are answered
+-- the section from the first question on: the builder's first fault is looked for, and questions on the store
+-- are answered
 abbrev pub on_store : Parts → ℕ → List Line → Trace
 on_store parts good script =
     unless_refused (finish_fault parts.built) Refused
     (section is_of_store (IsStoreAnswer (contents_of parts.built)) (after_store parts) good script)
 
--- behind the lines that make something: this is the course where no line is left
+-- after the lines that make something: this is the trace where no line is left
 abbrev pub after_making : Trace → Parts → ℕ → List Line → Trace
 after_making idle parts good [] = idle
 after_making idle parts good (line ∷ rest) =
@@ -120,7 +123,7 @@ built_by script = fold with_line no_parts (filter_map maker_of script)
 abbrev pub first_parts : List Line → Parts
 first_parts script = built_by (making script)
 
--- the course of a script, where this is the course of one without a question and without a bad line
+-- the trace of a script, where this is the trace of one without a question and without a bad line
 unfoldable pub ScriptRuns : Trace → List Line → Trace
 ScriptRuns idle script = after_making idle (first_parts script) (length (making script)) (suffix makes script)
 
@@ -132,11 +135,12 @@ accepts parts = unless_refused (finish_fault parts.built) Refused (writes (codes
 abbrev pub IsMeaning : List Line → Trace
 IsMeaning script = ScriptRuns (accepts (first_parts script)) script
 
--- no fault comes in these lines, and this is the text of their answers; what comes after them is not looked at
+-- no fault comes in these lines, and this is the text of their answers; what comes after them is not looked
+-- at
 abbrev pub HasAnswers : List Line → List ℕ → Type 0
 HasAnswers script text = ScriptRuns (writes [] (Ok tt)) script text (Ok tt)
 
--- whether a line gives the self parameter: it would be a second one where there was one before. And whether it gives the name
+-- whether a line gives the self parameter, which would be a second one where there was one before
 abbrev pub gives_self : Line → Bool
 gives_self Blank = false
 gives_self (Make maker) = is_second true false maker
@@ -163,19 +167,20 @@ once_each has_self has_name (line ∷ rest) =
     unless_second has_self has_name line
     ∷ once_each (has_self || gives_self line) (has_name || gives_name line) rest
 
--- what texts say, each for itself; and as a script, one after another
+-- what texts say, each for itself
 abbrev pub says : List (List ℕ) → List Line
 says texts = map line_of texts
 
 abbrev pub script : List (List ℕ) → List Line
 script texts = once_each false false (says texts)
 
--- what a text says behind these
+-- what a text says after these texts
 abbrev pub line_after : List (List ℕ) → List ℕ → Line
 line_after texts text =
     unless_second (list_any gives_self (says texts)) (list_any gives_name (says texts)) (line_of text)
 
--- whether a line may come behind these: one that asks, or one that makes something where only such lines came before
+-- whether a line may come after these: one that asks, or one that makes something where only such lines came
+-- before
 abbrev pub may_come : List Line → Line → Bool
 may_come before line = asks line || (makes line && list_all makes before)
 

@@ -10,7 +10,7 @@ use Rattle.hir_show_run.specs.declared.fault.RunFault.TheVariants.{BadLine}
 use Rattle.hir_show_run.specs.Outcomes.{Outcomes, is_input_failed, is_output_failed}
 use Rattle.hir_show_run.specs.Program.{Outcome, script, script_of, line_after, may_come, IsMeaning, HasAnswers}
 
--- the program's own output and ending. What it means that a text was written is defined elsewhere
+-- the program's own output and ending; `Wrote` says what it is that a text was written
 abbrev pub IsComplete : List ℕ → (List ℕ → Type 0) → Outcome → Type 0
 IsComplete input Wrote outcome = (text : List ℕ) × IsMeaning (script_of input) text outcome × Wrote text
 
@@ -26,22 +26,24 @@ abbrev pub AreFirstAnswers : List ℕ → List ℕ → Type 0
 AreFirstAnswers input text =
     (texts more : List (List ℕ)) × (lines input ≡ texts ++ more) × HasAnswers (script texts) text
 
--- a write failed: a front is written of the answers of some first lines, or of the whole output
+-- a write failed: a prefix is written of the answers of some first lines, or of the whole output
 abbrev pub IsOutputCutShort : List ℕ → (List ℕ → Type 0) → Type 0
 IsOutputCutShort input WrotePrefix =
     (text : List ℕ)
     × (AreFirstAnswers input text ⊎ ((outcome : Outcome) × IsMeaning (script_of input) text outcome))
     × WrotePrefix text
 
--- These are the lines before the one at which memory was refused, by the line taken last and the number of those taken. It was refused at
--- that line, which may come there; or, where none was taken last since the next was being read or the input had ended, behind all of them
+-- These are the lines before the one at which an allocation fails, by the line taken last and the number of
+-- those taken. It fails at that line, which may come there; or, where none was taken last since the next was
+-- being read or the input had ended, after all of them
 abbrev pub IsRefusedAfter : List (List ℕ) → List (List ℕ) → List ℕ → ℕ → Type 0
 IsRefusedAfter texts more [] count = count ≡ length texts
 IsRefusedAfter texts more (b ∷ bs) count =
     (count ≡ length texts + 1) × (rest : List (List ℕ)) × (more ≡ (b ∷ bs) ∷ rest)
     × (may_come (script texts) (line_after texts (b ∷ bs)) ≡ true)
 
--- memory was refused at some line: the answers of all lines before it are written, and no fault comes in these
+-- an allocation fails at some line: the answers of all lines before it are written, and no fault comes in
+-- these
 abbrev pub IsWithoutMemory : List ℕ → (List ℕ → Type 0) → LineState → Type 0
 IsWithoutMemory input Wrote taken =
     (texts more : List (List ℕ)) × (lines input ≡ texts ++ more)
@@ -57,7 +59,8 @@ EndsWith input Wrote WrotePrefix remaining taken outcome =
     (λ fault. IsComplete input Wrote (Err fault)) (IsInputCutShort input Wrote remaining)
     (IsOutputCutShort input WrotePrefix) (IsWithoutMemory input Wrote taken) outcome
 
--- what a run does over the bytes that its source tells, where these lines were taken, to those that its sink tells
+-- what a run does over the bytes that its source shows, where these lines were taken, to those that its sink
+-- shows
 abbrev pub RunsTo : Option (List ℕ) → Option (List ℕ) → Option (List ℕ) → Option (List ℕ) → LineState
     → Outcome → Type 0
 RunsTo known old remaining new taken outcome =
@@ -71,7 +74,8 @@ no_lines = record { line = []; pending = []; at_end = false; count = 0 }
 abbrev pub Unfailed : {R W : Type 0} → source.Ghosts R → sink.Ghosts W → R → W → Type 0
 Unfailed r w reader writer = (r.is_failed reader ≡ false) × (w.is_failed writer ≡ false)
 
--- what a run does from one source and sink to another, where these lines were taken: one of them has failed where the outcome says so
+-- what a run does from one source and sink to another, where these lines were taken: one of them has failed
+-- where the outcome says so
 abbrev pub IsRun : {R W : Type 0} → source.Ghosts R → sink.Ghosts W → R → R → W → W → LineState
     → Outcome → Type 0
 IsRun r w reader reader' writer writer' taken outcome =

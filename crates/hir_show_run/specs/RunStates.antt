@@ -1,4 +1,4 @@
--- Where a run stands: what is read and not yet taken, what was written and what waits.
+-- Where a run is: what is read and not yet taken, what was written and what waits.
 use Rattle.std.specs.Prelude.{◌≡◌, ◌+◌, ◌<◌, ◌^◌, ℕ, List, Bool, true, Option, Result, cond, length}
 use Rattle.hir_show_io.specs.declared.ends.Source as source
 use Rattle.hir_show_io.specs.declared.ends.Sink as sink
@@ -8,7 +8,8 @@ use Rattle.hir_show_io.specs.NextLine.{NextTakes, NextWrites, is_found, bytes_le
 use Rattle.hir_show_run.specs.declared.output.Output as code
 use Rattle.hir_show_run.specs.Output.{Output, output_of}
 
--- the lines, what the source has left and by what number its reads are bounded, whether a read has failed, and the output
+-- the lines, what the source has left and by what number its reads are bounded, whether a read has failed,
+-- and the output
 pub record RunState : Type 0 where
   pub lines : LineState
   pub remaining : Option (List ℕ)
@@ -16,7 +17,7 @@ pub record RunState : Type 0 where
   pub failed : Bool
   pub output : Output
 
--- where the code stands
+-- the place of the code's source, sink, lines and output
 abbrev pub run_state_of : {R W : Type 0} → source.Ghosts R → sink.Ghosts W → LineState → R → code.Output W
     → RunState
 run_state_of r w lines reader output = record {

@@ -1,4 +1,5 @@
--- What the parts of a run do, from one place to another: lines that make something, then sections of questions.
+-- What the parts of a run do, from one place to another: lines that make something, then sections of
+-- questions.
 use Rattle.std.specs.Prelude.{◌≡◌, ◌≢◌, ◌⊎◌, ℕ, ◌+◌, Bool, true, false, List, [], ◌∷◌, ◌++◌, length, Option, None, Some, Result, Err, IfSome, ⊤, codes}
 use Rattle.std.specs.Io.KnownBytes.{Appends}
 use Rattle.std.specs.List.{list_all}
@@ -27,18 +28,18 @@ use Rattle.hir_show_run.specs.Program.{Outcome, line_after, says, script, built_
 abbrev pub AllMake : List (List ℕ) → Type 0
 AllMake texts = list_all makes (script texts) ≡ true
 
--- each of them may, and this is what they make
+-- each of these lines may come before the first question, and these are the parts that they make
 abbrev pub Makes : List (List ℕ) → Parts → Type 0
 Makes texts parts = AllMake texts × (parts ≡ built_by (script texts))
 
--- memory was refused at the line that was taken last, behind these and so many before: it may come there. Or where none was taken last,
--- since the next was being read: behind these
+-- an allocation fails at the line that was taken last, after these and so many before, and that line may come
+-- there; or, where none was taken last since the next was being read, after these lines
 abbrev pub OutOfMemoryAt : (List ℕ → Type 0) → ℕ → Option (List ℕ) → List (List ℕ) → List ℕ → ℕ → Type 0
 OutOfMemoryAt MayCome before known texts [] count = ReadsPrefix known texts × (count ≡ before + length texts)
 OutOfMemoryAt MayCome before known texts (b ∷ bs) count =
     ReadsPrefix known (texts ++ (b ∷ bs) ∷ []) × (count ≡ before + length texts + 1) × MayCome (b ∷ bs)
 
--- nothing was asked, or a question behind these texts
+-- nothing was asked, or a question after these texts
 abbrev pub BuildsUpTo : Option (List ℕ) → RunState → Parts → Option Question → Type 0
 BuildsUpTo known now parts None =
     (texts : List (List ℕ)) × Makes texts parts × ReadsAll known texts
@@ -48,7 +49,7 @@ BuildsUpTo known now parts (Some question) =
     × ReadsLines known (texts ++ now.lines.line ∷ []) (unread now) now.lines.at_end
     × (now.lines.count ≡ length texts + 1)
 
--- the lines that make, from the bytes that are known, and their parts
+-- what the lines before the first question do: the bytes that are known, and the parts that they make
 abbrev pub Builds : Option (List ℕ) → RunState → Parts → Result (Option Question) RunFault → Type 0
 Builds known now parts result =
     Outcomes (BuildsUpTo known now parts)
@@ -78,20 +79,20 @@ BuildsLine lines old new result =
     (λ fault. ⊥) ⊥ ⊥
     ((maker : Maker) × (line_of lines.line ≡ Make maker) × (is_second old maker ≡ false)) result
 
--- what it asks, where it makes nothing
+-- what the line that was taken last asks, where it makes nothing
 abbrev pub IsAsked : LineState → Result (Option Question) RunFault → Type 0
 IsAsked lines result =
     Outcomes (λ asked. line_of lines.line ≡ line_asked asked)
     (λ number. (asks (line_of lines.line) ≡ false) × (number ≡ lines.count)) (λ fault. ⊥) ⊥ ⊥
     ((question : Question) × (line_of lines.line ≡ Ask question)) result
 
--- what a builder gives: its store; or it has this first fault, or memory was refused
+-- what a builder gives: its store; or it has this first fault, or an allocation fails
 abbrev pub Finishes : Building → Result Contents RunFault → Type 0
 Finishes built result =
     Outcomes (λ store. (store ≡ contents_of built) × finish_fault built None) (λ number. ⊥)
     (λ fault. (first : FinishFault) × (fault ≡ Refused first) × finish_fault built (Some first)) ⊥ ⊥ ⊤ result
 
--- what the parts of a body give: the body; or they have this first fault, or memory was refused
+-- what the parts of a body give: the body; or they have this first fault, or an allocation fails
 abbrev pub IsBodyOf : BodyContents → Result BodyContents RunFault → Type 0
 IsBodyOf parts result =
     Outcomes (λ body. (body ≡ parts) × body_fault parts None) (λ number. ⊥)
@@ -105,15 +106,16 @@ HaveAnswers may Is script text = (list_all (may_ask may) script ≡ true) × Are
 abbrev pub section_from : Question → List (List ℕ) → List Line
 section_from first texts = Ask first ∷ says texts
 
--- of a section of questions: which may be asked in it, and what their answers are
+-- a section of questions, by which may be asked in it and what their answers are
 module _ (may : Question → Bool) (Is : Question → List ℕ → Type 0) where
-  -- what a question is answered with: one line, put behind what waits. Or it may not be asked here, and is handed back
+  -- what a question does: it is answered by one line, put after what waits; or it may not be asked here, and
+  -- is given back
   abbrev pub Replies : Question → Output → Output → Option Question → Type 0
   Replies question old new None =
       (may question ≡ true) × (text : List ℕ) × Is question text × PutsText old new text
   Replies question old new (Some other) = (may question ≡ false) × (other ≡ question) × (new ≡ old)
 
-  -- a line that may be asked was answered, or its question may not be asked here, and is handed back
+  -- a line that may be asked was answered, or its question may not be asked here, and is given back
   abbrev pub TakesLine : Line → Output → Output → Option Question → Type 0
   TakesLine line old new None =
       (may_ask may line ≡ true) × (text : List ℕ) × IsLineAnswer Is line text × Wrote old new text
@@ -127,11 +129,12 @@ module _ (may : Question → Bool) (Is : Question → List ℕ → Type 0) where
       ((may_ask may line ≡ true) × (text : List ℕ) × IsLineAnswer Is line text × WrotePrefix old new text)
       ((question : Question) × (line ≡ Ask question) × (new ≡ old)) result
 
-  -- these lines were answered, all but what waits then
+  -- these lines were answered; of the answers only what waits now isn't written yet
   abbrev pub Answered : List Line → Output → Output → Type 0
   Answered script old new = (text : List ℕ) × HaveAnswers may Is script text × Wrote old new text
 
-  -- all lines that are left were answered; or all before a question that may not be asked here, the first or a later one
+  -- all lines that are left were answered; or all before a question that may not be asked here, the first or
+  -- a later one
   abbrev pub AsksUpTo : RunState → RunState → Question → Option Question → Type 0
   AsksUpTo old new first None =
       (texts : List (List ℕ)) × Answered (section_from first texts) old.output new.output
@@ -163,7 +166,7 @@ module _ (may : Question → Bool) (Is : Question → List ℕ → Type 0) where
       ⊎ (new ≡ old))
       result
 
--- that the store is accepted was written, all but what waits, or a front of it
+-- that the store is accepted was written, but for what waits; or a prefix of it was written
 abbrev pub Accepts : Output → Output → Result (Unit {0}) RunFault → Type 0
 Accepts old new result =
     Outcomes (λ done. Wrote old new (codes "accepted\n")) (λ number. ⊥) (λ fault. ⊥) ⊥

@@ -56,7 +56,7 @@ abbrev pub text_of : Result (Unit {0}) RunFault → List ℕ
 text_of (Ok done) = []
 text_of (Err fault) = fault_text fault ++ 10 ∷ []
 
--- all of the text was written, or a front of it where a write failed
+-- all of the text was written, or a prefix of it where a write failed
 abbrev pub WritesText : {X E : Type 0} → Option (List ℕ) → Option (List ℕ) → List ℕ → Result X E → Type 0
 WritesText old new text (Ok done) = Appends old new text
 WritesText old new text (Err e) = AppendsPrefix old new text

@@ -8,9 +8,9 @@ ghost use Rattle.hir_show_run.specs.Output.{OutputsText, PutsText, output_of};
 
 use crate::asking::{Answers, MemoryRefused};
 use crate::output::Output;
-use hir_show_io::Sink;
-use hir_show_grammar::{Question, StoreQuestion};
 use hir_node::ExprId;
+use hir_show_grammar::{Question, StoreQuestion};
+use hir_show_io::Sink;
 use hir_store::ExpressionStore;
 use std::alloc::Global;
 
@@ -30,7 +30,7 @@ fn put_children<W: Sink>(store: &ExpressionStore, id: ExprId, output: &mut Outpu
     );
 }
 
-/// Puts what is known of an expression: its children, or that it isn't there.
+/// Puts what is known of an expression: its children, or that it doesn't exist.
 fn put_known<W: Sink>(store: &ExpressionStore, id: ExprId, output: &mut Output<'_, W>)
     ensures { OutputsText W.Sink output.old output.new (children_text store.now.nodes id) }
 {
@@ -57,9 +57,9 @@ fn put_root<W: Sink>(store: &ExpressionStore, id: ExprId, output: &mut Output<'_
 
 fn answer_children<W: Sink>(store: &ExpressionStore, id: ExprId, output: &mut Output<'_, W>)
     ensures { OutputsText W.Sink output.old output.new
-        (answer_line (codes "child_exprs ") id (children_text store.now.nodes id)) }
+        (answer_line (codes "children ") id (children_text store.now.nodes id)) }
 {
-    output.put_asked(b"child_exprs ", id);
+    output.put_asked(b"children ", id);
     put_known(store, id, output);
     output.put(b"\n");
 }
@@ -87,7 +87,7 @@ pub(crate) fn answer_store<W: Sink>(
     }
 }
 
-/// A store alone answers no question on the body.
+/// Answers no question on the body: it has a store alone.
 impl Answers for ExpressionStore {
     ghost use Rattle.hir_show_run.specs.Program.{is_of_store};
     ghost use Rattle.hir_show_run.specs.Answer.{IsStoreAnswer};

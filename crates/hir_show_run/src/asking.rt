@@ -9,11 +9,11 @@ ghost use Rattle.hir_show_run.specs.Stages.{Asks, AsksLine, IsAsked, Replies};
 
 use crate::fault::RunFault;
 use crate::output::Output;
-use hir_show_io::{LineReader, Sink, Source};
 use hir_show_grammar::{LineError, Question, ask};
+use hir_show_io::{LineReader, Sink, Source};
 use std::alloc::Global;
 
-/// Memory was refused.
+/// An allocation failed.
 #[derive(Drop)]
 pub(crate) struct MemoryRefused;
 
@@ -27,9 +27,9 @@ pub(crate) trait Answers {
     // What the answers to it are.
     ghost Is: { Self → Question → List ℕ → Type 0 };
 
-    /// Answers a question by one line, put behind what waits. A question that may not be asked is handed back.
+    /// Answers a question by one line, put after what waits. A question that may not be asked is given back.
     ///
-    /// Answers `MemoryRefused` where memory was refused: nothing is put then.
+    /// Returns `MemoryRefused` where an allocation fails; nothing is put then.
     fn answer<W: Sink>(
         &mut self,
         alloc: Global,
@@ -94,8 +94,8 @@ fn answer_next<A: Answers, W: Sink>(
     }
 }
 
-/// Answers the first question and those after it, and gives the first that may not be asked, if there is one. Some of the answers may
-/// still wait.
+/// Answers the first question and those after it, and gives the first that may not be asked, if there is one.
+/// Some of the answers may still wait.
 pub(crate) fn answer_lines<A: Answers, R: Source, W: Sink>(
     alloc: Global,
     asked: &mut A,

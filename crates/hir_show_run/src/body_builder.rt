@@ -5,8 +5,8 @@ ghost use Rattle.hir_show_run.specs.Parts.{builder_parts, no_parts};
 
 use hir_base::{HygieneId, Name, Seq};
 use hir_items::Param;
-use hir_show_grammar::{Builder, LineError};
 use hir_node::{Binding, BindingId, Expr, ExprId, ExprOrPatId, Pat, PatId, TypeRef};
+use hir_show_grammar::{Builder, LineError};
 use hir_store::ExpressionStoreBuilder;
 use std::alloc::Global;
 
@@ -61,7 +61,7 @@ impl Builder for BodyBuilder {
         self.name.is_some()
     }
 
-    // Each outcome is matched here: a function that takes it has the node that a refusal hands back copied.
+    // Each outcome is matched here: a function that takes it has the node that a refusal gives back copied.
     // Always inlined, as those below are: see `with_zeros` of `hir_base`.
     #[inline(always)]
     fn binding(&mut self, binding: Binding) -> Result<(), LineError> {
@@ -71,8 +71,8 @@ impl Builder for BodyBuilder {
         }
     }
 
-    // Always inlined, as `expr` is: the node goes into the arena without a copy on the way, which takes five hundredths of the instructions of
-    // making away.
+    // Always inlined, as `expr` is: the node goes into the arena without a copy on the way, which saves 5 %
+    // of the instructions of making.
     #[inline(always)]
     fn pat(&mut self, pat: Pat) -> Result<(), LineError> {
         match self.builder.alloc_pat(pat) {

@@ -1,4 +1,5 @@
-//! A body that lines made, and the answers to questions on it. Its scopes are made where the first question comes that needs them.
+//! A body that lines made, and the answers to questions on it. Its scopes are made where the first question
+//! comes that needs them.
 
 ghost use Rattle.std.specs.Prelude.{◌≡◌, List, ℕ, IfOk, IfSome, OnOk, OnErr};
 ghost use Rattle.hir_scope.specs.BodyScopes.{AreBodyScopes};
@@ -14,14 +15,15 @@ use crate::output::Output;
 use crate::printing::answer_print;
 use crate::scope_answers::{answer_chain, answer_resolve};
 use hir_base::Name;
-use hir_show_io::Sink;
 use hir_items::Body;
-use hir_show_grammar::{BodyQuestion, Question};
 use hir_scope::{ExprScopes, ScopesFault};
+use hir_show_grammar::{BodyQuestion, Question};
+use hir_show_io::Sink;
 use std::alloc::Global;
 use std::marker::Model;
 
-/// A body whose nodes are those of lines, with the name of the function that it is printed as. Its scopes aren't seen.
+/// A body whose nodes are those of lines, with the name of the function that it is printed as. Its model
+/// leaves the scopes out.
 #[derive(Drop)]
 pub(crate) struct BodyOfLines {
     body: Body,
@@ -49,7 +51,7 @@ impl Model for BodyOfLines {
 
 /// The scopes of a body: those that were kept, or new ones.
 ///
-/// Answers `MemoryRefused` where memory was refused, or where the body needs more scopes than there may be.
+/// Returns `MemoryRefused` where an allocation fails, or where the body needs more scopes than there may be.
 fn scopes_of(
     alloc: Global,
     body: &Body,
@@ -88,7 +90,7 @@ impl BodyOfLines {
         &self.body
     }
 
-    /// Takes the scopes out, or makes them where none are there.
+    /// Takes the scopes out, or makes them where none were kept.
     fn take_scopes(&mut self, alloc: Global) -> Result<ExprScopes, MemoryRefused>
         ensures same { self.new ≡ self.old }
         ensures scopes { IfOk result (AreBodyScopes self.new.body) }
@@ -116,7 +118,7 @@ impl BodyOfLines {
 
     /// Answers a question on a body by one line, or by the body's text.
     ///
-    /// Answers `MemoryRefused` where memory was refused: nothing is put then.
+    /// Returns `MemoryRefused` where an allocation fails; nothing is put then.
     fn answer_body<W: Sink>(
         &mut self,
         alloc: Global,
@@ -152,7 +154,7 @@ impl BodyOfLines {
     }
 }
 
-/// It answers any question.
+/// Answers any question.
 impl Answers for BodyOfLines {
     ghost use Rattle.hir_show_grammar.specs.Line.{any_question};
     ghost use Rattle.hir_show_run.specs.Answer.{IsAnswerOf};

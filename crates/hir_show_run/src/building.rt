@@ -12,11 +12,11 @@ use crate::asking::asked_by;
 use crate::body_builder::BodyBuilder;
 use crate::fault::RunFault;
 use crate::output::Output;
-use hir_show_io::{LineReader, Sink, Source};
 use hir_show_grammar::{LineError, Question, make};
+use hir_show_io::{LineReader, Sink, Source};
 use std::alloc::Global;
 
-/// Makes what the line that was taken last makes, and answers whether it makes something or is empty.
+/// Makes what the line that was taken last makes, and returns whether it makes something or is empty.
 fn build_line(
     alloc: Global,
     lines: &LineReader,

@@ -8,10 +8,10 @@ ghost use Rattle.hir_show_run.specs.Output.{OutputsText, Untouched};
 use crate::asking::MemoryRefused;
 use crate::output::Output;
 use hir_captures::{CapturesFault, captures};
-use hir_show_io::Sink;
 use hir_items::Body;
 use hir_node::{BindingId, ExprId};
 use hir_scope::ExprScopes;
+use hir_show_io::Sink;
 use std::alloc::Global;
 
 /// Puts the numbers of bindings, each after a space.
@@ -44,7 +44,7 @@ fn put_no_closure<W: Sink>(id: ExprId, output: &mut Output<'_, W>)
 
 /// Puts the line of an expression of a body that has these scopes.
 ///
-/// Answers `MemoryRefused` where memory was refused: nothing is put then.
+/// Returns `MemoryRefused` where an allocation fails; nothing is put then.
 pub(crate) fn answer_captures<W: Sink>(
     alloc: Global,
     body: &Body,

@@ -5,9 +5,9 @@ use std::mem::{drop, forget};
 /// What becomes of the memory of a run's store, body and scopes when the run ends.
 #[derive(Clone, Copy)]
 pub(crate) enum Disposal {
-    /// It is given back.
+    /// The memory is given back.
     GiveBack,
-    /// It is left to the end of the process, which takes it all back at once.
+    /// The memory is left to the end of the process, which takes it all back at once.
     Leave,
 }
 

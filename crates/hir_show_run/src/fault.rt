@@ -4,8 +4,8 @@ ghost use Rattle.std.specs.Prelude.{◌≡◌};
 
 use crate::asking::MemoryRefused;
 use hir_base::ExactEq;
-use hir_show_io::LineFault;
 use hir_items::{BodyFault, RefusedBody};
+use hir_show_io::LineFault;
 use hir_store::{FinishFault, Refused};
 use std::fmt;
 use std::mem::drop;
@@ -24,7 +24,7 @@ pub enum RunFault {
     InputFailed,
     /// A write failed.
     OutputFailed,
-    /// Memory was refused.
+    /// An allocation failed.
     OutOfMemory,
 }
 
@@ -103,7 +103,7 @@ impl From<FinishFault> for RunFault {
     }
 }
 
-/// The builder that is handed back is dropped.
+/// The builder that is given back is dropped.
 impl From<Refused> for RunFault {
     ghost use Rattle.std.specs.Prelude.{◌≡◌};
     ghost use Rattle.hir_show_run.specs.Faults.{fault_of_finish};
@@ -136,7 +136,7 @@ impl From<BodyFault> for RunFault {
     }
 }
 
-/// The parts that are handed back are dropped.
+/// The parts that are given back are dropped.
 impl From<RefusedBody> for RunFault {
     ghost use Rattle.std.specs.Prelude.{◌≡◌};
     ghost use Rattle.hir_show_run.specs.Faults.{fault_of_body};

@@ -1,4 +1,4 @@
-//! Laws of the definitions that the program's contracts cite, as contracts of functions that do nothing.
+//! Theorems on the definitions that the program's contracts cite, as contracts of functions that do nothing.
 
 ghost use Rattle.std.specs.Prelude.{◌≡◌, ℕ, List, Option, None};
 ghost use Rattle.hir_show_grammar.specs.Line.{Line};
@@ -9,8 +9,8 @@ ghost use Rattle.hir_show_run.specs.Program.{Outcome, IsMeaning, built_by, scrip
 
 use hir_captures::laws::captures_unique;
 use hir_items::body_laws::first_body_fault_unique;
-use hir_show_grammar::laws::said_is_written;
 use hir_scope::laws::a_reached_node_has_one_chain;
+use hir_show_grammar::laws::said_is_written;
 use hir_store::laws::first_fault_unique;
 
 /// A script has at most one text and one outcome.
@@ -24,8 +24,8 @@ pub fn meaning_is_one()
     captures_unique();
 }
 
-/// No line makes a node that names a definition outside: nothing is missing of what `print` writes of the body that lines make, whatever
-/// their texts are.
+/// No line makes a node that names a definition outside: nothing is missing of what `print` writes of the
+/// body that lines make, whatever their texts are.
 pub fn nothing_is_missing()
     ensures { (texts : List (List ℕ)) (name : Option (List ℕ))
         → first_missing (body_pieces name (body_parts (built_by (script texts)))) ≡ None }

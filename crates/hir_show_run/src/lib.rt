@@ -1,5 +1,5 @@
-//! A run of the program: lines that build an expression store and then questions on it are read from a source, and the answers
-//! are written to a sink.
+//! A run of the program: lines that build an expression store and then questions on it are read from a
+//! source, and the answers are written to a sink.
 #![tactic(auto)]
 
 mod answer;

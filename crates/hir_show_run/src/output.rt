@@ -1,5 +1,5 @@
-//! The output of a run. Text is put behind what waits, unless the sink has failed: to put several pieces, test for a failure once,
-//! after the last.
+//! The output of a run. Text is put after what waits, unless the sink has failed: to put several pieces, test
+//! for a failure once, after the last.
 
 ghost use Rattle.std.specs.Prelude.{◌≡◌, ◌+◌, ◌≤◌, ◌∷◌, ◌++◌, ◌||◌, [], false, length, cond};
 ghost use Rattle.std.specs.Fmt.{decimal};
@@ -10,8 +10,8 @@ ghost use Rattle.hir_show_run.specs.RunStates.{CountFits, TakesNext, run_state_o
 ghost use Rattle.hir_show_run.specs.Stages.{Accepts, Closes};
 
 use crate::fault::RunFault;
-use hir_show_io::{LineFault, LineReader, OutputBuffer, Sink, Source, next_line};
 use hir_node::ExprId;
+use hir_show_io::{LineFault, LineReader, OutputBuffer, Sink, Source, next_line};
 
 /// A sink, and the bytes that wait to be written to it.
 #[derive(Drop)]
@@ -21,7 +21,7 @@ pub(crate) struct Output<'a, W> {
 }
 
 impl<W: Sink> Output<'_, W> {
-    /// Puts text behind what waits. Where the sink has failed, nothing is done.
+    /// Puts text after what waits. Where the sink has failed, nothing is done.
     pub(crate) fn put(&mut self, text: &[u8])
         ensures { OutputsText W.Sink self.old self.new text.now }
     {
@@ -39,7 +39,7 @@ impl<W: Sink> Output<'_, W> {
         }
     }
 
-    /// Puts a number behind a space.
+    /// Puts a number after a space.
     pub(crate) fn put_spaced(&mut self, number: u32)
         ensures { OutputsText W.Sink self.old self.new (32 ∷ decimal number) }
     {
@@ -55,7 +55,8 @@ impl<W: Sink> Output<'_, W> {
         self.put_number(id.into_raw());
     }
 
-    /// Takes the next line, and answers whether there is one, as `hir_show_io` does: what waits is written before a read.
+    /// Takes the next line, and returns whether there is one, as `hir_show_io` does: what waits is written
+    /// before a read.
     pub(crate) fn next_line<R: Source>(
         &mut self,
         lines: &mut LineReader,
@@ -91,7 +92,7 @@ impl<W: Sink> Output<'_, W> {
     }
 }
 
-/// Writes what waits to the sink, before the outcome is answered.
+/// Writes what waits to the sink, and returns the outcome.
 pub(crate) fn close<W: Sink>(
     waiting: &mut OutputBuffer,
     writer: &mut W,

@@ -10,9 +10,9 @@ use crate::asking::MemoryRefused;
 use crate::output::Output;
 use hir_base::{DefWithBodyId, Edition, FunctionId, Name, NamedDef, Text};
 use hir_defs::Tables;
-use hir_show_io::Sink;
 use hir_items::Body;
 use hir_pretty::{PrintFault, print_body_hir};
+use hir_show_io::Sink;
 use std::alloc::Global;
 
 /// A copy of a name, where there is one.
@@ -42,7 +42,7 @@ fn tables_of(alloc: Global, name: Option<&Name>) -> Result<Tables, MemoryRefused
 
 /// The text of a body of lines, as that of function 0 with this name.
 ///
-/// Answers `MemoryRefused` where memory was refused.
+/// Returns `MemoryRefused` where an allocation fails.
 fn print_body(alloc: Global, body: &Body, name: Option<&Name>) -> Result<String, MemoryRefused>
     requires { AreOfLines body.now.store.nodes }
     ensures { IfOk result (λ text. string_bytes text ≡ body_text (option_copied name.entry) body.now) }
@@ -58,7 +58,7 @@ fn print_body(alloc: Global, body: &Body, name: Option<&Name>) -> Result<String,
 
 /// Puts the text of a body of lines, printed as that of function 0 with this name, and a line end.
 ///
-/// Answers `MemoryRefused` where memory was refused: nothing is put then.
+/// Returns `MemoryRefused` where an allocation fails; nothing is put then.
 pub(crate) fn answer_print<W: Sink>(
     alloc: Global,
     body: &Body,

@@ -24,10 +24,10 @@ use crate::fault::RunFault;
 use crate::output::{Output, close};
 use crate::reporting::report;
 use hir_base::Seq;
-use hir_show_io::{LineReader, OutputBuffer, Sink, Source};
 use hir_items::{Body, Param};
-use hir_show_grammar::laws::said_is_written;
 use hir_node::{BindingId, PatId};
+use hir_show_grammar::laws::said_is_written;
+use hir_show_io::{LineReader, OutputBuffer, Sink, Source};
 use hir_store::{ExpressionStore, ExpressionStoreBuilder};
 use std::alloc::Global;
 
@@ -51,7 +51,8 @@ fn body_of_parts(
     Ok(Body::new(alloc, store, params, self_param)?)
 }
 
-/// Makes what the lines before the first question make, and answers the questions. The last answers may still wait.
+/// Makes what the lines before the first question make, and answers the questions. The last answers may still
+/// wait.
 fn answer_script<R: Source, W: Sink>(
     alloc: Global,
     disposal: Disposal,
@@ -146,9 +147,10 @@ fn run_with<R: Source, W: Sink>(
     run_lines_with(alloc, disposal, &mut lines, reader, writer)
 }
 
-/// Runs the program as `run` does, on the lines that a fresh reader takes from the source. Where memory was refused, the reader tells
-/// at which: at its line, which is the last that was taken and may come there; or, where it has none, behind all that were taken, since
-/// the next was being read or the input had ended.
+/// Runs the program as `run` does, on the lines that a fresh reader takes from the source. Where an
+/// allocation fails, the reader shows at which: at its line, which is the last that was taken and may come
+/// there; or, where it has none, after all that were taken, since the next was being read or the input had
+/// ended.
 pub fn run_lines<R: Source, W: Sink>(
     alloc: Global,
     lines: &mut LineReader,
@@ -164,12 +166,14 @@ pub fn run_lines<R: Source, W: Sink>(
 
 /// Runs the program on the lines that the source gives, and writes its answers to the sink.
 ///
-/// Lines that make something come before the first question; after it, each line but a question or an empty one is bad. The answers
-/// come in order up to the first fault; `accepted` where there is neither a question nor a fault. What was made is tested where the
-/// first question comes, or at the end, and its body where the first question on it comes. What waits to be written is written
-/// before each read and before the run ends, so an answer is never held back while more input is awaited. A failed read ends
-/// the run: the answers of the whole lines before are written. A failed write ends it too. Where memory is refused at a line, which is
-/// never a bad one, the answers of all lines before it are written: `run_lines` tells at which line. All memory is given back.
+/// Lines that make something come before the first question; after it, each line but a question or an empty
+/// one is bad. The answers come in order up to the first fault; `accepted` where there is neither a question
+/// nor a fault. What was made is tested where the first question comes, or at the end, and its body where the
+/// first question on it comes. What waits to be written is written before each read and before the run ends,
+/// so an answer is never held back while more input is awaited. A failed read ends the run: the answers of
+/// the whole lines before are written. A failed write ends it too. Where an allocation fails at a line, which
+/// is never a bad one, the answers of all lines before it are written: `run_lines` shows at which line. All
+/// memory is given back.
 pub fn run<R: Source, W: Sink>(
     alloc: Global,
     reader: &mut R,
@@ -182,11 +186,11 @@ pub fn run<R: Source, W: Sink>(
     run_with(alloc, Disposal::GiveBack, reader, writer)
 }
 
-/// Runs the program as `run` does, for a process that ends behind it.
+/// Runs the program as `run` does, for a process that ends after it.
 ///
-/// The memory of what was made, which is the store, the body and its scopes, is not given back: the end of the process takes it
-/// back at once, and to drop it before, node by node, takes time. Where the run ends with a fault, some of it may be given back.
-/// The buffers of lines and answers are given back as by `run`.
+/// The memory of what was made, which is the store, the body and its scopes, is not given back: the end of
+/// the process takes it back at once, and to drop it before, node by node, takes time. Where the run ends
+/// with a fault, some of it may be given back. The buffers of lines and answers are given back as by `run`.
 pub fn run_to_exit<R: Source, W: Sink>(
     alloc: Global,
     reader: &mut R,
@@ -199,8 +203,9 @@ pub fn run_to_exit<R: Source, W: Sink>(
     run_with(alloc, Disposal::Leave, reader, writer)
 }
 
-/// Runs the program as `run_to_exit` does, reports on the sink of errors how it failed, if it did, as `report` does, and answers the
-/// exit status. It is all that the `main` of a process does, but for making the three ends.
+/// Runs the program as `run_to_exit` does, reports on the sink of errors how it failed, if it did, as
+/// `report` does, and returns the exit status. It is all that the `main` of a process does, but for making
+/// the three ends.
 pub fn run_and_report<R: Source, W: Sink, E: Sink>(
     alloc: Global,
     reader: &mut R,

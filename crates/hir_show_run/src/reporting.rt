@@ -1,5 +1,5 @@
-//! Writes how the program ended, without taking memory: each piece of the text is a write of its own, so that it is known
-//! what a failed write leaves.
+//! Writes how the program ended, without taking memory: each piece of the text is a write of its own, so that
+//! it is known what a failed write leaves.
 
 ghost use Rattle.std.specs.Prelude.{◌≡◌, ◌||◌, ◌++◌, codes, false, is_err};
 ghost use Rattle.std.specs.Fmt.{decimal};
@@ -10,11 +10,11 @@ ghost use Rattle.hir_items.specs.FaultTexts.{body_fault_text};
 ghost use Rattle.hir_show_run.specs.Texts.{fault_text, finish_fault_text, node_text, text_of, WritesText};
 
 use crate::fault::RunFault;
-use hir_show_io::{EndFailed, Sink, write_all, write_decimal};
 use hir_items::BodyFault;
+use hir_show_io::{EndFailed, Sink, write_all, write_decimal};
 use hir_store::{FinishFault, NodeId};
 
-/// Writes words and a number behind them.
+/// Writes words and a number after them.
 fn write_numbered<W: Sink>(words: &[u8], number: u64, errors: &mut W) -> Result<(), EndFailed>
     ensures text { WritesText (W.contents errors.old) (W.contents errors.new)
         (words.now ++ decimal number) result }
@@ -139,8 +139,8 @@ fn write_line<W: Sink>(fault: RunFault, errors: &mut W) -> Result<(), EndFailed>
     write_all(errors, b"\n")
 }
 
-/// The exit status: 0 without a fault, 1 for a bad line, 2 for a refusal, 3 for a failed read or write, 4 where memory was
-/// refused.
+/// The exit status: 0 without a fault, 1 for a bad line, 2 for a refusal, 3 for a failed read or write, 4
+/// where an allocation fails.
 fn status(outcome: &Result<(), RunFault>) -> u8
     ensures { result ≡ status_of outcome.now }
 {
@@ -155,9 +155,10 @@ fn status(outcome: &Result<(), RunFault>) -> u8
     }
 }
 
-/// Writes how the program failed, if it did, as one line, and answers its exit status: 0 without a fault, 1 for a bad line, 2 for
-/// a refusal, 3 for a failed read or write, 4 where memory was refused. Takes no memory. Where a write fails, a front of the
-/// line was written and the status is the same: the sink says whether one has failed.
+/// Writes how the program failed, if it did, as one line, and returns its exit status: 0 without a fault, 1
+/// for a bad line, 2 for a refusal, 3 for a failed read or write, 4 where an allocation fails. Takes no
+/// memory. Where a write fails, a prefix of the line was written and the status is the same: the sink says
+/// whether one has failed.
 pub fn report<W: Sink>(outcome: &Result<(), RunFault>, errors: &mut W) -> u8
     ensures status { result ≡ status_of outcome.now }
     ensures whole { W.is_failed errors.new ≡ false →

@@ -1,4 +1,4 @@
-//! The answers that scopes give: the names that an expression sees, and what one of them means there.
+//! The answers that scopes give: the names that an expression sees, and what one of them resolves to there.
 
 ghost use Rattle.std.specs.Prelude.{◌<◌, ◌∷◌, Some, length};
 ghost use Rattle.hir_scope.specs.Paths.{chain, frame_at};
@@ -8,11 +8,11 @@ ghost use Rattle.hir_show_run.specs.Output.{OutputsText};
 
 use crate::output::Output;
 use hir_base::{HygieneId, Name, SyntaxContext};
-use hir_show_io::Sink;
 use hir_node::ExprId;
 use hir_scope::{ExprScopes, ScopeEntry, ScopeId};
+use hir_show_io::Sink;
 
-/// Puts a name behind a space.
+/// Puts a name after a space.
 fn put_name<W: Sink>(name: &Name, output: &mut Output<'_, W>)
     ensures { OutputsText W.Sink output.old output.new (32 ∷ name.now) }
 {
@@ -49,7 +49,7 @@ fn put_chain<W: Sink>(scopes: &ExprScopes, scope: ScopeId, output: &mut Output<'
     }
 }
 
-/// Puts the number of an expansion behind a space, and nothing for source text.
+/// Puts the number of an expansion after a space, and nothing for source text.
 fn put_expansion<W: Sink>(hygiene: HygieneId, output: &mut Output<'_, W>)
     ensures { OutputsText W.Sink output.old output.new (expansion_text hygiene) }
 {
@@ -67,7 +67,7 @@ fn put_asked_name<W: Sink>(name: &Name, hygiene: HygieneId, output: &mut Output<
     put_expansion(hygiene, output);
 }
 
-/// Puts the binding that a name means in a scope, or that there is none.
+/// Puts the binding that a name resolves to in a scope, or that there is none.
 fn put_resolved<W: Sink>(
     scopes: &ExprScopes,
     scope: ScopeId,
@@ -100,7 +100,7 @@ fn put_known<W: Sink>(scopes: &ExprScopes, id: ExprId, output: &mut Output<'_, W
     put_chain(scopes, scope, output);
 }
 
-/// Puts the binding that a name means at an expression, or that the expression isn't reached.
+/// Puts the binding that a name resolves to at an expression, or that the expression isn't reached.
 fn put_meaning<W: Sink>(
     scopes: &ExprScopes,
     id: ExprId,
@@ -126,7 +126,7 @@ pub(crate) fn answer_chain<W: Sink>(scopes: &ExprScopes, id: ExprId, output: &mu
     output.put(b"\n");
 }
 
-/// Puts the line of what a name means at an expression.
+/// Puts the line of what a name resolves to at an expression.
 pub(crate) fn answer_resolve<W: Sink>(
     scopes: &ExprScopes,
     id: ExprId,

@@ -7,7 +7,7 @@ use Rattle.std.specs.FinMap as map
 use Rattle.hir_base.specs.Table.{by_code, by_code-IsAntisymmetric, by_code_decides}
 use Rattle.hir_source_map.specs.Sources.{id_key, list_or_none, and_definition}
 
--- what follows from a value that is there
+-- what follows from a value that is present
 pub of_some : {A P : Type 0} {o : Option A} {x : A} → o ≡ Some x → OnSome o P → P
 of_some {A} {P} {o} {x} e h = subst (λ r. OnSome r P) e h
 

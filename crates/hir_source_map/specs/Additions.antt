@@ -1,15 +1,17 @@
--- What each call of a builder of source maps leaves: one entry more in one of its maps, or another value there, and
--- nothing else changed.
-use Rattle.std.specs.Prelude.{◌≡◌, ℕ, [], ◌∷◌, ◌++◌, Bool, ◌||◌, cond, Some, None}
+-- Defines how each call of a builder of source maps changes it: one map has one entry more, or another value
+-- at its key, and nothing else changes.
+use Rattle.std.specs.Prelude.{◌≡◌, [], ◌∷◌, ◌++◌, Bool, ◌||◌, cond, Some, None}
 use Rattle.std.specs.FinMap as map
 use Rattle.std.specs.declared.alloc.Global.{Global}
+use Rattle.hir_base.specs.Ids.{MacroCallId}
+use Rattle.hir_path.specs.NodeIds.{ExprId, PatId, BindingId, LabelId, TypeRefId, LifetimeRefId}
 use Rattle.hir_path.specs.declared.ids.ExprOrPatId.{ExprOrPatId}
 use Rattle.hir_source_map.specs.declared.diagnostics.ExpressionStoreDiagnostics.{ExpressionStoreDiagnostics}
 use Rattle.hir_source_map.specs.declared.source_map_builder.SourceMapBuilder.{SourceMapBuilder}
 use Rattle.hir_source_map.specs.declared.source_map.ExpressionStoreSourceMap.{ExpressionStoreSourceMap}
 use Rattle.hir_source_map.specs.Sources.{Source, source_key, id_key, no_expr_sources, no_type_sources, and_definition, has_news}
 
--- two builders have the same maps
+-- the two builders have the same maps
 abbrev pub HasSameMaps : SourceMapBuilder → SourceMapBuilder → Type 0
 HasSameMaps b c = (b.exprs ≡ c.exprs) × (b.types ≡ c.types)
 
@@ -21,7 +23,7 @@ abbrev pub with_expr : SourceMapBuilder → Source → ExprOrPatId → SourceMap
 with_expr b source expr =
     record b { exprs = record b.exprs { expr_map = map.insert b.exprs.expr_map (source_key source) expr } }
 
-abbrev pub with_expr_back : SourceMapBuilder → ℕ → Source → SourceMapBuilder
+abbrev pub with_expr_back : SourceMapBuilder → ExprId → Source → SourceMapBuilder
 with_expr_back b expr source =
     record b {
       exprs = record b.exprs { expr_map_back = map.insert b.exprs.expr_map_back (id_key expr) source };
@@ -31,39 +33,39 @@ abbrev pub with_pat : SourceMapBuilder → Source → ExprOrPatId → SourceMapB
 with_pat b source pat =
     record b { exprs = record b.exprs { pat_map = map.insert b.exprs.pat_map (source_key source) pat } }
 
-abbrev pub with_pat_back : SourceMapBuilder → ℕ → Source → SourceMapBuilder
+abbrev pub with_pat_back : SourceMapBuilder → PatId → Source → SourceMapBuilder
 with_pat_back b pat source =
     record b { exprs = record b.exprs { pat_map_back = map.insert b.exprs.pat_map_back (id_key pat) source } }
 
-abbrev pub with_label : SourceMapBuilder → Source → ℕ → SourceMapBuilder
+abbrev pub with_label : SourceMapBuilder → Source → LabelId → SourceMapBuilder
 with_label b source label =
     record b { exprs = record b.exprs { label_map = map.insert b.exprs.label_map (source_key source) label } }
 
-abbrev pub with_label_back : SourceMapBuilder → ℕ → Source → SourceMapBuilder
+abbrev pub with_label_back : SourceMapBuilder → LabelId → Source → SourceMapBuilder
 with_label_back b label source =
     record b {
       exprs = record b.exprs { label_map_back = map.insert b.exprs.label_map_back (id_key label) source };
     }
 
-abbrev pub with_type : SourceMapBuilder → Source → ℕ → SourceMapBuilder
+abbrev pub with_type : SourceMapBuilder → Source → TypeRefId → SourceMapBuilder
 with_type b source type_ref =
     record b {
       types = record b.types { type_map = map.insert b.types.type_map (source_key source) type_ref };
     }
 
-abbrev pub with_type_back : SourceMapBuilder → ℕ → Source → SourceMapBuilder
+abbrev pub with_type_back : SourceMapBuilder → TypeRefId → Source → SourceMapBuilder
 with_type_back b type_ref source =
     record b {
       types = record b.types { type_map_back = map.insert b.types.type_map_back (id_key type_ref) source };
     }
 
-abbrev pub with_lifetime : SourceMapBuilder → Source → ℕ → SourceMapBuilder
+abbrev pub with_lifetime : SourceMapBuilder → Source → LifetimeRefId → SourceMapBuilder
 with_lifetime b source lifetime =
     record b {
       types = record b.types { lifetime_map = map.insert b.types.lifetime_map (source_key source) lifetime };
     }
 
-abbrev pub with_lifetime_back : SourceMapBuilder → ℕ → Source → SourceMapBuilder
+abbrev pub with_lifetime_back : SourceMapBuilder → LifetimeRefId → Source → SourceMapBuilder
 with_lifetime_back b lifetime source =
     record b {
       types = record b.types {
@@ -71,13 +73,13 @@ with_lifetime_back b lifetime source =
       };
     }
 
-abbrev pub with_field_back : SourceMapBuilder → ℕ → Source → SourceMapBuilder
+abbrev pub with_field_back : SourceMapBuilder → ExprId → Source → SourceMapBuilder
 with_field_back b expr source =
     record b {
       exprs = record b.exprs { field_map_back = map.insert b.exprs.field_map_back (id_key expr) source };
     }
 
-abbrev pub with_pat_field_back : SourceMapBuilder → ℕ → Source → SourceMapBuilder
+abbrev pub with_pat_field_back : SourceMapBuilder → PatId → Source → SourceMapBuilder
 with_pat_field_back b pat source =
     record b {
       exprs = record b.exprs {
@@ -85,13 +87,13 @@ with_pat_field_back b pat source =
       };
     }
 
-abbrev pub with_expansion : SourceMapBuilder → Source → ℕ → SourceMapBuilder
+abbrev pub with_expansion : SourceMapBuilder → Source → MacroCallId → SourceMapBuilder
 with_expansion b call expansion =
     record b {
       exprs = record b.exprs { expansions = map.insert b.exprs.expansions (source_key call) expansion };
     }
 
-abbrev pub with_definition : SourceMapBuilder → ℕ → ℕ → SourceMapBuilder
+abbrev pub with_definition : SourceMapBuilder → BindingId → PatId → SourceMapBuilder
 with_definition b binding pat =
     record b { exprs = record b.exprs { definitions = and_definition b.exprs.definitions binding pat } }
 
@@ -99,8 +101,8 @@ abbrev pub with_diagnostic : SourceMapBuilder → ExpressionStoreDiagnostics →
 with_diagnostic b diagnostic =
     record b { exprs = record b.exprs { diagnostics = b.exprs.diagnostics ++ diagnostic ∷ [] } }
 
--- the maps of a builder: the expression part exactly if nodes are kept or there is an expansion or a
--- diagnostic
+-- the finished maps of a builder, with the expression part exactly if nodes are kept or there is an
+-- expansion or a diagnostic
 abbrev pub finish_sources : Bool → SourceMapBuilder → ExpressionStoreSourceMap
 finish_sources keeps_nodes b =
     record { exprs = cond (keeps_nodes || has_news b.exprs) (Some b.exprs) None; types = b.types }

@@ -1,8 +1,10 @@
--- What `==` of source maps compares: their compared part, without the maps from sources to nodes.
-use Rattle.std.specs.Prelude.{ℕ, List, Bool, ◌&&◌, Option}
+-- Defines the compared part of source maps, which `==` compares: it is without the maps from sources to
+-- nodes.
+use Rattle.std.specs.Prelude.{List, Bool, ◌&&◌, Option}
 use Rattle.std.specs.Option.{option_eq, option_map}
 use Rattle.std.specs.FinMap as map
 use Rattle.std.specs.Cmp.Lexicographic.{pointwise}
+use Rattle.hir_base.specs.Ids.{MacroCallId}
 use Rattle.hir_base.specs.Maps.{same_maps}
 use Rattle.hir_base.specs.Table.{by_code}
 use Rattle.hir_source_map.specs.declared.diagnostics.ExpressionStoreDiagnostics.{ExpressionStoreDiagnostics}
@@ -10,16 +12,17 @@ use Rattle.hir_source_map.specs.declared.sources.ExprSources.{ExprSources}
 use Rattle.hir_source_map.specs.declared.source_map.ExpressionStoreSourceMap.{ExpressionStoreSourceMap}
 use Rattle.hir_source_map.specs.Sources.{Source}
 
--- of an expression part: where expressions, patterns and labels came from, the expansions, the diagnostics
+-- the compared part of an expression part: the sources of expressions, patterns and labels, the expansions,
+-- the diagnostics
 pub record ComparedExprs : Type 0 where
   pub exprs : map.FinMap by_code Source
   pub pats : map.FinMap by_code Source
   pub labels : map.FinMap by_code Source
-  pub expansions : map.FinMap by_code ℕ
+  pub expansions : map.FinMap by_code MacroCallId
   pub diagnostics : List ExpressionStoreDiagnostics
 
--- of a source map: whether the expression part is kept and what is compared of it, and where types and lifetimes
--- came from
+-- the compared part of a source map: whether the expression part is kept and its compared part, and the
+-- sources of types and lifetimes
 pub record ComparedPart : Type 0 where
   pub kept : Option ComparedExprs
   pub types : map.FinMap by_code Source
@@ -44,8 +47,8 @@ compared_part m =
       lifetimes = m.types.lifetime_map_back;
     }
 
--- the test of compared parts, by tests of sources, of expansions and of diagnostics
-module _ (S : Source → Source → Bool) (C : ℕ → ℕ → Bool)
+-- the test whether compared parts are equal, by tests of sources, of expansions and of diagnostics
+module _ (S : Source → Source → Bool) (C : MacroCallId → MacroCallId → Bool)
     (D : ExpressionStoreDiagnostics → ExpressionStoreDiagnostics → Bool) where
   abbrev pub same_exprs : ExprSources → ExprSources → Bool
   same_exprs p q =

@@ -1,7 +1,14 @@
+-- the two parts of a source map, and their keys
 pub mod Sources
+-- how each call of a builder changes it
 pub mod Additions
+-- what each lookup returns
 pub mod Lookups
-pub mod Calls
-pub mod ComparedPart
-pub mod same
+-- when a source map has nothing in its expression part
 pub mod NoSources
+-- macro calls with their expansions
+pub mod Calls
+-- the part that `==` compares
+pub mod ComparedPart
+-- proofs alone, of equality
+pub mod same

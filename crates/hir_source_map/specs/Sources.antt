@@ -1,7 +1,8 @@
--- The maps of a source map, in two groups, that of expressions and that of types: their keys, both without entries,
--- and what the first is kept for.
+-- Defines the keys of the maps of a source map, its two parts without entries, that of expressions and that
+-- of types, and when the first is kept.
 use Rattle.std.specs.Prelude.{ℕ, List, [], ◌∷◌, ◌++◌, length, Bool, not, ◌||◌, Option, Some, None, ◌==◌, nat_eq}
 use Rattle.std.specs.FinMap as map
+use Rattle.hir_path.specs.NodeIds.{PatId, BindingId}
 use Rattle.hir_base.specs.Table.{by_code}
 use Rattle.hir_base.specs.Keys.{node_code}
 use Rattle.hir_base.specs.declared.ptr.InFile.{InFile}
@@ -13,11 +14,11 @@ use Rattle.hir_source_map.specs.declared.sources.TypeSources.{TypeSources}
 abbrev pub Source : Type 0
 Source = InFile SyntaxNodePtr
 
--- what tells a source from others: its file, and the kind and the range of its node
+-- the key of a source: its file, and the kind and the range of its node
 abbrev pub source_key : Source → List ℕ
 source_key source = source.file_id ∷ node_code source.value
 
--- what tells an id from others: its number
+-- the key of an id: its number
 abbrev pub id_key : ℕ → List ℕ
 id_key id = id ∷ []
 
@@ -45,19 +46,20 @@ no_type_sources =
       lifetime_map_back = map.empty;
     }
 
--- there is an expansion or a diagnostic
+-- whether there is an expansion or a diagnostic
 abbrev pub has_news : ExprSources → Bool
 has_news p = not (map.len p.expansions == 0) || not (nat_eq (length p.diagnostics) 0)
 
-abbrev pub list_or_none : Option (List ℕ) → List ℕ
+abbrev pub list_or_none : Option (List PatId) → List PatId
 list_or_none None = []
 list_or_none (Some list) = list
 
 -- the patterns that define a binding, in the order in which they were added
-abbrev pub patterns_of : map.FinMap by_code (List ℕ) → ℕ → List ℕ
+abbrev pub patterns_of : map.FinMap by_code (List PatId) → BindingId → List PatId
 patterns_of definitions binding = list_or_none (map.get definitions (id_key binding))
 
--- the definitions with one more of this binding, after its others
-abbrev pub and_definition : map.FinMap by_code (List ℕ) → ℕ → ℕ → map.FinMap by_code (List ℕ)
+-- the definitions with one more pattern of this binding, after its others
+abbrev pub and_definition : map.FinMap by_code (List PatId) → BindingId → PatId
+    → map.FinMap by_code (List PatId)
 and_definition definitions binding pat =
     map.insert definitions (id_key binding) (patterns_of definitions binding ++ pat ∷ [])

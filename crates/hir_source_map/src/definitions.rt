@@ -1,4 +1,5 @@
-//! The patterns that define a binding: a `SmallVec` with four places inline, since most bindings have one definition.
+//! The patterns that define a binding: a `SmallVec` with four inline places, since most bindings have one
+//! definition.
 ghost use Rattle.std.specs.Prelude.{◌≡◌, [], ◌∷◌, ◌++◌, OnOk, OnErr, IfErr};
 ghost use Rattle.std.specs.FinMap as map;
 ghost use Rattle.std.specs.Cmp.Lexicographic.{pointwise, bytes_decides};
@@ -13,7 +14,7 @@ use smallvec::SmallVec;
 use std::alloc::{AllocFailed, Global};
 use std::marker::Model;
 
-/// A list of patterns, seen as that list. The first four take no memory.
+/// A list of patterns, modelled as that list. The first four take no memory.
 #[derive(Drop)]
 pub struct Definitions {
     list: SmallVec<PatId, 4>,
@@ -46,7 +47,7 @@ impl ExactEq for Definitions {
 }
 
 impl Definitions {
-    /// No patterns.
+    /// Returns the list of no patterns.
     pub fn new(alloc: Global) -> Definitions
         ensures { result ≡ [] }
     {
@@ -55,14 +56,15 @@ impl Definitions {
         }
     }
 
-    /// The patterns as a slice.
+    /// Returns the patterns as a slice.
     pub fn as_slice(&self) -> &[PatId]
         ensures { result.now ≡ self.now }
     {
         self.list.as_slice()
     }
 
-    /// Adds the pattern at the end. If memory is refused, the list is unchanged and the pattern is handed back.
+    /// Adds the pattern at the end. If the allocation fails, the list is unchanged and the error gives the
+    /// pattern back.
     pub fn push(&mut self, pat: PatId) -> Result<(), AllocFailed<PatId>>
         ensures ok { OnOk result (self.new ≡ self.old ++ pat ∷ []) }
         ensures err { OnErr result (self.new ≡ self.old) }
@@ -74,7 +76,8 @@ impl Definitions {
 
 /// Adds the pattern after the others that define the binding.
 ///
-/// Answers an error if memory was refused: binding and pattern are handed back, and the definitions are unchanged.
+/// Returns an error if the allocation fails: the error gives binding and pattern back, and the definitions
+/// are unchanged.
 pub fn define(
     alloc: Global,
     definitions: &mut Table<BindingId, Definitions>,

@@ -29,7 +29,7 @@ impl TryClone for MissingBodyItemKind {
     ghost clone_is_same = { Prim.search exact };
 }
 
-/// What lowering found wrong, each with the node that it is about.
+/// The faults that lowering found, each with the node that it is about.
 #[derive(Drop, PartialEq, Eq)]
 pub enum ExpressionStoreDiagnostics {
     /// Code that a `cfg` leaves out.
@@ -46,7 +46,7 @@ pub enum ExpressionStoreDiagnostics {
         /// The path of the macro.
         path: ModPath,
     },
-    /// A label beyond the edge of a function, a closure or a constant.
+    /// A label outside of the function, the closure or the constant that names it.
     UnreachableLabel {
         node: InFile<LifetimePtr>,
         /// The label.
@@ -55,7 +55,7 @@ pub enum ExpressionStoreDiagnostics {
     /// An `.await` where nothing is asynchronous.
     AwaitOutsideOfAsync {
         node: InFile<AstPtr<ast::AwaitExpr>>,
-        /// Where it is instead.
+        /// What the `.await` is in instead.
         location: Text,
     },
     /// A label that no enclosing loop or block has.

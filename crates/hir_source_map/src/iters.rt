@@ -6,7 +6,7 @@ use hir_base::{InFile, MacroCallId, MacroCallPtr, TableIter};
 use std::iter::FusedIterator;
 use std::marker::Model;
 
-/// Macro calls with what they expanded to, seen as the list of those that are left.
+/// Macro calls with what they expanded to, modelled as the list of those that are left.
 #[derive(Drop)]
 pub struct Expansions<'a> {
     inner: Option<TableIter<'a, InFile<MacroCallPtr>, MacroCallId>>,
@@ -49,7 +49,7 @@ impl<'a> Iterator for Expansions<'a> {
 
 impl<'a> FusedIterator for Expansions<'a> {}
 
-/// Macro calls with what they expanded to, by value, seen as the list of those that are left.
+/// Macro calls with what they expanded to, by value, modelled as the list of those that are left.
 #[derive(Drop)]
 pub struct MacroCalls<'a> {
     inner: Expansions<'a>,

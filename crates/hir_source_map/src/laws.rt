@@ -1,5 +1,5 @@
-//! Laws that a reader relies on, and that no call's contract states.
-//! Each is a function with no body to run: its contract is the law, proved for every value.
+//! Theorems that a reader relies on, and that no call's contract states.
+//! Each is a function with an empty body: its contract is the theorem, proved for every value.
 
 ghost use Rattle.std.specs.Prelude.{◌≡◌, ℕ, Bool, IsTrue, is_some};
 ghost use Rattle.std.specs.Bool.{Decides};
@@ -41,8 +41,8 @@ pub fn forward_maps_may_differ()
         (finish_sources keeps_nodes (with_lifetime b source id)) (finish_sources keeps_nodes b)) }
 {}
 
-/// Of equal source maps both keep their expression parts or neither does, and both have the same source of each node, the same
-/// expansions and the same diagnostics: if one of these differs, the maps aren't equal.
+/// Two equal source maps both keep their expression parts or neither does, and have the same source of each
+/// node, the same expansions and the same diagnostics: if one of these differs, the maps aren't equal.
 pub fn equal_maps_know_the_same_sources()
     ensures kept { (x y : ExpressionStoreSourceMap)
         → IsTrue (⟦<ExpressionStoreSourceMap as PartialEq>⟧.eq x y) → is_some x.exprs ≡ is_some y.exprs }
@@ -67,7 +67,8 @@ pub fn equal_maps_know_the_same_sources()
         → IsTrue (⟦<ExpressionStoreSourceMap as PartialEq>⟧.eq x y) → diagnostics_of x ≡ diagnostics_of y }
 {}
 
-/// Builders of source maps are equal exactly if all their maps are the same, also those from sources to nodes.
+/// Builders of source maps are equal exactly if all their maps are the same, including those from sources to
+/// nodes.
 pub fn builders_are_compared_by_all_maps()
     ensures { (x y : SourceMapBuilder)
         → Decides (⟦<SourceMapBuilder as PartialEq>⟧.eq x y) (HasSameMaps x y) }

@@ -1,5 +1,6 @@
-//! Where the nodes of a store come from: from a pointer into source to a node and back, the patterns of a binding, what macro calls
-//! expanded to, and the diagnostics of lowering. The maps are filled while a store is built, and read from then on.
+//! Where the nodes of a store come from: from a pointer into source to a node and back, the patterns of a
+//! binding, what macro calls expanded to, and the diagnostics of lowering. The maps are filled while a store
+//! is built, and read-only afterwards.
 #![tactic(auto)]
 
 mod definitions;

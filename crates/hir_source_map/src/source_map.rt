@@ -21,16 +21,18 @@ use hir_rare::LazyBox;
 
 /// Where the nodes of a store come from. `finish` of a builder makes it.
 ///
-/// Its expression part, which is all but the maps of types and lifetimes, may be left out: then it has no entries.
+/// Its expression part, which is all but the maps of types and lifetimes, may be left out: then it has no
+/// entries.
 ///
-/// `==` compares where nodes came from, expansions, diagnostics, and whether the expression part is kept; the maps from sources to
-/// nodes, those of fields and the definitions of bindings aren't compared.
+/// `==` compares where nodes came from, expansions, diagnostics, and whether the expression part is kept;
+/// the maps from sources to nodes, those of fields and the definitions of bindings aren't compared.
 pub struct ExpressionStoreSourceMap {
     pub(crate) exprs: Option<LazyBox<ExprSources>>,
     pub(crate) types: LazyBox<TypeSources>,
 }
 
-/// Drops its parts one after the other. It is written out so that it is proved once, and is a call wherever a value is dropped.
+/// Drops its parts one after the other. It is written out so that it is proved once, and that each drop is a
+/// call.
 impl Drop for ExpressionStoreSourceMap {
     fn drop(self) {
         let ExpressionStoreSourceMap { exprs, types } = self;
@@ -41,7 +43,7 @@ impl ExpressionStoreSourceMap {
     ghost use Rattle.hir_source_map.specs.NoSources.{HasNoSources};
     ghost use Rattle.hir_source_map.specs.Lookups.{expr_at, pat_at, label_at, type_at, expansion_at, expr_source, pat_source, expr_or_pat_source, label_source, type_source, field_source, pat_field_source, or_synthetic, patterns_for, expansions_of, diagnostics_of};
 
-    /// The expression part, where it is kept and has memory. Else it has no entries.
+    /// Returns the expression part, if it is kept and has memory. Otherwise the part has no entries.
     #[tactic(auto, using(crate::proofs::NoSources::nothing_there))]
     fn exprs(&self) -> Option<&ExprSources>
         ensures part { IfSome result (λ part. self.now.exprs ≡ Some part.now) }
@@ -53,9 +55,9 @@ impl ExpressionStoreSourceMap {
         }
     }
 
-    /// Where the expression or the pattern came from.
+    /// Returns where the expression or the pattern came from.
     ///
-    /// Answers `SyntheticSyntax` if there is no entry: lowering made up the node, say. So do the next three calls.
+    /// Returns the error `SyntheticSyntax` if there is no entry, as of a node that lowering made up.
     pub fn expr_or_pat_syntax(&self, id: ExprOrPatId) -> Result<ExprOrPatSource, SyntheticSyntax>
         ensures { result ≡ or_synthetic (expr_or_pat_source self.now id) }
     {
@@ -65,7 +67,7 @@ impl ExpressionStoreSourceMap {
         }
     }
 
-    /// Where the expression came from.
+    /// Returns where the expression came from, or the error `SyntheticSyntax` if there is no entry.
     pub fn expr_syntax(&self, expr: ExprId) -> Result<ExprOrPatSource, SyntheticSyntax>
         ensures { result ≡ or_synthetic (expr_source self.now expr) }
     {
@@ -74,7 +76,7 @@ impl ExpressionStoreSourceMap {
         source.copied().ok_or(SyntheticSyntax)
     }
 
-    /// Where the pattern came from.
+    /// Returns where the pattern came from, or the error `SyntheticSyntax` if there is no entry.
     pub fn pat_syntax(&self, pat: PatId) -> Result<ExprOrPatSource, SyntheticSyntax>
         ensures { result ≡ or_synthetic (pat_source self.now pat) }
     {
@@ -83,42 +85,42 @@ impl ExpressionStoreSourceMap {
         source.copied().ok_or(SyntheticSyntax)
     }
 
-    /// The source of the type, where it has one.
+    /// Returns the source of the type, if it has one.
     fn type_source(&self, type_ref: TypeRefId) -> Option<TypeSource>
         ensures { result ≡ type_source self.now type_ref }
     {
         self.types.get()?.type_map_back.get(&type_ref).copied()
     }
 
-    /// Where the type came from.
+    /// Returns where the type came from, or the error `SyntheticSyntax` if there is no entry.
     pub fn type_syntax(&self, type_ref: TypeRefId) -> Result<TypeSource, SyntheticSyntax>
         ensures { result ≡ or_synthetic (type_source self.now type_ref) }
     {
         self.type_source(type_ref).ok_or(SyntheticSyntax)
     }
 
-    /// What the expression in source became: an expression, or a pattern if it is assigned to.
+    /// Returns what the expression in source became: an expression, or a pattern if it is assigned to.
     pub fn node_expr(&self, node: InFile<ExprPtr>) -> Option<ExprOrPatId>
         ensures { result ≡ expr_at self.now node }
     {
         self.exprs()?.expr_map.get(&node).copied()
     }
 
-    /// What the pattern in source became.
+    /// Returns what the pattern in source became.
     pub fn node_pat(&self, node: InFile<PatPtr>) -> Option<ExprOrPatId>
         ensures { result ≡ pat_at self.now node }
     {
         self.exprs()?.pat_map.get(&node).copied()
     }
 
-    /// What the type in source became.
+    /// Returns what the type in source became.
     pub fn node_type(&self, node: InFile<TypePtr>) -> Option<TypeRefId>
         ensures { result ≡ type_at self.now node }
     {
         self.types.get()?.type_map.get(&node).copied()
     }
 
-    /// What the label in source became.
+    /// Returns what the label in source became.
     pub fn node_label(&self, node: InFile<AstPtr<ast::Label>>) -> Option<LabelId>
         ensures { result ≡ label_at self.now node }
     {
@@ -129,7 +131,7 @@ impl ExpressionStoreSourceMap {
         self.exprs()?.label_map.get(&source).copied()
     }
 
-    /// What the macro call in expression position became.
+    /// Returns what the macro call in expression position became.
     pub fn macro_expansion_expr(&self, node: InFile<AstPtr<ast::MacroExpr>>) -> Option<ExprOrPatId>
         ensures { result ≡ expr_at self.now node }
     {
@@ -140,28 +142,28 @@ impl ExpressionStoreSourceMap {
         self.exprs()?.expr_map.get(&source).copied()
     }
 
-    /// What the macro call expanded to.
+    /// Returns what the macro call expanded to.
     pub fn node_macro_file(&self, node: InFile<MacroCallPtr>) -> Option<MacroCallId>
         ensures { result ≡ expansion_at self.now node }
     {
         self.exprs()?.expansions.get(&node).copied()
     }
 
-    /// What the macro call expanded to, as `node_macro_file`.
+    /// Returns what the macro call expanded to, as `node_macro_file`.
     pub fn expansion(&self, node: InFile<MacroCallPtr>) -> Option<MacroCallId>
         ensures { result ≡ expansion_at self.now node }
     {
         self.node_macro_file(node)
     }
 
-    /// All macro calls with what they expanded to, in no promised order.
+    /// Returns all macro calls with what they expanded to, in no promised order.
     pub fn macro_calls(&self) -> MacroCalls<'_>
         ensures { IsPermutation (by_codes source_key result) (map.entries (expansions_of self.now)) }
     {
         MacroCalls::new(self.expansions())
     }
 
-    /// All macro calls with what they expanded to, as references, in no promised order.
+    /// Returns all macro calls with what they expanded to, as references, in no promised order.
     pub fn expansions(&self) -> Expansions<'_>
         ensures { IsPermutation (by_codes source_key result) (map.entries (expansions_of self.now)) }
     {
@@ -171,7 +173,7 @@ impl ExpressionStoreSourceMap {
         }
     }
 
-    /// Whether there is a source of the label.
+    /// Returns whether the label has a source.
     pub fn has_label_syntax(&self, label: LabelId) -> bool
         ensures { IsTrue result ↔ IsSome (label_source self.now label) }
     {
@@ -181,7 +183,7 @@ impl ExpressionStoreSourceMap {
         }
     }
 
-    /// A source of the label, which must be there: `has_label_syntax` tests that.
+    /// Returns the source of the label, which must exist: `has_label_syntax` tests that.
     pub fn label_syntax(&self, label: LabelId) -> LabelSource
         requires { IsSome (label_source self.now label) }
         ensures { Some result ≡ label_source self.now label }
@@ -196,7 +198,7 @@ impl ExpressionStoreSourceMap {
         }
     }
 
-    /// Whether there is a source of the field whose value is the expression.
+    /// Returns whether the field whose value is the expression has a source.
     pub fn has_field_syntax(&self, expr: ExprId) -> bool
         ensures { IsTrue result ↔ IsSome (field_source self.now expr) }
     {
@@ -206,7 +208,8 @@ impl ExpressionStoreSourceMap {
         }
     }
 
-    /// A source of the field whose value is the expression. It must be there: `has_field_syntax` tests that.
+    /// Returns the source of the field whose value is the expression. It must exist: `has_field_syntax`
+    /// tests that.
     pub fn field_syntax(&self, expr: ExprId) -> FieldSource
         requires { IsSome (field_source self.now expr) }
         ensures { Some result ≡ field_source self.now expr }
@@ -221,7 +224,7 @@ impl ExpressionStoreSourceMap {
         }
     }
 
-    /// Whether there is a source of the field that holds the pattern.
+    /// Returns whether the field that holds the pattern has a source.
     pub fn has_pat_field_syntax(&self, pat: PatId) -> bool
         ensures { IsTrue result ↔ IsSome (pat_field_source self.now pat) }
     {
@@ -231,7 +234,8 @@ impl ExpressionStoreSourceMap {
         }
     }
 
-    /// A source of the field that holds the pattern. It must be there: `has_pat_field_syntax` tests that.
+    /// Returns the source of the field that holds the pattern. It must exist: `has_pat_field_syntax` tests
+    /// that.
     pub fn pat_field_syntax(&self, pat: PatId) -> PatFieldSource
         requires { IsSome (pat_field_source self.now pat) }
         ensures { Some result ≡ pat_field_source self.now pat }
@@ -246,7 +250,8 @@ impl ExpressionStoreSourceMap {
         }
     }
 
-    /// The patterns that define the binding, in the order in which they were added: none if the expression part isn't kept.
+    /// Returns the patterns that define the binding, in the order in which they were added: none if the
+    /// expression part isn't kept.
     pub fn patterns_for_binding(&self, binding: BindingId) -> &[PatId]
         ensures { result.now ≡ patterns_for self.now binding }
     {
@@ -260,7 +265,7 @@ impl ExpressionStoreSourceMap {
         }
     }
 
-    /// The diagnostics, in the order in which they were pushed.
+    /// Returns the diagnostics, in the order in which they were pushed.
     pub fn diagnostics(&self) -> &[ExpressionStoreDiagnostics]
         ensures { result.now ≡ diagnostics_of self.now }
     {
@@ -271,7 +276,7 @@ impl ExpressionStoreSourceMap {
     }
 }
 
-/// Whether the compared parts of two expression parts are equal.
+/// Returns whether the compared parts of two expression parts are equal.
 fn same_exprs(x: &ExprSources, y: &ExprSources) -> bool
     ensures { result ≡ same_exprs ⟦<ExprOrPatSource as PartialEq>⟧.eq ⟦<MacroCallId as PartialEq>⟧.eq
         ⟦<ExpressionStoreDiagnostics as PartialEq>⟧.eq x.now y.now }
@@ -283,8 +288,9 @@ fn same_exprs(x: &ExprSources, y: &ExprSources) -> bool
         && x.diagnostics == y.diagnostics
 }
 
-/// Source maps are equal if their compared parts are: whether the expression part is kept, where expressions, patterns, labels, types
-/// and lifetimes came from, the expansions and the diagnostics. The maps from sources to nodes follow from these, and may differ.
+/// Source maps are equal if their compared parts are: whether the expression part is kept, where
+/// expressions, patterns, labels, types and lifetimes came from, the expansions and the diagnostics. The
+/// maps from sources to nodes follow from these, and may differ.
 impl PartialEq for ExpressionStoreSourceMap {
     ghost use Rattle.hir_source_map.specs.ComparedPart.{same_compared};
     ghost use Rattle.hir_source_map.specs.same.SameComparedPart.{compared_per};

@@ -8,17 +8,18 @@ use crate::sources::{ExprSources, TypeSources};
 use hir_rare::LazyBox;
 use std::alloc::Global;
 
-/// Where nodes come from, as far as entries were added: the builder of a store has the calls that add them. Nothing is checked: ids may
-/// be of nodes that don't exist.
+/// The maps to which entries are added: the builder of a store has the calls that add them. Nothing is
+/// checked: ids may be of nodes that don't exist.
 #[derive(PartialEq, Eq)]
 pub struct SourceMapBuilder {
     pub exprs: LazyBox<ExprSources>,
     pub types: LazyBox<TypeSources>,
-    /// Where the maps take their memory from.
+    /// The allocator of the maps.
     pub alloc: Global,
 }
 
-/// Drops its parts one after the other. It is written out so that it is proved once, and is a call wherever a value is dropped.
+/// Drops its parts one after the other. It is written out so that it is proved once, and that each drop is a
+/// call.
 impl Drop for SourceMapBuilder {
     fn drop(self) {
         let SourceMapBuilder {
@@ -43,10 +44,11 @@ impl SourceMapBuilder {
         }
     }
 
-    /// Finishes the maps, which are read from now on.
+    /// Finishes the maps, which are read-only afterwards.
     ///
-    /// The expression part, which is all but the maps of types and lifetimes, is kept exactly if the store keeps nodes of it, or if
-    /// there is an expansion or a diagnostic. Otherwise it is dropped with its entries.
+    /// The expression part, which is all but the maps of types and lifetimes, is kept exactly if the store
+    /// keeps nodes of it, or if there is an expansion or a diagnostic. Otherwise it is dropped with its
+    /// entries.
     pub fn finish(self, keeps_nodes: bool) -> ExpressionStoreSourceMap
         ensures { result ≡ finish_sources keeps_nodes self }
     {
@@ -64,7 +66,7 @@ impl SourceMapBuilder {
     }
 }
 
-/// Whether there is an expansion or a diagnostic.
+/// Returns whether there is an expansion or a diagnostic.
 fn has_news(exprs: &LazyBox<ExprSources>) -> bool
     ensures { result ≡ has_news exprs.now }
 {

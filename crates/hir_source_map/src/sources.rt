@@ -1,4 +1,5 @@
-//! The two parts of a source map: the maps of expressions and all that belongs to them, and the maps of types and lifetimes.
+//! The two parts of a source map: the maps of expressions and all that belongs to them, and the maps of
+//! types and lifetimes.
 
 ghost use Rattle.std.specs.Prelude.{◌≡◌};
 
@@ -12,7 +13,8 @@ use hir_path::{BindingId, ExprId, ExprOrPatId, LabelId, LifetimeRefId, PatId, Ty
 use hir_rare::Empty;
 use std::alloc::Global;
 
-/// Where expressions, patterns, labels and bindings come from, what macro calls expanded to, and the diagnostics.
+/// Where expressions, patterns, labels and bindings come from, what macro calls expanded to, and the
+/// diagnostics.
 #[derive(PartialEq, Eq)]
 pub struct ExprSources {
     /// What an expression in source became: a pattern, if it is assigned to.
@@ -23,7 +25,7 @@ pub struct ExprSources {
     pub pat_map_back: Table<PatId, ExprOrPatSource>,
     pub label_map: Table<LabelSource, LabelId>,
     pub label_map_back: Table<LabelId, LabelSource>,
-    /// The patterns that define a binding, which `define` adds.
+    /// The patterns that define a binding. `define` adds them.
     pub definitions: Table<BindingId, Definitions>,
     /// The key of a field of a struct expression is the expression that is its value.
     pub field_map_back: Table<ExprId, FieldSource>,
@@ -31,11 +33,12 @@ pub struct ExprSources {
     pub pat_field_map_back: Table<PatId, PatFieldSource>,
     /// What macro calls expanded to.
     pub expansions: Table<InFile<MacroCallPtr>, MacroCallId>,
-    /// In the order in which they were added.
+    /// The diagnostics, in the order in which they were added.
     pub diagnostics: Seq<ExpressionStoreDiagnostics>,
 }
 
-/// Drops its parts one after the other. It is written out so that it is proved once, and is a call wherever a value is dropped.
+/// Drops its parts one after the other. It is written out so that it is proved once, and that each drop is a
+/// call.
 impl Drop for ExprSources {
     fn drop(self) {
         let ExprSources {
@@ -63,7 +66,8 @@ pub struct TypeSources {
     pub lifetime_map_back: Table<LifetimeRefId, LifetimeSource>,
 }
 
-/// Drops its parts one after the other. It is written out so that it is proved once, and is a call wherever a value is dropped.
+/// Drops its parts one after the other. It is written out so that it is proved once, and that each drop is a
+/// call.
 impl Drop for TypeSources {
     fn drop(self) {
         let TypeSources {
@@ -97,7 +101,7 @@ impl ExprSources {
         }
     }
 
-    /// Whether there is an expansion or a diagnostic.
+    /// Returns whether there is an expansion or a diagnostic.
     pub fn has_news(&self) -> bool
         ensures { result ≡ has_news self.now }
     {

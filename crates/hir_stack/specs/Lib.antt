@@ -1,1 +1,2 @@
+-- the model of a stack
 pub mod Stacks

@@ -1,4 +1,5 @@
-//! A stack of what is still to do, onto which the next steps are put in the order in which they are done.
+//! A stack of work that is still to do. Items that are put on it as a group are popped in the order in which
+//! they were put.
 #![tactic(auto)]
 
 ghost use Rattle.std.specs.Prelude.{◌≡◌, ◌≤◌, List, [], ◌∷◌, ◌++◌, false, IfSome, None, OnErr, OnOk, drop, length, reverse, take};
@@ -7,7 +8,8 @@ ghost use Rattle.hir_stack.specs.Stacks.{StackItems, Defers};
 use std::alloc::{AllocError, Global};
 use std::marker::Model;
 
-/// A stack, seen as its items, the top first, and whether memory for one that was put there was refused.
+/// A stack, modelled as its items, the top first, and whether an allocation failed for one that was put
+/// there.
 #[derive(Drop)]
 pub struct Stack<T> {
     items: Vec<T>,
@@ -23,7 +25,7 @@ impl<T> Model for Stack<T> {
     ghost view = { λ s. record { items = reverse s.items.items; refused = is_some s.refused } };
 }
 
-/// Reverses the items from this place on.
+/// Reverses the items from this index on.
 fn reverse_from<T>(items: &mut [T], from: usize)
     requires { from ≤ length items.old }
     ensures { items.new ≡ take from items.old ++ reverse (drop from items.old) }
@@ -32,7 +34,7 @@ fn reverse_from<T>(items: &mut [T], from: usize)
 }
 
 impl<T> Stack<T> {
-    /// An empty stack, which allocates from `alloc`, and nothing now.
+    /// Returns an empty stack, which allocates from `alloc` once an item comes.
     pub fn new(alloc: Global) -> Stack<T>
         ensures { result ≡ record { items = []; refused = false } }
     {
@@ -42,7 +44,7 @@ impl<T> Stack<T> {
         }
     }
 
-    /// The number of items.
+    /// Returns the number of items.
     pub fn len(&self) -> usize
         ensures { result ≡ length self.now.items }
     {
@@ -51,7 +53,7 @@ impl<T> Stack<T> {
 
     /// Pushes an item.
     ///
-    /// Answers `AllocError` where memory for it was refused: nothing has changed then.
+    /// Fails with `AllocError` where an allocation fails: nothing has changed then.
     pub fn push(&mut self, item: T) -> Result<(), AllocError>
     where
         T: Drop,
@@ -63,7 +65,8 @@ impl<T> Stack<T> {
         Ok(())
     }
 
-    /// Pushes an item as one of several, which `push_deferred` then turns over. Where memory for it is refused, `push_deferred` answers so.
+    /// Pushes an item as one of a group, which `push_deferred` then reverses. Where an allocation fails,
+    /// `push_deferred` fails.
     pub fn defer(&mut self, item: T)
     where
         T: Drop,
@@ -74,9 +77,10 @@ impl<T> Stack<T> {
         }
     }
 
-    /// Turns over what lies above the lowest `below` items: of what was put on them the first is on top then.
+    /// Reverses all items but the lowest `below`, so that of what was put on these the first is on top.
     ///
-    /// Answers `AllocError` where memory for an item that was put was refused. The stack is of no use then.
+    /// Fails with `AllocError` where the allocation for an item that was put failed. The stack is of no use
+    /// then.
     pub fn push_deferred(&mut self, below: usize) -> Result<(), AllocError>
         ensures { OnOk result ((before : StackItems T) (items : List T)
             → length before.items ≡ below → Defers before items self.old

@@ -1,7 +1,8 @@
--- What a builder holds, what its store holds, and its first fault.
-use Rattle.std.specs.Prelude.{◌≡◌, ◌⊎◌, ℕ, List, [], ◌∷◌, ◌++◌, Bool, not, ◌||◌, cond, nat_eq, length, Option, Some, None, IsSome}
+-- The model of a builder: what it holds, what its store holds, and its first fault.
+use Rattle.std.specs.Prelude.{◌≡◌, ◌⊎◌, List, [], ◌∷◌, ◌++◌, Bool, not, ◌||◌, cond, nat_eq, length, Option, Some, None, IsSome}
 use Rattle.std.specs.FinMap as map
 use Rattle.std.specs.declared.alloc.Global.{Global}
+use Rattle.hir_path.specs.NodeIds.{ExprId}
 use Rattle.hir_forest.specs.declared.roots.Root.{Root}
 use Rattle.hir_forest.specs.Verdict.{◌unless◌, ◌before◌}
 use Rattle.hir_validate.specs.declared.fault.FinishFault.{FinishFault}
@@ -38,7 +39,7 @@ empty_builder alloc = record {
   alloc = alloc;
 }
 
--- what a builder has
+-- the nodes of a builder
 abbrev pub nodes_of : ExpressionStoreBuilder → Nodes
 nodes_of b = record {
   exprs = b.exprs;
@@ -72,7 +73,7 @@ has_exprs s = not (nat_eq (length s.exprs) 0) || not (nat_eq (length s.labels) 0
 abbrev pub kept_side_tables : Bool → SideTables → SideTables
 kept_side_tables kept side_tables = cond kept side_tables no_side_tables
 
--- what the store of a builder holds
+-- the contents of the store of a builder
 abbrev pub contents_of : Building → Contents
 contents_of b = record {
   nodes = b.nodes;
@@ -81,14 +82,14 @@ contents_of b = record {
 }
 
 -- the roots and one more, whose ends are the lengths of the arenas at that moment
-abbrev pub and_root : Building → ℕ → Option (List Root)
+abbrev pub and_root : Building → ExprId → Option (List Root)
 and_root b id = Some (roots_or_none b.roots ++ record { node = id; ends = ends_of b.nodes } ∷ [])
 
--- the roots, an empty list of them where there was none
+-- the roots, an empty list of them where none was begun
 abbrev pub some_roots : Option (List Root) → Option (List Root)
 some_roots roots = Some (roots_or_none roots)
 
--- a list of roots was begun, or there is nothing that needs one
+-- a list of roots was begun, or nothing needs one
 abbrev pub HasRoots : Building → Type 0
 HasRoots b = IsSome b.roots ⊎ ((b.nodes.exprs ≡ []) × (b.nodes.pats ≡ []) × (b.nodes.bindings ≡ [])
     × (b.nodes.labels ≡ []))

@@ -12,8 +12,6 @@ ghost use Rattle.hir_store_core.specs.PatLinks.{HasPatLinks};
 ghost use Rattle.hir_validate.specs.Sizes.{Few};
 
 use hir_base::{Arena, ArenaFault, BlockId, HygieneId, MOST_ITEMS, Seq, Table};
-use hir_store_core::{ExpressionStore, KeptParts, RootList, SideTables, StoreParts};
-use hir_validate::{FinishFault, NodeSlices};
 use hir_forest::Root;
 use hir_node::{
     Binding, BindingId, BindingKind, Expr, ExprId, ExprKind, ExprOrPatId, Label, LabelId,
@@ -22,6 +20,8 @@ use hir_node::{
 };
 use hir_rare::LazyBox;
 use hir_source_map::{ExpressionStoreSourceMap, SourceMapBuilder};
+use hir_store_core::{ExpressionStore, KeptParts, RootList, SideTables, StoreParts};
+use hir_validate::{FinishFault, NodeSlices};
 use std::alloc::{AllocError, AllocFailed, Global};
 use std::fmt::{self, Display};
 use std::mem::replace;
@@ -35,7 +35,8 @@ pub struct ExpressionStoreBuilder {
     pub labels: Arena<LabelKind, Label>,
     pub lifetimes: Arena<LifetimeRefKind, LifetimeRef>,
     pub types: Arena<TypeRefKind, TypeRef>,
-    /// The closure, coroutine or anonymous constant that owns a binding. A binding that the body itself owns has no entry.
+    /// The closure, coroutine or anonymous constant that owns a binding. A binding that the body itself owns
+    /// has no entry.
     pub binding_owners: Table<BindingId, ExprId>,
     pub(crate) hygiene: LazyBox<Table<ExprOrPatId, HygieneId>>,
     pub(crate) block_scopes: LazyBox<Seq<BlockId>>,
@@ -44,7 +45,8 @@ pub struct ExpressionStoreBuilder {
     pub(crate) alloc: Global,
 }
 
-/// Drops its parts one after the other. It is here so that it is proved once, and is a call wherever a value is dropped.
+/// Drops its parts one after the other. This `impl` exists so that the drop is proved once, and is a call
+/// where a value is dropped.
 impl Drop for ExpressionStoreBuilder {
     fn drop(self) {
         let ExpressionStoreBuilder {
@@ -73,7 +75,7 @@ pub struct Refused {
     pub builder: ExpressionStoreBuilder,
 }
 
-/// The text of its fault.
+/// Writes the text of its fault.
 impl Display for Refused {
     ghost use Rattle.hir_validate.specs.contracts.fault.FinishFaultDisplay.TheImpl as finish;
 
@@ -87,7 +89,7 @@ impl Display for Refused {
 impl std::error::Error for Refused {}
 
 impl ExpressionStoreBuilder {
-    /// An empty builder, which takes its memory from `alloc`, and none now.
+    /// Returns an empty builder, which allocates from `alloc` once something is added.
     pub fn new(alloc: Global) -> ExpressionStoreBuilder
         ensures { result ≡ empty_builder alloc }
     {
@@ -107,10 +109,11 @@ impl ExpressionStoreBuilder {
         }
     }
 
-    /// Adds an expression and answers its id, the number of expressions before it.
+    /// Adds an expression and returns its id, the number of expressions before it.
     ///
-    /// `Full` when there are `MOST_ITEMS`, and only then; `Memory` when memory for it is refused. Either hands the expression back and
-    /// leaves the builder as it was. So do the other calls that add something.
+    /// Fails with `Full` when `MOST_ITEMS` expressions exist, and only then, and with `Memory` where an
+    /// allocation fails. Either gives the expression back and leaves the builder as it was. So do the other
+    /// calls that add something.
     pub fn alloc_expr(&mut self, expr: Expr) -> Result<ExprId, (ArenaFault, Expr)>
         ensures ok { IfOk result (λ id. (id ≡ length self.old.exprs)
             × (self.new ≡ record self.old { exprs = self.old.exprs ++ expr ∷ [] })) }
@@ -122,7 +125,7 @@ impl ExpressionStoreBuilder {
         self.exprs.alloc(expr)
     }
 
-    /// Adds a pattern and answers its id, the number of patterns before it.
+    /// Adds a pattern and returns its id, the number of patterns before it.
     pub fn alloc_pat(&mut self, pat: Pat) -> Result<PatId, (ArenaFault, Pat)>
         ensures ok { IfOk result (λ id. (id ≡ length self.old.pats)
             × (self.new ≡ record self.old { pats = self.old.pats ++ pat ∷ [] })) }
@@ -134,8 +137,9 @@ impl ExpressionStoreBuilder {
         self.pats.alloc(pat)
     }
 
-    /// Adds a binding and answers its id, the number of bindings before it.
-    // Always inlined, so that its name goes into the arena without a copy on the way: see `with_zeros` of `hir_base`.
+    /// Adds a binding and returns its id, the number of bindings before it.
+    // Always inlined, so that its name goes into the arena without a copy on the way: see `with_zeros` of
+    // `hir_base`.
     #[inline(always)]
     pub fn alloc_binding(&mut self, binding: Binding) -> Result<BindingId, (ArenaFault, Binding)>
         ensures ok { IfOk result (λ id. (id ≡ length self.old.bindings)
@@ -148,7 +152,7 @@ impl ExpressionStoreBuilder {
         self.bindings.alloc(binding)
     }
 
-    /// Adds a label and answers its id, the number of labels before it.
+    /// Adds a label and returns its id, the number of labels before it.
     pub fn alloc_label(&mut self, label: Label) -> Result<LabelId, (ArenaFault, Label)>
         ensures ok { IfOk result (λ id. (id ≡ length self.old.labels)
             × (self.new ≡ record self.old { labels = self.old.labels ++ label ∷ [] })) }
@@ -160,7 +164,7 @@ impl ExpressionStoreBuilder {
         self.labels.alloc(label)
     }
 
-    /// Adds a type and answers its id, the number of types before it.
+    /// Adds a type and returns its id, the number of types before it.
     pub fn alloc_type(&mut self, type_ref: TypeRef) -> Result<TypeRefId, (ArenaFault, TypeRef)>
         ensures ok { IfOk result (λ id. (id ≡ length self.old.types)
             × (self.new ≡ record self.old { types = self.old.types ++ type_ref ∷ [] })) }
@@ -172,7 +176,7 @@ impl ExpressionStoreBuilder {
         self.types.alloc(type_ref)
     }
 
-    /// Adds a lifetime and answers its id, the number of lifetimes before it.
+    /// Adds a lifetime and returns its id, the number of lifetimes before it.
     pub fn alloc_lifetime(
         &mut self,
         lifetime: LifetimeRef,
@@ -188,7 +192,7 @@ impl ExpressionStoreBuilder {
         self.lifetimes.alloc(lifetime)
     }
 
-    /// Begins an empty list of roots where there is none.
+    /// Begins an empty list of roots, unless one was begun.
     pub fn begin_roots(&mut self)
         ensures { self.new ≡ record self.old { roots = some_roots self.old.roots } }
     {
@@ -197,8 +201,9 @@ impl ExpressionStoreBuilder {
         }
     }
 
-    /// Lists a root, with the lengths of the arenas of expressions, patterns and bindings at this moment as its ends; a list is begun
-    /// where there is none. If memory is refused, the builder is as it was and the id is handed back.
+    /// Lists a root, with the lengths of the arenas of expressions, patterns and bindings at this moment as
+    /// its ends; it begins a list unless one was begun. Where an allocation fails, the builder is as it was
+    /// and the error gives the id back.
     pub fn push_root(&mut self, expr: ExprId) -> Result<(), AllocFailed<ExprId>>
         ensures ok { OnOk result (self.new
             ≡ record self.old { roots = and_root (building_of self.old) expr }) }
@@ -229,7 +234,8 @@ impl ExpressionStoreBuilder {
 
     /// Sets the hygiene of the path that the expression or the pattern is, in place of an earlier one.
     ///
-    /// If memory for one more entry is refused, id and hygiene are handed back and the builder is as it was.
+    /// Where the allocation of one more entry fails, the error gives id and hygiene back and the builder is
+    /// as it was.
     pub fn set_hygiene(
         &mut self,
         id: ExprOrPatId,
@@ -248,7 +254,8 @@ impl ExpressionStoreBuilder {
         }
     }
 
-    /// Lists a block that may hold items, after the others. If memory is refused, the builder is as it was and the block is handed back.
+    /// Lists a block that may hold items, after the others. Where an allocation fails, the builder is as it
+    /// was and the error gives the block back.
     pub fn add_block_scope(&mut self, block: BlockId) -> Result<(), AllocFailed<BlockId>>
         ensures ok { OnOk result (self.new
             ≡ record self.old { block_scopes = self.old.block_scopes ++ block ∷ [] }) }
@@ -261,7 +268,7 @@ impl ExpressionStoreBuilder {
         }
     }
 
-    /// The nodes, borrowed.
+    /// Returns the nodes, borrowed.
     pub(crate) fn nodes(&self) -> NodeSlices<'_>
         ensures nodes { nodes_in result ≡ nodes_of self.now }
         ensures few { Few (sizes_of (nodes_in result)) }
@@ -276,7 +283,7 @@ impl ExpressionStoreBuilder {
         }
     }
 
-    /// Whether there is an expression, a label, a pattern or a binding.
+    /// Returns whether an expression, a label, a pattern or a binding exists.
     fn has_exprs(&self) -> bool
         ensures { result ≡ has_exprs (nodes_of self.now) }
     {
@@ -288,7 +295,7 @@ impl ExpressionStoreBuilder {
 
     /// Moves the owners of bindings out of the builder, to where a store has them.
     ///
-    /// Answers an error if memory for them was refused: nothing has changed then.
+    /// Returns an error where an allocation fails: nothing has changed then.
     pub(crate) fn take_owners(&mut self) -> Result<LazyBox<Table<BindingId, ExprId>>, AllocError>
         ensures owners { IfOk result (λ owners. owners ≡ self.old.binding_owners) }
         ensures ok { OnOk result (self.new ≡ record self.old { binding_owners = map.empty }) }
@@ -307,7 +314,8 @@ impl ExpressionStoreBuilder {
         }
     }
 
-    /// The store and the source map of a builder without a fault, with the owners of bindings and what follows from its nodes.
+    /// Returns the store and the source map of a builder without a fault, with the owners of bindings and
+    /// what follows from its nodes.
     pub(crate) fn into_store(
         self,
         owners: LazyBox<Table<BindingId, ExprId>>,
@@ -354,7 +362,7 @@ impl ExpressionStoreBuilder {
     }
 }
 
-/// The side tables, where they are kept; else empty ones.
+/// Returns the side tables, where they are kept; else empty ones.
 fn kept_side_tables(alloc: Global, kept: bool, side_tables: SideTables) -> SideTables
     ensures { result ≡ kept_side_tables kept side_tables }
 {
@@ -365,7 +373,7 @@ fn kept_side_tables(alloc: Global, kept: bool, side_tables: SideTables) -> SideT
     }
 }
 
-/// The listed roots; none where no list was begun.
+/// Returns the listed roots; none where no list was begun.
 fn roots_or_none(alloc: Global, roots: Option<RootList>) -> RootList
     ensures { result ≡ roots_or_none roots }
 {

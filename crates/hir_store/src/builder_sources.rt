@@ -15,8 +15,9 @@ use std::alloc::AllocFailed;
 impl ExpressionStoreBuilder {
     /// Records that this source became this expression, or this pattern where it is assigned to.
     ///
-    /// It replaces an earlier entry of the same key. If memory for one more entry is refused, key and value are handed back and the
-    /// builder is as it was. So it is with the other calls that add to the source map.
+    /// It replaces an earlier entry of the same key. Where the allocation of one more entry fails, the error
+    /// gives key and value back and the builder is as it was. So it is with the other calls that add to the
+    /// source map.
     pub fn map_expr(
         &mut self,
         source: ExprSource,

@@ -1,4 +1,4 @@
-//! The first fault of a builder, and the store where there is none.
+//! The first fault of a builder, and the store where it has none.
 
 ghost use Rattle.std.specs.Prelude.{◌≡◌, ◌⊎◌, ◌↔◌, IsTrue, IfOk, IfErr, None, Some};
 ghost use Rattle.hir_forest.specs.Parents.{HasParents};
@@ -8,14 +8,14 @@ ghost use Rattle.hir_source_map.specs.Additions.{finish_sources};
 ghost use Rattle.hir_store.specs.Building.{nodes_of, building_of, contents_of, roots_or_none, HasRoots, has_exprs, finish_fault};
 
 use crate::builder::{ExpressionStoreBuilder, Refused};
-use hir_store_core::{ExpressionStore, KeptParts, PatLinks};
-use hir_validate::{FinishFault, validated_parents};
 use hir_forest::{Parents, Root};
 use hir_rare::LazyBox;
 use hir_source_map::ExpressionStoreSourceMap;
+use hir_store_core::{ExpressionStore, KeptParts, PatLinks};
+use hir_validate::{FinishFault, validated_parents};
 
 impl ExpressionStoreBuilder {
-    /// Whether a list of roots was begun, or nothing needs one.
+    /// Returns whether a list of roots was begun, or nothing needs one.
     fn has_roots(&self) -> bool
         ensures { IsTrue result ↔ HasRoots (building_of self.now) }
     {
@@ -26,7 +26,7 @@ impl ExpressionStoreBuilder {
                 && self.labels.is_empty())
     }
 
-    /// The roots that were listed.
+    /// Returns the roots that were listed.
     fn listed_roots(&self) -> &[Root]
         ensures { result.now ≡ roots_or_none self.now.roots }
     {
@@ -36,7 +36,7 @@ impl ExpressionStoreBuilder {
         }
     }
 
-    /// The parents of the nodes, where there is no fault. Else the first fault, or `Memory`.
+    /// Returns the parents of the nodes, where these have no fault, and else the first fault, or `Memory`.
     fn validated_parents(&self) -> Result<Parents, FinishFault>
         ensures ok { IfOk result (λ parents. finish_fault (building_of self.now) None
             × HasParents (graph (nodes_of self.now)) parents.parents) }
@@ -49,7 +49,8 @@ impl ExpressionStoreBuilder {
         validated_parents(self.alloc, &self.nodes(), self.listed_roots())
     }
 
-    /// What a store of the nodes keeps, where there is no fault. Else the first fault, or `Memory`.
+    /// Returns what a store of the nodes keeps, where these have no fault, and else the first fault, or
+    /// `Memory`.
     fn validate(&self) -> Result<LazyBox<KeptParts>, FinishFault>
         ensures ok { IfOk result (λ kept. finish_fault (building_of self.now) None
             × HasParents (graph (nodes_of self.now)) kept.parents.parents
@@ -67,14 +68,16 @@ impl ExpressionStoreBuilder {
         }
     }
 
-    /// The store of the builder's nodes and roots, and its source map, where there is no fault. Else the first fault, or `Memory`
-    /// where a growth was refused, and the builder as it was.
+    /// Returns the store of the builder's nodes and roots, and its source map, where these have no fault, and
+    /// else the first fault, or `Memory` where an allocation fails, and the builder as it was.
     ///
-    /// Nodes under no root are accepted and kept; so are a binding that several patterns name, and labels and lifetimes that several
-    /// nodes name. Owners, hygiene, blocks and sources are not checked. The store keeps its expression part, which is all but types and
-    /// lifetimes, exactly where an expression, a label, a pattern or a binding exists, and the source map keeps its own exactly there and
-    /// where an expansion or a diagnostic exists; a part that isn't kept is dropped with its entries. It takes time in the number of
-    /// nodes, edges and roots. It recurses only into associated type bindings that are nested in one path.
+    /// Nodes under no root are accepted and kept; so are a binding that several patterns name, and labels and
+    /// lifetimes that several nodes name. Owners, hygiene, blocks and sources are not checked. The store
+    /// keeps its expression part, which is all but types and lifetimes, exactly where an expression, a label,
+    /// a pattern or a binding exists, and the source map keeps its own exactly there and where an expansion
+    /// or a diagnostic exists; a part that isn't kept is dropped with its entries. It takes time in the
+    /// number of nodes, edges and roots. It recurses only into associated type bindings that are nested in
+    /// one path.
     pub fn finish(self) -> Result<(ExpressionStore, ExpressionStoreSourceMap), Refused>
         ensures ok { IfOk result (λ made. (made.0 ≡ contents_of (building_of self))
             × finish_fault (building_of self) None) }

@@ -1,4 +1,5 @@
--- The children of a node lie apart, and so do the listed roots; two nodes with a common child are one.
+-- No two children of a node have a common descendant, nor have two listed roots; two nodes with a common child are
+-- one.
 use Rattle.std.proofs.Common.{◌≡◌, ℕ, zero, suc, ◌+◌, ◌<◌, List, [], ◌∷◌, Some, None, ⊎_elim, ap, sym, ◌∙◌, subst, arith, length, map, get_or, slice_get, option_map, Contains}
 use Rattle.std.proofs.lemmas.List.{length-map, get_or-map, length-append, get_or_append_left, get_or-append-add}
 use Rattle.std.proofs.lemmas.Option.{slice_get_within, get_or_from_slice_get, slice_get-map, slice_get-get_or}
@@ -26,7 +27,7 @@ use Rattle.hir_store_core.proofs.UnderLemmas.{same_place, climb_from_under, clim
 pub contains_read : {X : Type 0} (xs : List X) (i : ℕ) (x : X) → slice_get xs i ≡ Some x → Contains xs x
 contains_read xs i x e = (i, slice_get_within xs i x e, get_or_from_slice_get xs i x x e)
 
--- where no child of any edge stands twice, none stands twice in a row
+-- where no child of any edge occurs twice, none occurs twice in the list
 once_in_row : (g : List (List ℕ)) (p : ℕ) → IsRepeatFree (concat g) → IsRepeatFree (get_or g p [])
 once_in_row [] p r i j h l e = absurd (omega arith)
 once_in_row (row ∷ g) zero r i j h l e =
@@ -73,7 +74,7 @@ module _ (c : RootedNodes) (sound : rooted_fault c None) where
       at : (m : ℕ) → m < length (children_of s n) → slice_get (children_of s n) m ≡ Some k → get_or (map (place z) (children_of s n)) m 0 ≡ place z k
       at m l e = get_or-map (place z) (children_of s n) m k 0 l ∙ ap (place z) (get_or_from_slice_get (children_of s n) m k k e)
 
-  -- a child of a node lies under no other child of it
+  -- a child of a node is a descendant of no other child of it
   child_not_under : (n a b : NodeId) → Has s n → Contains (children_of s n) a → Contains (children_of s n) b → Under s a b → a ≡ b
   child_not_under n a b h x y u = let way = climb_from_under c sound a u (falls.in_range n h b y) in by way.0 way.1
     where
@@ -85,7 +86,7 @@ module _ (c : RootedNodes) (sound : rooted_fault c None) where
           let down = height_falls g forest (place z n) (place z b) (child_in_graph s n b h y) in
           absurd (omega arith)
 
-  -- nothing lies under two children of a node
+  -- no two children of a node have a common descendant
   pub children_apart : (n : NodeId) → Has s n → AreDisjoint s (children_of s n)
   children_apart n h i j a b m lt x y u v =
       let ca = contains_read (children_of s n) i a x in
@@ -113,7 +114,7 @@ module _ (c : RootedNodes) (sound : rooted_fault c None) where
       by zero e = ne e
       by (suc k) w = stand.not_under i j h l (k, w)
 
-  -- nothing lies under two listed roots
+  -- no two listed roots have a common descendant
   pub roots_are_disjoint : AreDisjoint s (map node.Expr roots)
   roots_are_disjoint i j a b m lt x y u v =
       let ra = root_read i a x in

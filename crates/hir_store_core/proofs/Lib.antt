@@ -10,4 +10,7 @@ pub mod ReachedLemmas
 pub mod RootLemmas
 pub mod GivenLemmas
 pub mod KeptLemmas
+pub mod AncestorLemmas
+pub mod ConstLemmas
+pub mod NearestLemmas
 pub mod ListLemmas

@@ -1,4 +1,4 @@
--- The list of the reached nodes: it has each of them, and once where nothing lies under two entry nodes.
+-- The list of the reached nodes: it has each of them, and once where no two entry nodes have a common descendant.
 use Rattle.std.proofs.Common.{◌≡◌, ◌≢◌, ℕ, zero, suc, ◌<◌, ◌≤◌, ◌⊎◌, ◌↔◌, List, [], ◌∷◌, ◌++◌, Some, inl, inr, ⊎_elim, refl, ap, sym, ◌∙◌, subst, arith, get_or, slice_get, All, Contains}
 use Rattle.std.proofs.lemmas.Bool.{cases_eq}
 use Rattle.std.proofs.lemmas.Option.{slice_get-get_or}

@@ -31,7 +31,7 @@ find_none test (x ∷ xs) d before = rw (before 0 (omega arith)) (find_none test
 abbrev no_root : Root
 no_root = record { node = 0; ends = no_ends }
 
--- the ends of a root stand behind those of the root before it
+-- the ends of a root come after those of the root before it
 ends_behind : (roots : List Root) (i : ℕ) → i < length roots → ends_before roots (suc i) ≡ (get_or roots i no_root).ends
 ends_behind [] i h = absurd (omega arith)
 ends_behind (root ∷ roots) zero h = refl

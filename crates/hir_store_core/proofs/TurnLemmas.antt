@@ -1,4 +1,4 @@
--- The turns of a walk: what comes behind each, how many are left, and what they give.
+-- The turns of a walk: what comes after each, how many are left, and what they give.
 use Rattle.std.proofs.Common.{◌≡◌, ℕ, zero, suc, ◌<◌, ◌≤◌, cond, eqb, false, List, [], ◌∷◌, ◌++◌, Option, Some, None, length, refl, ap, sym, ◌∙◌, subst, arith, append_assoc, append-nil}
 use Rattle.std.specs.List.{flat_map, AllByRecursion}
 use Rattle.std.proofs.lemmas.Bool.{eqb-true, eq-eqb, false_from_ne_true}
@@ -16,23 +16,23 @@ use Rattle.hir_store_core.specs.PatTurns.{pat_of, turns_step, turns, entered_pat
 use Rattle.hir_store_core.proofs.PatLemmas.{pats_agree, flat_map-twice, pats_unfold, exprs_in_parted}
 use Rattle.hir_store_core.proofs.WalkLemmas.{IsBelow, pats_below}
 
--- these turns come behind the leaving of a pattern, in the turns of the top
+-- these turns come after the leaving of a pattern, in the turns of the top
 pub data AfterLeave (s : Nodes) (top : ℕ) : ℕ → List Turn → Type 0 where
   at_top : AfterLeave s top top []
   below : (m k : ℕ) (front more : List ℕ) (rest : List Turn) → m < length s.pats → child_pats_of s m ≡ front ++ k ∷ more → AfterLeave s top m rest
       → AfterLeave s top k (flat_map (turns s) more ++ Leave m ∷ rest)
 
--- these turns come behind a turn
+-- these turns come after a turn
 abbrev pub Behind : Nodes → ℕ → Turn → List Turn → Type 0
 Behind s top (Enter p) rest = (after : List Turn) × AfterLeave s top p after × (rest ≡ flat_map (turns s) (child_pats_of s p) ++ Leave p ∷ after)
 Behind s top (Leave p) rest = AfterLeave s top p rest
 
--- it is the first of these turns, and the others come behind it
+-- it is the first of these turns, and the others come after it
 abbrev pub Follows : Nodes → ℕ → List Turn → Option Turn → Type 0
 Follows s top rest None = rest ≡ []
 Follows s top rest (Some t) = (more : List Turn) × (rest ≡ t ∷ more) × Behind s top t more
 
--- how many turns come behind a turn by the links, as far as a number of steps leads
+-- how many turns come after a turn by the links, as far as a number of steps leads
 abbrev pub steps_step : (Turn → ℕ) → Option Turn → ℕ
 steps_step self None = 0
 steps_step self (Some t) = suc (self t)
@@ -73,7 +73,7 @@ module _ (s : Nodes) (fall : RankDecreases s) where
   unfolding turns
   turns_is p = fold_down_at s fall (turns_step s) [] (turns_asks s) (node.Pat p)
 
-  -- each turn is one of a pattern that is there
+  -- each turn is one of a pattern that exists
   in_range_in : (d p : ℕ) → p < length s.pats → rank s (node.Pat p) < d → AllByRecursion (λ t. pat_of t < length s.pats) (turns s p)
   in_range_in zero p h lt = absurd (omega arith)
   in_range_in (suc d) p h lt =
@@ -128,7 +128,7 @@ module _ (s : Nodes) (fall : RankDecreases s) where
     behind_in_range (Enter p) rest b = after_in_range b.1
     behind_in_range (Leave p) rest b = after_in_range b
 
-    -- the turns of a pattern and those behind it begin with its entering
+    -- the turns of a pattern and those after it begin with its entering
     enters : (q : ℕ) (after : List Turn) → AfterLeave s top q after → Follows s top (turns s q ++ after) (Some (Enter q))
     enters q after a = (
       flat_map (turns s) (child_pats_of s q) ++ Leave q ∷ after,
@@ -172,7 +172,7 @@ module _ (s : Nodes) (fall : RankDecreases s) where
           let len : length rest ≡ suc (length f.0) = ap length f.1 in
           ap suc (ih t f.0 (omega arith) f.2) ∙ sym len
 
-      -- the steps that the links lead are as many as the turns that come behind
+      -- the steps that the links lead are as many as the turns that come after
       pub steps_is : (d : ℕ) (t : Turn) (rest : List Turn) → length rest ≤ d → Behind s top t rest → steps s links top d t ≡ length rest
       steps_is zero t rest le b = omega arith
       steps_is (suc d) t rest le b = steps_next d (steps_is d) (turn_after s links top t) rest le (follows t rest b)

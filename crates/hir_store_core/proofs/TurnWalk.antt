@@ -17,7 +17,8 @@ use Rattle.hir_store_core.proofs.TryLemmas.{goes, Trying, trying_from, trying_on
 use Rattle.hir_store_core.proofs.TurnLemmas.{Follows, at_top, turns_is, behind_in_range, follows, steps_step, steps, steps_is}
 
 module _ {V E : Type 0} (may : V → Turn → Type 0) (step : V → Turn → Result (Unit {0}) E → V → Type 0) (s : Nodes) (top : ℕ) where
-  -- the turns so far were taken, and this one and those that come behind it are still to come; none where there is no turn
+  -- the turns so far were taken, and this one and those that come after it are still to come; none where
+  -- there is no turn
   abbrev pub WalksOn : V → V → Option Turn → Type 0
   WalksOn start now o = (rest : List Turn) × Follows s top rest o × (length rest ≤ length (turns s top)) × Trying may step start (turns s top) now rest
 

@@ -22,7 +22,7 @@ use Rattle.hir_store_core.specs.NodeSets.{MarkedNodes, Gains, NoChildIn}
 use Rattle.hir_validate.proofs.FaultLemmas.{accepted_forest, graph-length}
 use Rattle.hir_validate.proofs.SoundLemmas.{place_within, row_at_place, child_in_graph, sound_falls}
 
--- no two nodes stand in one place
+-- no two nodes have the same number
 pub same_place : (z : Sizes) (n m : NodeId) → HasNode z n → HasNode z m → place z n ≡ place z m → n ≡ m
 same_place z (node.Expr a) (node.Expr b) h k e = ap node.Expr e
 same_place z (node.Expr a) (node.Pat b) h k e = absurd (omega arith)
@@ -34,7 +34,7 @@ same_place z (node.TypeRef a) (node.Expr b) h k e = absurd (omega arith)
 same_place z (node.TypeRef a) (node.Pat b) h k e = absurd (omega arith)
 same_place z (node.TypeRef a) (node.TypeRef b) h k e = let same : a ≡ b = omega arith in ap node.TypeRef same
 
--- a node stands in each place
+-- each number is that of a node
 pub node_here : (z : Sizes) (q : ℕ) → q < z.exprs + z.pats + z.types → (m : NodeId) × HasNode z m × (place z m ≡ q)
 node_here z q h =
     elim (cases_lt q z.exprs) [
@@ -104,7 +104,7 @@ no_child_right s marks parents known = (
   λ no c p i has. let e = edge_told s p c ((known.children c p).0 has) in no e.0 e.1 e.2 e.3 (subst (Marks marks) (sym e.4) i),
 )
 
--- the answer of the test
+-- the result of the test
 pub no_child_told : (s : Nodes) (set : MarkedNodes) (marks : List Bool) (parents : List (Option ℕ)) (none : Bool) → marks ≡ set.marks → set.sizes ≡ sizes_of s → HasParents (graph s) parents
     → IsTrue none ↔ ((c p : ℕ) → Marks marks c → HasParent parents c p → ⊥) → IsTrue none ↔ NoChildIn s set
 no_child_told s set marks parents none same sizes known is =
@@ -124,12 +124,12 @@ module _ (c : RootedNodes) (sound : rooted_fault c None) where
   falls : RankDecreases s
   falls = sound_falls c sound
 
-  -- what is under a node is there
+  -- what is under a node exists
   pub under_in_range : (n : NodeId) {r : NodeId} → Under s n r → Has s r → Has s n
   under_in_range n itself h = h
   under_in_range n (below {k} {r} d u) h = under_in_range n u (falls.in_range r h k d)
 
-  child_back : (m n : NodeId) → Has s m → Has s n → IsChild g (place z m) (place z n) → Contains (children_of s m) n
+  pub child_back : (m n : NodeId) → Has s m → Has s n → IsChild g (place z m) (place z n) → Contains (children_of s m) n
   child_back m n h k child =
       let row = rw (row_at_place s m h) at child in
       let lt : row.0 < length (children_of s m) = omega (arith, row.1, length-map (children_of s m) (place z)) in
@@ -158,7 +158,7 @@ module _ (c : RootedNodes) (sound : rooted_fault c None) where
       ⊎_elim (λ m. inl (under_from_climb m.0 a b h k m.1)) (λ m. inr (under_from_climb m.0 b a k h m.1))
       (climbs_meet g (accepted_forest c sound).one_parent x.0 y.0 (place z n) (place z a) (place z b) x.1 y.1)
 
-  -- the table by places tells what lies under another node
+  -- the table by numbers tells what is a descendant of another node
   pub table_right : (marks : List Bool) → length marks ≡ length g → (n : NodeId) → Has s n → LiesUnderMarked g marks (place z n) ↔ LiesUnderOther s (λ r. Marks marks (place z r)) n
   table_right marks len n h = (
     λ x.

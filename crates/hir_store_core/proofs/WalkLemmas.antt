@@ -1,4 +1,5 @@
--- What walks over the patterns of a pattern need: child patterns stand lower, and runs of a visitor are folds of what it holds.
+-- What walks over the patterns of a pattern need: child patterns have a lower rank, and runs of a visitor are
+-- folds of what it holds.
 use Rattle.std.proofs.Common.{◌≡◌, ℕ, suc, ◌<◌, Bool, true, List, [], ◌∷◌, length, refl, arith, Contains}
 use Rattle.std.specs.List.{flat_map, FoldsTo, AllByRecursion, list_all}
 use Rattle.std.specs.Cmp.{first_so, second_so}
@@ -11,7 +12,7 @@ use Rattle.hir_validate.specs.Nodes.{Nodes, Has, calls_of, children_of}
 use Rattle.hir_validate.specs.Recursion.{rank, RankDecreases}
 use Rattle.hir_store_core.specs.PatLists.{child_pats_of}
 
--- the pattern c is there, and stands lower than p
+-- the pattern c exists, and has a lower rank than p
 pub record IsBelow (s : Nodes) (p c : ℕ) : Type 0 where
   pub in_range : c < length s.pats
   pub lower : rank s (node.Pat c) < rank s (node.Pat p)
@@ -28,7 +29,7 @@ pats_of_children P Q f (OnPat id ∷ calls) h = (f id h.0, pats_of_children P Q 
 pats_of_children P Q f (OnType id ∷ calls) h = pats_of_children P Q f calls h.1
 pats_of_children P Q f (OnLifetime id ∷ calls) h = pats_of_children P Q f calls h
 
--- the child patterns of a pattern are there, and stand lower
+-- the child patterns of a pattern exist, and have a lower rank
 pub pats_below : (s : Nodes) → RankDecreases s → (id : ℕ) → id < length s.pats → AllByRecursion (IsBelow s id) (child_pats_of s id)
 pats_below s fall id h =
     let child : NodeId → Type 0 = λ k. Has s k × (rank s k < rank s (node.Pat id)) in

@@ -1,4 +1,4 @@
--- What a store holds.
+-- The contents of a store: what it holds, and what an accepted one promises.
 use Rattle.std.specs.Prelude.{List, [], Option, None}
 use Rattle.hir_forest.specs.declared.roots.Root.{Root}
 use Rattle.hir_validate.specs.declared.fault.FinishFault.{FinishFault}
@@ -23,15 +23,16 @@ no_nodes = record { exprs = []; pats = []; types = []; bindings = []; labels = [
 abbrev pub no_contents : Contents
 no_contents = record { nodes = no_nodes; roots = []; side_tables = no_side_tables }
 
--- without the side tables
+-- the contents without the side tables
 abbrev pub rooted_of : Contents → RootedNodes
 rooted_of c = record { nodes = c.nodes; roots = c.roots }
 
--- the first fault: the side tables have none
+-- the first fault of contents: side tables have none
 abbrev pub contents_fault : Contents → Option FinishFault → Type 0
 contents_fault c = rooted_fault (rooted_of c)
 
--- the contents have no fault, and what is kept are the parents of the nodes, by their places in the row, and the links of the patterns
+-- the contents have no fault, and what is kept are the parents of the nodes, by the numbers of the nodes, and
+-- the links of the patterns
 pub record IsStore (c : Contents) (kept : KeptParts) : Type 0 where
   pub sound : contents_fault c None
   pub parents : HasParents (graph c.nodes) kept.parents.parents

@@ -1,4 +1,4 @@
--- What is kept of a store without nodes.
+-- The kept parts of a store without nodes.
 use Rattle.std.specs.Prelude.{[], None}
 use Rattle.hir_store_core.specs.declared.kept_parts.KeptParts.{KeptParts}
 

@@ -1,4 +1,4 @@
--- What `Debug` writes of what is missing: what it is of the definition, and the definition's id.
+-- The text that `Debug` writes of a missing fact: its kind, and the definition's id.
 use Rattle.std.specs.Prelude.{List, ℕ, ◌++◌, codes}
 use Rattle.hir_base.specs.IdTexts.{id_text, generic_text, body_text, fields_text, named_text, type_or_const_param_text, lifetime_param_text}
 use Rattle.hir_store_core.specs.declared.missing.Missing.{Missing}

@@ -6,7 +6,7 @@ use Rattle.hir_validate.specs.declared.sizes.Sizes.{Sizes}
 use Rattle.hir_validate.specs.Sizes.{HasNode, place}
 use Rattle.hir_validate.specs.Nodes.{Nodes, Has, children_of}
 
--- how many nodes there are, and a mark for each, in the order of the row
+-- the number of nodes, and a mark for each, in the order of their numbers
 pub record MarkedNodes : Type 0 where
   pub sizes : Sizes
   pub marks : List Bool

@@ -1,44 +1,46 @@
--- The links of patterns: from each child of a pattern to the next one, and from the last one back to the pattern.
-use Rattle.std.specs.Prelude.{◌≡◌, ℕ, ◌<◌, List, [], ◌∷◌, ⊤, length, set, slice_index_or, Contains}
+-- The links of patterns: from each child of a pattern to the next one, and from the last one back to the
+-- pattern.
+use Rattle.std.specs.Prelude.{◌≡◌, ◌<◌, List, [], ◌∷◌, ⊤, length, set, slice_index_or, Contains}
 use Rattle.std.specs.List.{flat_map}
+use Rattle.hir_path.specs.NodeIds.{PatId}
 use Rattle.hir_node.specs.declared.pat.Pat.{Pat}
 use Rattle.hir_node.specs.ChildCalls.{pat_of_call, pat_calls}
 use Rattle.hir_validate.specs.Nodes.{calls_at}
 use Rattle.hir_store_core.specs.declared.pat_links.PatLink.{PatLink}
 use Rattle.hir_store_core.specs.declared.pat_links.PatLink.TheVariants.{Next, Last, Alone}
 
--- the children of the pattern of this number, none where it isn't there
-abbrev pub children_at : List Pat → ℕ → List ℕ
+-- the children of the pattern of this number, none where it doesn't exist
+abbrev pub children_at : List Pat → PatId → List PatId
 children_at pats m = flat_map pat_of_call (calls_at pat_calls pats m)
 
--- nothing stands twice in the list
+-- nothing occurs twice in the list
 abbrev pub IsOnce : {X : Type 0} → List X → Type 0
 IsOnce [] = ⊤
 IsOnce (x ∷ xs) = (Contains xs x → ⊥) × IsOnce xs
 
--- each child is there, and is the child of one pattern, once
+-- each child exists, and is the child of one pattern, once
 pub record EachHasOnePlace (pats : List Pat) : Type 0 where
-  pub in_range : (m k : ℕ) → Contains (children_at pats m) k → k < length pats
-  pub one_parent : (m n k : ℕ) → Contains (children_at pats m) k → Contains (children_at pats n) k → m ≡ n
-  pub once : (m : ℕ) → IsOnce (children_at pats m)
+  pub in_range : (m k : PatId) → Contains (children_at pats m) k → k < length pats
+  pub one_parent : (m n k : PatId) → Contains (children_at pats m) k → Contains (children_at pats n) k → m ≡ n
+  pub once : (m : PatId) → IsOnce (children_at pats m)
 
 -- the link of a pattern
-abbrev pub link_at : List PatLink → ℕ → PatLink
+abbrev pub link_at : List PatLink → PatId → PatLink
 link_at links p = slice_index_or links p Alone
 
 -- the links with those of the children of a pattern
-abbrev pub link_children : ℕ → List ℕ → List PatLink → List PatLink
+abbrev pub link_children : PatId → List PatId → List PatLink → List PatLink
 link_children m [] links = links
 link_children m (k ∷ []) links = set links k (Last m)
 link_children m (k ∷ q ∷ more) links = link_children m (q ∷ more) (set links k (Next q))
 
 -- each of these children of a pattern is linked to the next one, and the last one to the pattern
-abbrev pub AreLinked : List PatLink → ℕ → List ℕ → Type 0
+abbrev pub AreLinked : List PatLink → PatId → List PatId → Type 0
 AreLinked links m [] = ⊤
 AreLinked links m (k ∷ []) = link_at links k ≡ Last m
 AreLinked links m (k ∷ q ∷ more) = (link_at links k ≡ Next q) × AreLinked links m (q ∷ more)
 
--- there is a link for each pattern, and the children of each are linked
+-- each pattern has a link, and the children of each are linked
 pub record HasPatLinks (pats : List Pat) (links : List PatLink) : Type 0 where
   pub each : length links ≡ length pats
-  pub children : (m : ℕ) → m < length pats → AreLinked links m (children_at pats m)
+  pub children : (m : PatId) → m < length pats → AreLinked links m (children_at pats m)

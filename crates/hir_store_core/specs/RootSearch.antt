@@ -2,13 +2,14 @@
 use Rattle.std.specs.Prelude.{ℕ, Bool, ◌<◌, ◌≤◌, ◌^◌, nat_lt, List, length, slice_index_or, Option}
 use Rattle.std.specs.Option.{option_map}
 use Rattle.std.specs.List.{find}
+use Rattle.hir_path.specs.NodeIds.{ExprId, PatId, BindingId}
 use Rattle.hir_forest.specs.declared.roots.Ends.{Ends}
 use Rattle.hir_forest.specs.declared.roots.Root.{Root}
 use Rattle.hir_forest.specs.Faults.{no_ends}
 use Rattle.hir_store_core.specs.declared.root_search.EndOf.{EndOf}
 use Rattle.hir_store_core.specs.declared.root_search.EndOf.TheVariants as ends
 
--- the end of a kind: how many of these there were when the root was listed
+-- the end of a kind: the number of items of this kind when the root was listed
 abbrev pub end_of : EndOf → Ends → ℕ
 end_of ends.Exprs e = e.exprs
 end_of ends.Pats e = e.pats
@@ -19,19 +20,20 @@ abbrev pub exceeds : EndOf → ℕ → Root → Bool
 exceeds kind id root = nat_lt id (end_of kind root.ends)
 
 -- the first root in the list whose end of this kind exceeds the id
-abbrev pub root_for : EndOf → List Root → ℕ → Option ℕ
+abbrev pub root_for : EndOf → List Root → ℕ → Option ExprId
 root_for kind roots id = option_map (λ root. root.node) (find (exceeds kind id) roots)
 
-abbrev pub root_for_expr : List Root → ℕ → Option ℕ
+abbrev pub root_for_expr : List Root → ExprId → Option ExprId
 root_for_expr = root_for ends.Exprs
 
-abbrev pub root_for_pat : List Root → ℕ → Option ℕ
+abbrev pub root_for_pat : List Root → PatId → Option ExprId
 root_for_pat = root_for ends.Pats
 
-abbrev pub root_for_binding : List Root → ℕ → Option ℕ
+abbrev pub root_for_binding : List Root → BindingId → Option ExprId
 root_for_binding = root_for ends.Bindings
 
--- so many steps are at most as many as a number has binary digits: they are at most k for each k that is enough to write it
+-- a number of steps is at most the number of binary digits of a number: it is at most k for each k digits
+-- that suffice to write it
 abbrev pub AtMostDigitsOf : ℕ → ℕ → Type 0
 AtMostDigitsOf n steps = (k : ℕ) → n < 2 ^ k → steps ≤ k
 

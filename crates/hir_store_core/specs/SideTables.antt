@@ -1,9 +1,10 @@
 -- The side tables of a store: who owns a binding, what hygiene a path has, which blocks may hold items.
-use Rattle.std.specs.Prelude.{ℕ, [], Option, Some, None}
+use Rattle.std.specs.Prelude.{[], Option, Some, None}
 use Rattle.std.specs.FinMap as map
 use Rattle.hir_base.specs.declared.edition.Edition.TheVariants.{Edition2015}
 use Rattle.hir_base.specs.declared.hygiene.SyntaxContext.{SyntaxContext}
 use Rattle.hir_base.specs.declared.hygiene.SyntaxContext.TheVariants.{Root}
+use Rattle.hir_path.specs.NodeIds.{ExprId, BindingId}
 use Rattle.hir_path.specs.declared.ids.ExprOrPatId.{ExprOrPatId}
 use Rattle.hir_path.specs.Keys.{expr_or_pat_code}
 use Rattle.hir_source_map.specs.Sources.{id_key}
@@ -13,7 +14,7 @@ abbrev pub no_side_tables : SideTables
 no_side_tables = record { owners = map.empty; hygiene = map.empty; blocks = [] }
 
 -- the owner of a binding
-abbrev pub owner_of : SideTables → ℕ → Option ℕ
+abbrev pub owner_of : SideTables → BindingId → Option ExprId
 owner_of side_tables binding = map.get side_tables.owners (id_key binding)
 
 abbrev pub or_root : Option SyntaxContext → SyntaxContext

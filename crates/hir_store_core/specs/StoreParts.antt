@@ -1,4 +1,4 @@
--- What a store made of parts holds.
+-- The contents of a store that is made of parts.
 use Rattle.hir_store_core.specs.declared.store.StoreParts.{StoreParts}
 use Rattle.hir_store_core.specs.Contents.{Contents}
 

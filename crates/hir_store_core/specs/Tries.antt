@@ -2,18 +2,19 @@
 use Rattle.std.specs.Prelude.{◌≡◌, List, ◌∷◌, ◌++◌, Result, Ok, Err, OnOk, IfErr}
 use Rattle.std.specs.List.{FoldsTo}
 
--- the items of a front went on, and the one after them was refused with this; none after that one was tried
+-- the items of a prefix were accepted, and the one after them was refused with this; none after that one was
+-- tried
 abbrev pub Stops : {P A E : Type 0} → (P → A → Result (Unit {0}) E → P → Type 0) → P → List A → E → P → Type 0
 Stops {P} {A} step p xs e q = (front more : List A) × (x : A) × (j : P) × (xs ≡ front ++ x ∷ more)
     × FoldsTo (λ u y v. step u y (Ok tt) v) p front j × step j x (Err e) q
 
--- the answer is `Ok` where each item was tried and went on, and else the first refusal
+-- the result is `Ok` where each item was tried and accepted, and else the first refusal
 pub record Tries {P A E : Type 0} (step : P → A → Result (Unit {0}) E → P
     → Type 0) (p : P) (xs : List A) (r : Result (Unit {0}) E) (q : P) : Type 0 where
   pub ok : OnOk r (FoldsTo (λ u y v. step u y (Ok tt) v) p xs q)
   pub err : IfErr r (λ e. Stops step p xs e q)
 
--- the same after an answer: a refusal stays, and nothing is tried
+-- what holds where items are tried after a result: a refusal stays, and nothing is tried
 abbrev pub TriesAfter : {P A E : Type 0} → (P → A → Result (Unit {0}) E → P → Type 0) → Result (Unit {0}) E
     → P → List A → Result (Unit {0}) E → P → Type 0
 TriesAfter step (Ok done) p xs r q = Tries step p xs r q

@@ -11,7 +11,8 @@ use std::collections::BTreeMap;
 use std::iter::FusedIterator;
 use std::marker::Model;
 
-/// An iterator over blocks with their maps. A contract sees it as the list of those that are left. Each block has a map.
+/// An iterator over blocks with their maps, modelled as the list of those that are left. Each block has a
+/// map.
 #[derive(Drop)]
 pub struct Blocks<'a, M> {
     blocks: &'a [BlockId],
@@ -51,9 +52,9 @@ impl<'a, M> FusedIterator for Blocks<'a, M> {}
 impl ExpressionStore {
     ghost use Rattle.hir_store_core.specs.Blocks.{blocks_with};
 
-    /// The blocks that may hold items, in order, each with its map.
+    /// Returns the blocks that may hold items, in order, each with its map.
     ///
-    /// Answers `Missing::DefMap` of the first block that has no map, before any block is given.
+    /// Returns `Missing::DefMap` of the first block that has no map, before any block is given.
     pub fn blocks<'a, M>(&'a self, maps: &'a BTreeMap<BlockId, M>) -> Result<Blocks<'a, M>, Missing>
         ensures { result ≡ blocks_with maps.now self.now.side_tables.blocks }
     {
@@ -68,7 +69,7 @@ impl ExpressionStore {
     }
 }
 
-/// The first block that has no map.
+/// Returns the first block that has no map.
 fn first_without<M>(blocks: &[BlockId], maps: &BTreeMap<BlockId, M>) -> Option<BlockId>
     ensures { result ≡ first_without maps.now blocks.now }
 {

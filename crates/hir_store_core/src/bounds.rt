@@ -16,9 +16,11 @@ pub trait TypeBoundExt {
     // the path that it names, with its modifier
     ghost path_in: { Self → Nodes → Option (Path × TraitBoundModifier) };
 
-    /// The path of a trait and its modifier, which is `TraitBoundModifier::None` after `for<..>`. `None` for a bound that isn't a trait.
+    /// Returns the path of a trait and its modifier, which is `TraitBoundModifier::None` after `for<..>`.
+    /// Returns `None` for a bound that isn't a trait.
     ///
-    /// What the bound names as a path has to be one in the store: in a bound of the store's own nodes it is, else `has_path` tests it.
+    /// What the bound names as a path has to be one in the store: in a bound of the store's own nodes it is,
+    /// else `has_path` tests it.
     fn as_path<'a>(&self, store: &'a ExpressionStore) -> Option<(&'a Path, TraitBoundModifier)>
         requires { fits self.now store.now.nodes }
         ensures { option_map (λ found. (found.0.now, found.1)) result ≡ path_in self.now store.now.nodes };

@@ -1,4 +1,5 @@
-//! The coroutine of an `async` closure, and the closure of a coroutine: lowering puts the one right before the other.
+//! The coroutine of an `async` closure, and the closure of a coroutine: lowering puts the one right before
+//! the other.
 
 ghost use Rattle.std.specs.Prelude.{◌≡◌, ◌+◌, ◌-◌, ◌<◌};
 
@@ -6,7 +7,8 @@ use crate::store::ExpressionStore;
 use hir_node::ExprId;
 
 impl ExpressionStore {
-    /// The coroutine that an `async` closure becomes, which is one expression before it. The closure can't be expression 0.
+    /// Returns the coroutine that an `async` closure becomes, which is one expression before it. The closure
+    /// can't be expression 0.
     pub fn coroutine_for_closure(coroutine_closure: ExprId) -> ExprId
         requires { 0 < coroutine_closure }
         ensures { result ≡ coroutine_closure - 1 }
@@ -14,7 +16,8 @@ impl ExpressionStore {
         ExprId::from_raw(coroutine_closure.into_raw() - 1)
     }
 
-    /// The `async` closure of a coroutine, which is one expression after it. The coroutine can't be expression 4,294,967,295.
+    /// Returns the `async` closure of a coroutine, which is one expression after it. The coroutine can't be
+    /// expression 4,294,967,295.
     pub fn closure_for_coroutine(coroutine: ExprId) -> ExprId
         requires { coroutine < 4294967295 }
         ensures { result ≡ coroutine + 1 }

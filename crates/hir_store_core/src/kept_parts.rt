@@ -1,4 +1,4 @@
-//! What a store keeps beside its contents, from which it follows.
+//! The parts that a store keeps beside its contents, and that follow from these.
 ghost use Rattle.std.specs.Prelude.{◌≡◌};
 
 use crate::pat_links::PatLinks;
@@ -8,7 +8,7 @@ use hir_forest::Parents;
 use hir_rare::Empty;
 use std::alloc::{AllocError, Global};
 
-/// The parents of the nodes, by their places in the row, and the links of the patterns.
+/// The parents of the nodes, by the numbers of the nodes, and the links of the patterns.
 #[derive(Drop)]
 pub struct KeptParts {
     pub parents: Parents,

@@ -1,5 +1,5 @@
-//! Laws that a reader relies on and that no call's contract states.
-//! Each is a function with no body to run: its contract is the law. `ExpressionStore::has_no_fault` says that a store has no fault.
+//! Theorems that a reader relies on and that no call's contract states. Each is a function with no body to
+//! run: its contract is the theorem. `ExpressionStore::has_no_fault` says that a store has no fault.
 
 ghost use Rattle.std.specs.Prelude.{◌≡◌, ◌≢◌, ◌⊎◌, ◌↔◌, ◌≤◌, ◌<◌, ◌+◌, ◌++◌, ◌∷◌, ℕ, Bool, List, Option, None, Some, IsTrue, length, map, slice_get, Contains};
 ghost use Rattle.std.specs.List.{flat_map, list_all, AllPairs};
@@ -36,15 +36,17 @@ ghost use Rattle.hir_validate.specs.Fits.{path_fits, args_fit, bound_fits};
 ghost use Rattle.hir_validate.specs.Sound.{IsSoundNode, RootsStandApart};
 ghost use Rattle.hir_validate.specs.Recursion.{rank, RankDecreases, fold_down, DependsOnChildren};
 ghost use Rattle.hir_store_core.specs.Under.{Under, AreDisjoint, IsReached, nodes_under, reached_nodes};
+ghost use Rattle.hir_store_core.specs.Ancestors.{parent, and_on, ancestors};
 ghost use Rattle.hir_store_core.specs.Bounds.{BoundFits};
 ghost use Rattle.hir_store_core.specs.PatLists.{child_pats_of, pats, bindings_at, bindings_in, exprs_from, exprs_in};
 
-/// Nodes without a fault are a forest: each has one parent at most and is its child once, and each chain of parents ends.
+/// Nodes without a fault are a forest: each has at most one parent, of which it is a child once, and each
+/// chain of parents ends.
 pub fn contents_are_a_forest()
     ensures { (c : Contents) → contents_fault c None → IsForest (graph c.nodes) }
 {}
 
-/// Each child of a node is there, and has a lower rank than the node.
+/// Each child of a node exists, and has a lower rank than the node.
 pub fn rank_decreases()
     ensures { (c : Contents) → contents_fault c None → RankDecreases c.nodes }
 {}
@@ -54,9 +56,9 @@ pub fn ranks_are_bounded()
     ensures { (s : Nodes) (n : NodeId) → rank s n ≤ length s.exprs + length s.pats + length s.types }
 {}
 
-/// Each node is sound: each expression, pattern, type, binding, label and lifetime that it names is there, what it names as a path is one,
-/// a function type has a return type, a list of generic arguments that begins with a self type isn't empty, and a `Normal` path has one
-/// list for each segment.
+/// Each node is sound: each expression, pattern, type, binding, label and lifetime that it names exists, what
+/// it names as a path is one, a function type has a return type, a list of generic arguments that begins with
+/// a self type isn't empty, and a `Normal` path has one list for each segment.
 pub fn nodes_are_sound()
     ensures exprs { (c : Contents) → contents_fault c None → (id : ℕ) (x : Expr)
         → slice_get c.nodes.exprs id ≡ Some x → IsSoundNode c.nodes (tested_expr x) }
@@ -87,12 +89,13 @@ pub fn paths_of_nodes_fit()
         → slice_get c.nodes.types id ≡ Some (type.Path path) → IsTrue (path_fits c.nodes path) }
 {}
 
-/// The roots are there, none is another or lies under one, and their ends rise up to the lengths of the arenas.
+/// The roots exist, none is another one or a descendant of one, and their ends rise up to the lengths of the
+/// arenas.
 pub fn roots_stand_apart()
     ensures { (c : Contents) → contents_fault c None → RootsStandApart (rooted_of c) }
 {}
 
-/// The patterns of a pattern are itself, and then the patterns of each of its child patterns.
+/// The patterns of a pattern are the pattern itself, and then the patterns of each of its child patterns.
 pub fn pats_unfold()
     ensures { (c : Contents) → contents_fault c None → (id : ℕ) → id < length c.nodes.pats
         → pats c.nodes id ≡ id ∷ flat_map (pats c.nodes) (child_pats_of c.nodes id) }
@@ -105,25 +108,26 @@ pub fn bindings_in_unfold()
         ≡ bindings_at c.nodes id ++ flat_map (bindings_in c.nodes) (child_pats_of c.nodes id) }
 {}
 
-/// The expressions of a pattern are what its calls give, in order: an expression or an anonymous constant itself, a pattern its expressions.
+/// The expressions of a pattern are what its calls give, in order: an expression or an anonymous constant
+/// itself, a pattern its expressions.
 pub fn exprs_in_unfold()
     ensures { (c : Contents) → contents_fault c None → (id : ℕ) → id < length c.nodes.pats
         → exprs_in c.nodes id ≡ flat_map (exprs_from (exprs_in c.nodes)) (calls_of c.nodes (node.Pat id)) }
 {}
 
-/// Where a node lies under two nodes, one of the two lies under the other.
+/// Where a node is a descendant of two nodes, one of the two is a descendant of the other.
 pub fn under_two_is_under_one()
     ensures { (c : Contents) → contents_fault c None → (n a b : NodeId) → Has c.nodes a → Has c.nodes b
         → Under c.nodes n a → Under c.nodes n b → Under c.nodes a b ⊎ Under c.nodes b a }
 {}
 
-/// What lies under a node is there.
+/// The descendants of a node exist.
 pub fn descendants_are_in_range()
     ensures { (c : Contents) → contents_fault c None → (n r : NodeId) → Has c.nodes r → Under c.nodes n r
         → Has c.nodes n }
 {}
 
-/// Nothing lies under two children of a node, so no child is listed twice.
+/// No two children of a node have a common descendant, so no child is listed twice.
 pub fn children_are_disjoint()
     ensures { (c : Contents) → contents_fault c None → (n : NodeId) → Has c.nodes n
         → AreDisjoint c.nodes (children_of c.nodes n) }
@@ -135,25 +139,38 @@ pub fn one_parent()
         → Contains (children_of c.nodes n) k → Contains (children_of c.nodes m) k → n ≡ m }
 {}
 
-/// Nothing lies under two of the listed roots, so none is listed twice.
+/// The parent of a node is the node whose child it is, and a node that is no child has none.
+pub fn parent_is_whose_child_it_is()
+    ensures { (c : Contents) → contents_fault c None → (n p : NodeId)
+        → parent c.nodes n ≡ Some p ↔ Contains (children_of c.nodes p) n }
+{}
+
+/// The ancestors of a node are its parent, and then the ancestors of that one.
+pub fn ancestors_are()
+    ensures { (c : Contents) → contents_fault c None → (n : NodeId)
+        → ancestors c.nodes n ≡ and_on (ancestors c.nodes) (parent c.nodes n) }
+{}
+
+/// No two of the listed roots have a common descendant, so none is listed twice.
 pub fn roots_are_disjoint()
     ensures { (c : Contents) → contents_fault c None
         → AreDisjoint c.nodes (map node.Expr (root_nodes c.roots)) }
 {}
 
-/// The nodes under a node are itself, and then those under each of its children.
+/// The nodes under a node are the node itself, and then those under each of its children.
 pub fn nodes_under_unfold()
     ensures { (c : Contents) → contents_fault c None → (n : NodeId)
         → nodes_under c.nodes n ≡ n ∷ flat_map (nodes_under c.nodes) (children_of c.nodes n) }
 {}
 
-/// The reached nodes are listed, and no others. Sums and counts over what is reached are stated by this list.
+/// The list of reached nodes has the reached nodes, and no others. Sums and counts over reached nodes are
+/// stated by this list.
 pub fn reached_is_listed()
     ensures { (c : Contents) → contents_fault c None → (entry_nodes : List NodeId) (n : NodeId)
         → Contains (reached_nodes c.nodes entry_nodes) n ↔ IsReached c.nodes entry_nodes n }
 {}
 
-/// No reached node is listed twice, where nothing lies under two of the entry nodes.
+/// No reached node is listed twice, where no two entry nodes have a common descendant.
 pub fn reached_is_listed_once()
     ensures { (c : Contents) → contents_fault c None → (entry_nodes : List NodeId)
         → AreDisjoint c.nodes entry_nodes → AllPairs (λ n m. n ≢ m) (reached_nodes c.nodes entry_nodes) }
@@ -165,27 +182,27 @@ pub fn reached_is_decided()
         → IsReached c.nodes entry_nodes n ⊎ (IsReached c.nodes entry_nodes n → ⊥) }
 {}
 
-/// What is reached from nodes that are there is there.
+/// The nodes that are reached from nodes that exist do exist.
 pub fn reached_nodes_are_in_range()
     ensures { (c : Contents) → contents_fault c None → (entry_nodes : List NodeId)
         → ((t : NodeId) → Contains entry_nodes t → Has c.nodes t) → (n : NodeId) → IsReached c.nodes entry_nodes n
         → Has c.nodes n }
 {}
 
-/// A child of what is reached is reached. This holds of any nodes.
+/// A child of a reached node is reached. This holds of any nodes.
 pub fn children_of_reached_are_reached()
     ensures { (s : Nodes) (entry_nodes : List NodeId) (n k : NodeId) → IsReached s entry_nodes n
         → Contains (children_of s n) k
         → IsReached s entry_nodes k }
 {}
 
-/// Only a node that is there has children. This holds of any nodes.
+/// Only a node that exists has children. This holds of any nodes.
 pub fn parents_are_in_range()
     ensures { (s : Nodes) (n k : NodeId) → Contains (children_of s n) k → Has s n }
 {}
 
-/// The bounds and the generic arguments that a node holds fit the store. Those that a path holds fit by `paths_of_nodes_fit` and
-/// `parts_of_paths_fit`.
+/// The bounds and the generic arguments that a node holds fit the store. Those that a path holds fit by
+/// `paths_of_nodes_fit` and `parts_of_paths_fit`.
 pub fn bounds_and_args_of_nodes_fit()
     ensures impl_traits { (c : Contents) → contents_fault c None
         → (id : ℕ) (bounds : List TypeBound) (x : TypeBound)
@@ -201,13 +218,14 @@ pub fn bounds_and_args_of_nodes_fit()
         → IsTrue (args_fit c.nodes x) }
 {}
 
-/// A path that fits has one list of generic arguments for each segment, or no lists, as `Path::qualifier` requires. By `paths_of_nodes_fit`
-/// each path that a node of an accepted store has is one. This holds of any nodes.
+/// A path that fits has one list of generic arguments for each segment, or no lists, as `Path::qualifier`
+/// requires. By `paths_of_nodes_fit` each path of a node of an accepted store fits. This holds of any nodes.
 pub fn paths_that_fit_have_one_list_each()
     ensures { (s : Nodes) (path : Path) → IsTrue (path_fits s path) → OneListEach (segments_of path) }
 {}
 
-/// Of a path that fits, each list of generic arguments fits, and the anchor is there. This holds of any nodes.
+/// Each list of generic arguments of a path that fits also fits, and the anchor exists. This holds of any
+/// nodes.
 pub fn parts_of_paths_fit()
     ensures args { (s : Nodes) (normal : NormalPath) (args : GenericArgs)
         → IsTrue (path_fits s (path.Normal normal)) → Contains normal.generic_args (Some args)
@@ -216,8 +234,8 @@ pub fn parts_of_paths_fit()
         → IsTrue (path_fits s (path.Normal normal)) → normal.type_anchor ≡ Some id → id < length s.types }
 {}
 
-/// Of generic arguments that fit, what each argument names is there, and of each associated type binding the arguments fit, the type is
-/// there and each bound fits. This holds of any nodes.
+/// Of generic arguments that fit, what each argument names exists, and of each associated type binding the
+/// arguments fit, the type exists and each bound fits. This holds of any nodes.
 pub fn parts_of_args_fit()
     ensures args { (s : Nodes) (x : GenericArgs) → IsTrue (args_fit s x) → (arg : GenericArg)
         → Contains (out-GenericArgs x).args arg → IsTrue (list_all (is_in_range (sizes_of s)) (arg_calls arg)) }
@@ -234,7 +252,8 @@ pub fn parts_of_args_fit()
         → Contains (out-AssociatedTypeBinding b).bounds y → IsTrue (bound_fits s y) }
 {}
 
-/// What a bound that fits names as a path is there and is one, so the bound may be asked for it. This holds of any nodes.
+/// What a bound that fits names as a path exists and is one, so that the bound has a path. This holds of any
+/// nodes.
 pub fn paths_of_bounds_are_in_range()
     ensures paths { (s : Nodes) (id : ℕ) (before : TraitBoundModifier)
         → IsTrue (bound_fits s (bound.Path id before)) → IsTrue (is_path_at s.types id) }
@@ -243,8 +262,9 @@ pub fn paths_of_bounds_are_in_range()
     ensures asked { (s : Nodes) (x : TypeBound) → IsTrue (bound_fits s x) → BoundFits x s }
 {}
 
-/// Values of nodes that are computed from the values of their children, as a list that a node begins and its children go on. An `impl` for a
-/// type of its own names the values and the step, and proves that the step asks only for the children.
+/// A value of nodes that is computed from the values of their children, as a list that a node begins and its
+/// children continue. An `impl` for a type of its own names the values and the step, and proves that the step
+/// depends on the children alone.
 pub trait ByChildren {
     // the type of the values
     ghost Told: { Type 0 };

@@ -1,10 +1,15 @@
-//! The accepted store: expressions, patterns, types and what they name, which are a well-formed forest, with its roots and side
-//! tables. It is read, walked and searched here; the builder that makes it is in `hir_store`.
+//! The accepted store: expressions, patterns, types and what they name, which are a well-formed forest, with
+//! its roots and side tables. This crate reads, walks and searches it; the builder that makes it is in
+//! `hir_store`.
 #![tactic(auto)]
 
+mod ancestors;
+mod anon_consts;
 mod blocks;
 mod bounds;
 mod coroutines;
+mod jump_roles;
+mod jump_targets;
 mod kept_parts;
 pub mod laws;
 mod lookups;
@@ -26,6 +31,7 @@ mod visits;
 mod walks;
 mod zip_ok;
 
+pub use ancestors::Ancestors;
 pub use blocks::Blocks;
 pub use bounds::TypeBoundExt;
 pub use kept_parts::KeptParts;

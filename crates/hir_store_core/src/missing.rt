@@ -1,4 +1,4 @@
-//! What a caller asked for about a definition outside of a store, and nobody provided.
+//! The facts about a definition outside of a store that a caller asked for, and nobody provided.
 ghost use Rattle.hir_base.specs.Exact.{exact};
 
 use hir_base::{

@@ -1,4 +1,5 @@
-//! A visitor that runs a closure on the expressions among child calls, up to the first that the closure refuses.
+//! A visitor that runs a closure on the expressions among child calls, up to the first that the closure
+//! refuses.
 #![tactic(auto, using(crate::proofs::TryLemmas::tries))]
 
 ghost use Rattle.std.specs.Prelude.{◌≡◌};

@@ -1,4 +1,5 @@
-//! The links of patterns: by them a walk goes from a pattern to what comes after it, without memory of the way that it came.
+//! The links of patterns: by them a walk goes from a pattern to what comes after it, without a stack of the
+//! patterns around it.
 
 ghost use Rattle.std.specs.Prelude.{◌≡◌, ◌<◌, ◌≤◌, [], All, length, IfOk};
 ghost use Rattle.hir_node.specs.ChildCalls.{child_pats};
@@ -8,7 +9,7 @@ use hir_node::{Pat, PatId};
 use std::alloc::{AllocError, Global};
 use std::marker::Model;
 
-/// What comes after a pattern.
+/// The step after a pattern.
 #[derive(Clone, Copy, Drop)]
 pub(crate) enum PatLink {
     /// The next child of the pattern whose child it is.
@@ -19,7 +20,7 @@ pub(crate) enum PatLink {
     Alone,
 }
 
-/// The links of all patterns of a store. A link takes 8 bytes. It is seen as the list of the links.
+/// The links of all patterns of a store, modelled as their list. A link takes 8 bytes.
 #[derive(Drop)]
 pub struct PatLinks {
     links: Vec<PatLink>,
@@ -35,9 +36,10 @@ impl Model for PatLinks {
 }
 
 impl PatLinks {
-    /// The links of these patterns, each of which is a child of one pattern at most, once.
+    /// Returns the links of these patterns, each of which is a child of at most one pattern, once.
     ///
-    /// It takes time in the number of patterns and of their children. `AllocError` only if memory for the links is refused.
+    /// It takes time in the number of patterns and of their children. It fails with `AllocError` only where
+    /// an allocation fails.
     pub fn of(alloc: Global, pats: &[Pat]) -> Result<PatLinks, AllocError>
         requires few { length pats.now ≤ 4294967295 }
         requires one_place { EachHasOnePlace pats.now }
@@ -48,7 +50,7 @@ impl PatLinks {
         Ok(PatLinks { links })
     }
 
-    /// The links of no patterns. It takes no memory.
+    /// Returns the links of no patterns, without an allocation.
     pub(crate) fn none(alloc: Global) -> PatLinks
         ensures { result ≡ [] }
     {
@@ -57,7 +59,7 @@ impl PatLinks {
         }
     }
 
-    /// The link of a pattern that is there.
+    /// Returns the link of a pattern that exists.
     pub(crate) fn link(&self, id: PatId) -> PatLink
         requires { id < length self.now }
         ensures { result ≡ link_at self.now id }

@@ -1,5 +1,6 @@
-//! The walk over the patterns of a pattern, by turns: each pattern is entered before its child patterns and left after them. It goes
-//! from turn to turn by the links that the store keeps, so it takes no memory and doesn't recurse.
+//! The walk over the patterns of a pattern, by turns: each pattern is entered before its child patterns and
+//! left after them. It goes from turn to turn by the links that the store keeps, so it takes no memory and
+//! doesn't recurse.
 
 ghost use Rattle.std.specs.Prelude.{◌≡◌, ◌<◌, Some, Ok, length};
 ghost use Rattle.hir_node.specs.Runs.{MayRun};
@@ -17,11 +18,11 @@ use hir_node::PatId;
 pub(crate) enum Turn {
     /// Before the child patterns of this one.
     Enter(PatId),
-    /// After them.
+    /// After the child patterns of this one.
     Leave(PatId),
 }
 
-/// What is done at each turn, which may refuse it.
+/// The work that is done at each turn, which may refuse the turn.
 pub(crate) trait TurnVisitor<E> {
     ghost use Rattle.std.specs.Prelude.{Result};
     ghost use Rattle.hir_store_core.specs.declared.pat_turns.Turn.{Turn};
@@ -30,22 +31,22 @@ pub(crate) trait TurnVisitor<E> {
     // what has to hold of the value for a turn
     ghost may: { Self → Turn → Type 0 };
 
-    // relates the value before a turn, the turn, the answer, and the value after it
+    // relates the value before a turn, the turn, the result, and the value after it
     ghost step: { Self → Turn → Result (Unit {0}) E → Self → Type 0 };
 
-    /// The pattern is entered.
+    /// Enters the pattern.
     fn on_enter(&mut self, id: PatId) -> Result<(), E>
         requires { may self.old (Enter id) }
         ensures { step self.old (Enter id) result self.new };
 
-    /// The pattern is left.
+    /// Leaves the pattern.
     fn on_leave(&mut self, id: PatId) -> Result<(), E>
         requires { may self.old (Leave id) }
         ensures { step self.old (Leave id) result self.new };
 }
 
 impl ExpressionStore {
-    /// The turn after a pattern is entered.
+    /// Returns the turn after a pattern is entered.
     fn turn_within(&self, id: PatId) -> Option<Turn>
         requires { id < length self.now.nodes.pats }
         ensures { result ≡ Some (turn_within id (child_pats_of self.now.nodes id)) }
@@ -56,7 +57,8 @@ impl ExpressionStore {
         }
     }
 
-    /// Calls the visitor at each turn of the walk over a pattern, by these links, up to the first that it refuses.
+    /// Calls the visitor at each turn of the walk over a pattern, by these links, up to the first that it
+    /// refuses.
     fn walk_by<E, V: TurnVisitor<E>>(
         &self,
         links: &PatLinks,
@@ -102,7 +104,7 @@ impl ExpressionStore {
     }
 }
 
-/// The turn after a pattern is left, where there is one in the walk over this top.
+/// Returns the turn after a pattern is left, where the walk over this top has one.
 fn turn_behind(links: &PatLinks, top: PatId, id: PatId) -> Option<Turn>
     requires { id < length links.now }
     ensures { result ≡ turn_behind links.now top id }

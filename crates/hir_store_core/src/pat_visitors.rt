@@ -1,4 +1,5 @@
-//! What is done at the turns of a walk over patterns: a closure runs on the patterns, on their bindings, or on their own expressions.
+//! The visitors of a walk over patterns: a closure runs on the patterns, on their bindings, or on their own
+//! expressions.
 #![tactic(auto, using(crate::proofs::TryLemmas::tries))]
 
 ghost use Rattle.std.specs.Prelude.{◌≡◌, ◌<◌, length};
@@ -62,7 +63,7 @@ impl<E, F: FnMut(BindingId) -> Result<(), E>> TurnVisitor<E> for BindingVisitor<
     }
 }
 
-/// Runs the closure on the binding that a pattern brings into scope.
+/// Runs the closure on the binding that a pattern binds.
 fn try_binding<E, F: FnMut(BindingId) -> Result<(), E>>(pat: &Pat, f: &mut F) -> Result<(), E>
     requires { F.IsAlwaysCallable f.old }
     ensures runs { Tries F.step f.old (pat_bindings pat.now) result f.new }

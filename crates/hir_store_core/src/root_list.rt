@@ -1,4 +1,4 @@
-//! The list of roots: a `SmallVec` with one place inline, since most bodies have one root.
+//! The list of roots: a `SmallVec` with room for one inline, since most bodies have one root.
 ghost use Rattle.std.specs.Prelude.{◌≡◌, [], ◌∷◌, ◌++◌, OnOk, OnErr, IfErr};
 ghost use Rattle.std.specs.Cmp.Lexicographic.{pointwise, lists_per, lists_equiv};
 
@@ -8,7 +8,7 @@ use smallvec::SmallVec;
 use std::alloc::{AllocError, AllocFailed, Global};
 use std::marker::Model;
 
-/// Roots in order. The first takes no memory. A contract sees the list of them.
+/// Roots in order, modelled as their list. The first takes no memory.
 #[derive(Drop)]
 pub struct RootList {
     list: SmallVec<Root, 1>,
@@ -62,7 +62,7 @@ impl TryClone for RootList {
 }
 
 impl RootList {
-    /// No roots. It takes no memory.
+    /// Returns no roots, without an allocation.
     pub fn new(alloc: Global) -> RootList
         ensures { result ≡ [] }
     {
@@ -71,14 +71,15 @@ impl RootList {
         }
     }
 
-    /// The roots as a slice.
+    /// Returns the roots as a slice.
     pub fn as_slice(&self) -> &[Root]
         ensures { result.now ≡ self.now }
     {
         self.list.as_slice()
     }
 
-    /// Adds the root at the end. If memory is refused, the list is unchanged and the root is handed back.
+    /// Adds the root at the end. Where an allocation fails, the list is unchanged and the error gives the
+    /// root back.
     pub fn push(&mut self, root: Root) -> Result<(), AllocFailed<Root>>
         ensures ok { OnOk result (self.new ≡ self.old ++ root ∷ []) }
         ensures err { OnErr result (self.new ≡ self.old) }

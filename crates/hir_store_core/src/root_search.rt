@@ -1,4 +1,5 @@
-//! The search for the first root whose end exceeds an id. It halves the list of roots: their ends never decrease.
+//! The search for the first root whose end exceeds an id. It halves the list of roots: their ends never
+//! decrease.
 
 ghost use Rattle.std.specs.Prelude.{◌≡◌, ◌+◌, ◌-◌, ◌<◌, ◌≤◌, ℕ, length, slice_get, option_map};
 ghost use Rattle.hir_store_core.specs.RootSearch.{end_of, root_for, end_at, EndsRise, AtMostDigitsOf};
@@ -7,7 +8,7 @@ use hir_base::Steps;
 use hir_forest::{Ends, Root};
 use hir_node::ExprId;
 
-/// What the end of a root counts.
+/// The kind of items that the end of a root counts.
 #[derive(Clone, Copy)]
 pub(crate) enum EndOf {
     Exprs,
@@ -15,7 +16,7 @@ pub(crate) enum EndOf {
     Bindings,
 }
 
-/// The end of this kind.
+/// Returns the end of this kind.
 fn end_of(kind: EndOf, ends: Ends) -> u32
     ensures { result ≡ end_of kind ends }
 {
@@ -36,7 +37,7 @@ fn read_end(kind: EndOf, roots: &[Root], i: usize, steps: &mut Steps) -> u32
     end_of(kind, roots[i].ends)
 }
 
-/// How many roots are before the first whose end exceeds the id.
+/// Returns the number of roots before the first whose end exceeds the id.
 fn count_before(kind: EndOf, roots: &[Root], id: u32, steps: &mut Steps) -> usize
     requires { EndsRise kind roots.now }
     ensures before { (i : ℕ) → i < result → end_at kind roots.now i ≤ id }
@@ -58,14 +59,14 @@ fn count_before(kind: EndOf, roots: &[Root], id: u32, steps: &mut Steps) -> usiz
     low
 }
 
-/// The expression of the root at a place, where there is one.
+/// Returns the expression of the root of this index, where it exists.
 fn root_at(roots: &[Root], i: usize) -> Option<ExprId>
     ensures { result ≡ option_map (λ root. root.node) (slice_get roots.now i) }
 {
     roots.get(i).map(|root| ExprId::from_raw(root.node))
 }
 
-/// The first root whose end of this kind exceeds the id.
+/// Returns the first root whose end of this kind exceeds the id.
 pub(crate) fn first_root(kind: EndOf, roots: &[Root], id: u32, steps: &mut Steps) -> Option<ExprId>
     requires { EndsRise kind roots.now }
     ensures found { result ≡ root_for kind roots.now id }

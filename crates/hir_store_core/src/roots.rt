@@ -9,7 +9,7 @@ use hir_base::Steps;
 use hir_node::{BindingId, ExprId, PatId};
 
 impl ExpressionStore {
-    /// The first root whose end of this kind exceeds the id.
+    /// Returns the first root whose end of this kind exceeds the id.
     fn root_for(&self, kind: EndOf, id: u32, steps: &mut Steps) -> Option<ExprId>
         ensures found { result ≡ root_for kind self.now.roots id }
         ensures counted { steps.old ≤ steps.new }
@@ -19,7 +19,7 @@ impl ExpressionStore {
         first_root(kind, self.roots(), id, steps)
     }
 
-    /// Whether there is a root for the expression: one that was listed when the expression was there.
+    /// Returns whether a root for the expression exists: one that was listed after the expression was made.
     pub fn covers_expr(&self, id: ExprId) -> bool
         ensures { IsTrue result ↔ IsSome (root_for_expr self.now.roots id) }
     {
@@ -28,7 +28,7 @@ impl ExpressionStore {
             .is_some()
     }
 
-    /// Whether there is a root for the pattern.
+    /// Returns whether a root for the pattern exists.
     pub fn covers_pat(&self, id: PatId) -> bool
         ensures { IsTrue result ↔ IsSome (root_for_pat self.now.roots id) }
     {
@@ -37,7 +37,7 @@ impl ExpressionStore {
             .is_some()
     }
 
-    /// Whether there is a root for the binding.
+    /// Returns whether a root for the binding exists.
     pub fn covers_binding(&self, id: BindingId) -> bool
         ensures { IsTrue result ↔ IsSome (root_for_binding self.now.roots id) }
     {
@@ -46,8 +46,9 @@ impl ExpressionStore {
             .is_some()
     }
 
-    /// The root that the expression was made for: the first in the list that was listed when the expression was there. There has to
-    /// be one, as `covers_expr` tests. It reads as few ends of roots as `find_root_for_expr_counted` says.
+    /// Returns the root that the expression was made for: the first that was listed after the expression was
+    /// made. It has to exist, as `covers_expr` tests. The call reads as few ends of roots as
+    /// `find_root_for_expr_counted` says.
     pub fn find_root_for_expr(&self, id: ExprId) -> ExprId
         requires { IsSome (root_for_expr self.now.roots id) }
         ensures { Some result ≡ root_for_expr self.now.roots id }
@@ -56,7 +57,8 @@ impl ExpressionStore {
         self.find_root_for_expr_counted(id, &mut steps)
     }
 
-    /// The root that the pattern was made for, as for an expression. There has to be one, as `covers_pat` tests.
+    /// Returns the root that the pattern was made for, as for an expression. It has to exist, as `covers_pat`
+    /// tests.
     pub fn find_root_for_pat(&self, id: PatId) -> ExprId
         requires { IsSome (root_for_pat self.now.roots id) }
         ensures { Some result ≡ root_for_pat self.now.roots id }
@@ -65,7 +67,8 @@ impl ExpressionStore {
         self.find_root_for_pat_counted(id, &mut steps)
     }
 
-    /// The root that the binding was made for, as for an expression. There has to be one, as `covers_binding` tests.
+    /// Returns the root that the binding was made for, as for an expression. It has to exist, as
+    /// `covers_binding` tests.
     pub fn find_root_for_binding(&self, id: BindingId) -> ExprId
         requires { IsSome (root_for_binding self.now.roots id) }
         ensures { Some result ≡ root_for_binding self.now.roots id }
@@ -74,8 +77,9 @@ impl ExpressionStore {
         self.find_root_for_binding_counted(id, &mut steps)
     }
 
-    /// The root that the expression was made for, as `find_root_for_expr` finds it. The count rises by one for each end of a root that is
-    /// read: by at most as many as the number of roots has binary digits.
+    /// Returns the root that the expression was made for, as `find_root_for_expr` finds it. The count rises
+    /// by one for each end of a root that is read: by at most as many as the number of roots has binary
+    /// digits.
     pub fn find_root_for_expr_counted(&self, id: ExprId, steps: &mut Steps) -> ExprId
         requires { IsSome (root_for_expr self.now.roots id) }
         ensures found { Some result ≡ root_for_expr self.now.roots id }
@@ -88,7 +92,7 @@ impl ExpressionStore {
         }
     }
 
-    /// The root that the pattern was made for, with a count as for an expression.
+    /// Returns the root that the pattern was made for, with a count as for an expression.
     pub fn find_root_for_pat_counted(&self, id: PatId, steps: &mut Steps) -> ExprId
         requires { IsSome (root_for_pat self.now.roots id) }
         ensures found { Some result ≡ root_for_pat self.now.roots id }
@@ -101,7 +105,7 @@ impl ExpressionStore {
         }
     }
 
-    /// The root that the binding was made for, with a count as for an expression.
+    /// Returns the root that the binding was made for, with a count as for an expression.
     pub fn find_root_for_binding_counted(&self, id: BindingId, steps: &mut Steps) -> ExprId
         requires { IsSome (root_for_binding self.now.roots id) }
         ensures found { Some result ≡ root_for_binding self.now.roots id }

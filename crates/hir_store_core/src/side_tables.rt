@@ -8,7 +8,8 @@ use hir_node::{BindingId, ExprId, ExprOrPatId};
 use hir_rare::LazyBox;
 use std::alloc::{AllocError, Global};
 
-/// Side tables: binding owners, path hygiene, blocks. `finish` doesn't check them: ids may be of nodes that aren't there.
+/// Side tables: binding owners, path hygiene, blocks. `finish` doesn't check them: ids may be of nodes that
+/// don't exist.
 #[derive(Drop, PartialEq, Eq)]
 pub struct SideTables {
     /// The owner of a binding, where it isn't the body itself.
@@ -22,7 +23,7 @@ pub struct SideTables {
 impl SideTables {
     ghost use Rattle.hir_store_core.specs.SideTables.{no_side_tables};
 
-    /// Empty side tables. They take no memory.
+    /// Returns empty side tables, without an allocation.
     pub fn new(alloc: Global) -> SideTables
         ensures { result ≡ no_side_tables }
     {

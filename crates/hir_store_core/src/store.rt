@@ -14,7 +14,6 @@ use crate::side_tables::SideTables;
 use crate::store_iter::ExprRoots;
 use crate::zip_ok::zip_ok;
 use hir_base::{Arena, ArenaIter, ExactEq, TryClone};
-use hir_validate::{NodeSlices, Sizes, as_path};
 use hir_forest::Root;
 use hir_node::{
     Binding, BindingId, BindingKind, Expr, ExprId, ExprKind, Label, LabelId, LabelKind,
@@ -22,13 +21,14 @@ use hir_node::{
     TypeRef, TypeRefId, TypeRefKind,
 };
 use hir_rare::LazyBox;
+use hir_validate::{NodeSlices, Sizes, as_path};
 use std::alloc::{AllocError, Global};
 use std::marker::Model;
 use std::ops::Index;
 
-/// Expressions, patterns, types and what they name, with the roots. They have no fault: each id that a node names is there, and the
-/// nodes are a forest. `ExpressionStoreBuilder::finish` makes it. The parent of each node, which `finish` has to find, is kept, and for
-/// walks over patterns what comes after each pattern.
+/// Expressions, patterns, types and what they name, with the roots. They have no fault: each id that a node
+/// names exists, and the nodes are a forest. `ExpressionStoreBuilder::finish` makes it. It keeps the parent
+/// of each node, which `finish` has to find, and for walks over patterns what comes after each pattern.
 pub struct ExpressionStore {
     exprs: Arena<ExprKind, Expr>,
     pats: Arena<PatKind, Pat>,
@@ -41,7 +41,8 @@ pub struct ExpressionStore {
     kept: LazyBox<KeptParts>,
 }
 
-/// Drops its parts one after the other. It is here so that it is proved once, and is a call wherever a value is dropped.
+/// Drops its parts one after the other. This `impl` exists so that the drop is proved once, and is a call
+/// where a value is dropped.
 impl Drop for ExpressionStore {
     fn drop(self) {
         let ExpressionStore {
@@ -96,7 +97,8 @@ impl Model for ExpressionStore {
     } s.kept };
 }
 
-/// The parts of a store: the nodes and what they name, the roots, the side tables, and what follows from the nodes and is kept.
+/// The parts of a store: the nodes and what they name, the roots, the side tables, and what follows from the
+/// nodes and is kept.
 #[derive(Drop)]
 pub struct StoreParts {
     pub exprs: Arena<ExprKind, Expr>,
@@ -119,8 +121,8 @@ impl ExpressionStore {
     ghost use Rattle.hir_store_core.specs.PatLinks.{HasPatLinks};
     ghost use Rattle.hir_store_core.specs.StoreParts.{contents_of_parts};
 
-    /// A store of these parts. A caller has to prove that they have no fault, and that what is kept follows from them: a builder tests the
-    /// nodes once.
+    /// Returns a store of these parts. A caller has to prove that they have no fault, and that what is kept
+    /// follows from them: a builder tests the nodes once.
     pub fn new(parts: StoreParts) -> ExpressionStore
         requires { IsStore (contents_of_parts parts) parts.kept }
         ensures { result ≡ contents_of_parts parts }
@@ -149,7 +151,36 @@ impl ExpressionStore {
         }
     }
 
-    /// An empty store. It takes no memory.
+    /// Returns ownership of the parts. They still are a store's, so `new` takes them as they are.
+    pub fn into_parts(self) -> StoreParts
+        ensures contents { contents_of_parts result ≡ self }
+        ensures store { IsStore (contents_of_parts result) result.kept }
+    {
+        let ExpressionStore {
+            exprs,
+            pats,
+            types,
+            bindings,
+            labels,
+            lifetimes,
+            roots,
+            side_tables,
+            kept,
+        } = self;
+        StoreParts {
+            exprs,
+            pats,
+            types,
+            bindings,
+            labels,
+            lifetimes,
+            roots,
+            side_tables,
+            kept,
+        }
+    }
+
+    /// Returns an empty store, without an allocation.
     pub fn empty(alloc: Global) -> ExpressionStore
         ensures { result ≡ no_contents }
     {
@@ -173,21 +204,21 @@ impl ExpressionStore {
         let _ = &self.exprs;
     }
 
-    /// The roots with their ends.
+    /// Returns the roots with their ends.
     pub(crate) fn roots(&self) -> &[Root]
         ensures { result.now ≡ self.now.roots }
     {
         self.roots.as_slice()
     }
 
-    /// The side tables.
+    /// Returns the side tables.
     pub(crate) fn side_tables(&self) -> &SideTables
         ensures { result.now ≡ self.now.side_tables }
     {
         &self.side_tables
     }
 
-    /// The nodes, borrowed.
+    /// Returns the nodes, borrowed.
     pub(crate) fn nodes(&self) -> NodeSlices<'_>
         ensures nodes { nodes_in result ≡ self.now.nodes }
         ensures few { Few (sizes_of (nodes_in result)) }
@@ -202,7 +233,7 @@ impl ExpressionStore {
         }
     }
 
-    /// How many items each arena has.
+    /// Returns the number of items of each arena.
     pub(crate) fn sizes(&self) -> Sizes
         ensures sizes { result ≡ sizes_of self.now.nodes }
         ensures few { Few result }
@@ -210,7 +241,7 @@ impl ExpressionStore {
         self.nodes().sizes()
     }
 
-    /// What is kept, where there is a node.
+    /// Returns what is kept, where the store has a node.
     pub(crate) fn kept_parts(&self) -> Option<&KeptParts>
         ensures parents { IfSome result (λ kept. HasParents (graph self.now.nodes) kept.now.parents.parents) }
         ensures links { IfSome result (λ kept. HasPatLinks self.now.nodes.pats kept.now.links) }
@@ -219,114 +250,114 @@ impl ExpressionStore {
         self.kept.get()
     }
 
-    /// Whether there is an expression of this id.
+    /// Returns whether an expression of this id exists.
     pub fn has_expr(&self, id: ExprId) -> bool
         ensures { IsTrue result ↔ (id < length self.now.nodes.exprs) }
     {
         self.exprs.has(id)
     }
 
-    /// Whether there is a pattern of this id.
+    /// Returns whether a pattern of this id exists.
     pub fn has_pat(&self, id: PatId) -> bool
         ensures { IsTrue result ↔ (id < length self.now.nodes.pats) }
     {
         self.pats.has(id)
     }
 
-    /// Whether there is a type of this id.
+    /// Returns whether a type of this id exists.
     pub fn has_type(&self, id: TypeRefId) -> bool
         ensures { IsTrue result ↔ (id < length self.now.nodes.types) }
     {
         self.types.has(id)
     }
 
-    /// Whether there is a binding of this id.
+    /// Returns whether a binding of this id exists.
     pub fn has_binding(&self, id: BindingId) -> bool
         ensures { IsTrue result ↔ (id < length self.now.nodes.bindings) }
     {
         self.bindings.has(id)
     }
 
-    /// Whether there is a label of this id.
+    /// Returns whether a label of this id exists.
     pub fn has_label(&self, id: LabelId) -> bool
         ensures { IsTrue result ↔ (id < length self.now.nodes.labels) }
     {
         self.labels.has(id)
     }
 
-    /// Whether there is a lifetime of this id.
+    /// Returns whether a lifetime of this id exists.
     pub fn has_lifetime(&self, id: LifetimeRefId) -> bool
         ensures { IsTrue result ↔ (id < length self.now.nodes.lifetimes) }
     {
         self.lifetimes.has(id)
     }
 
-    /// Whether the type of this id is there and is a path.
+    /// Returns whether the type of this id exists and is a path.
     pub fn has_path(&self, id: PathId) -> bool
         ensures { result ≡ is_path_at self.now.nodes.types id }
     {
         self.nodes().has_path(id)
     }
 
-    /// Whether a path fits the store: each id that it names is there, each type that it names as a path is one, each list of generic
-    /// arguments that begins with a self type isn't empty, and a `Normal` path has one list for each segment. A path that a node of the
-    /// store has fits it.
+    /// Returns whether a path fits the store: each id that it names exists, each type that it names as a path
+    /// is one, each list of generic arguments that begins with a self type isn't empty, and a `Normal` path
+    /// has one list for each segment. A path of a node of the store fits it.
     pub fn path_is_sound(&self, path: &Path) -> bool
         ensures { result ≡ path_fits self.now.nodes path.now }
     {
         self.nodes().path_is_sound(path)
     }
 
-    /// Whether each type and each lifetime that the bound names is there.
+    /// Returns whether each type and each lifetime that the bound names exists.
     pub fn has_bound(&self, bound: &TypeBound) -> bool
         ensures { result ≡ list_all (is_in_range (sizes_of self.now.nodes)) (bound_calls bound.now) }
     {
         self.nodes().has_bound(bound)
     }
 
-    /// Whether what the bound names as a path is there and is a path.
+    /// Returns whether what the bound names as a path exists and is a path.
     pub fn bound_names_path(&self, bound: &TypeBound) -> bool
         ensures { result ≡ list_all (is_path_at self.now.nodes.types) (bound_paths bound.now) }
     {
         self.nodes().bound_names_path(bound)
     }
 
-    /// The expressions with their ids, in their order. It can be taken from both ends.
+    /// Returns the expressions with their ids, in their order. It can be taken from both ends.
     pub fn exprs(&self) -> ArenaIter<'_, ExprKind, Expr>
         ensures { result ≡ enumerate_from 0 self.now.nodes.exprs }
     {
         self.exprs.iter()
     }
 
-    /// The patterns with their ids, in their order. It can be taken from both ends.
+    /// Returns the patterns with their ids, in their order. It can be taken from both ends.
     pub fn pats(&self) -> ArenaIter<'_, PatKind, Pat>
         ensures { result ≡ enumerate_from 0 self.now.nodes.pats }
     {
         self.pats.iter()
     }
 
-    /// The bindings with their ids, in their order. It can be taken from both ends.
+    /// Returns the bindings with their ids, in their order. It can be taken from both ends.
     pub fn bindings(&self) -> ArenaIter<'_, BindingKind, Binding>
         ensures { result ≡ enumerate_from 0 self.now.nodes.bindings }
     {
         self.bindings.iter()
     }
 
-    /// The types with their ids, in their order. It can be taken from both ends.
+    /// Returns the types with their ids, in their order. It can be taken from both ends.
     pub fn types(&self) -> ArenaIter<'_, TypeRefKind, TypeRef>
         ensures { result ≡ enumerate_from 0 self.now.nodes.types }
     {
         self.types.iter()
     }
 
-    /// The lifetimes with their ids, in their order. It can be taken from both ends.
+    /// Returns the lifetimes with their ids, in their order. It can be taken from both ends.
     pub fn lifetimes(&self) -> ArenaIter<'_, LifetimeRefKind, LifetimeRef>
         ensures { result ≡ enumerate_from 0 self.now.nodes.lifetimes }
     {
         self.lifetimes.iter()
     }
 
-    /// The roots in their order. It can be taken from both ends.
+    /// Returns the roots in their order. It can be taken from both ends.
     pub fn expr_roots(&self) -> ExprRoots<'_>
         ensures { result ≡ root_nodes self.now.roots }
     {
@@ -334,7 +365,7 @@ impl ExpressionStore {
     }
 }
 
-/// The expression of an id, which has to be there: `has_expr` tests it.
+/// Gives the expression of an id, which has to exist: `has_expr` tests it.
 impl Index<ExprId> for ExpressionStore {
     type Output = Expr;
 
@@ -347,7 +378,7 @@ impl Index<ExprId> for ExpressionStore {
     }
 }
 
-/// The pattern of an id, which has to be there: `has_pat` tests it.
+/// Gives the pattern of an id, which has to exist: `has_pat` tests it.
 impl Index<PatId> for ExpressionStore {
     type Output = Pat;
 
@@ -360,7 +391,7 @@ impl Index<PatId> for ExpressionStore {
     }
 }
 
-/// The label of an id, which has to be there: `has_label` tests it.
+/// Gives the label of an id, which has to exist: `has_label` tests it.
 impl Index<LabelId> for ExpressionStore {
     type Output = Label;
 
@@ -373,7 +404,7 @@ impl Index<LabelId> for ExpressionStore {
     }
 }
 
-/// The binding of an id, which has to be there: `has_binding` tests it.
+/// Gives the binding of an id, which has to exist: `has_binding` tests it.
 impl Index<BindingId> for ExpressionStore {
     type Output = Binding;
 
@@ -386,7 +417,7 @@ impl Index<BindingId> for ExpressionStore {
     }
 }
 
-/// The type of an id, which has to be there: `has_type` tests it.
+/// Gives the type of an id, which has to exist: `has_type` tests it.
 impl Index<TypeRefId> for ExpressionStore {
     type Output = TypeRef;
 
@@ -399,7 +430,7 @@ impl Index<TypeRefId> for ExpressionStore {
     }
 }
 
-/// The lifetime of an id, which has to be there: `has_lifetime` tests it.
+/// Gives the lifetime of an id, which has to exist: `has_lifetime` tests it.
 impl Index<LifetimeRefId> for ExpressionStore {
     type Output = LifetimeRef;
 
@@ -412,7 +443,7 @@ impl Index<LifetimeRefId> for ExpressionStore {
     }
 }
 
-/// The path that a type is, which has to be there and to be a path: `has_path` tests it.
+/// Gives the path that a type is, which has to exist and to be a path: `has_path` tests it.
 impl Index<PathId> for ExpressionStore {
     type Output = Path;
 
@@ -456,7 +487,8 @@ impl Clone for ExpressionStore {
     }
 }
 
-/// Stores are equal where all that they hold is; the parents of the nodes and the links of the patterns follow from these.
+/// Stores are equal where all that they hold is; the parents of the nodes and the links of the patterns
+/// follow from these.
 impl PartialEq for ExpressionStore {
     ghost use Rattle.hir_store_core.specs.same.SameStores.{same_stores, stores_per};
 

@@ -9,7 +9,7 @@ use std::alloc::AllocError;
 use std::iter::{ExactSizeIterator, FusedIterator};
 use std::marker::Model;
 
-/// An iterator over the roots of a store. A contract sees it as the list of those that are left.
+/// An iterator over the roots of a store, modelled as the list of those that are left.
 #[derive(Drop)]
 pub struct ExprRoots<'a> {
     roots: &'a [Root],

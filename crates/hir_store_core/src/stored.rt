@@ -11,7 +11,8 @@ use hir_node::{
     PatKind, TypeRef, TypeRefKind,
 };
 
-/// A kind of item that a store has an arena of, by the marker of its ids: `ExprKind` for expressions, and so on.
+/// A kind of item that a store has an arena of, by the marker of its ids: `ExprKind` for expressions, and so
+/// on.
 pub trait Stored {
     /// What an id of this kind names.
     type Item;
@@ -19,7 +20,7 @@ pub trait Stored {
     // the items of this kind, in the order of their ids
     ghost items_of: { Nodes → List Self.Item };
 
-    /// The items of this kind, in the order of their ids.
+    /// Returns the items of this kind, in the order of their ids.
     fn items(store: &ExpressionStore) -> &[Self::Item]
         ensures { result.now ≡ items_of store.now.nodes };
 }
@@ -85,7 +86,8 @@ impl Stored for LifetimeRefKind {
 }
 
 impl ExpressionStore {
-    /// The expression, pattern, binding, label, type or lifetime of this id. `None` where the store has none of this id.
+    /// Returns the expression, pattern, binding, label, type or lifetime of this id, and `None` where the
+    /// store has none.
     pub fn get<K: Stored>(&self, id: Idx<K>) -> Option<&K::Item>
         ensures { option_copied result ≡ slice_get (K.items_of self.now.nodes) id }
     {

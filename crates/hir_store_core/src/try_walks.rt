@@ -1,5 +1,6 @@
-//! Walks that can stop: over the patterns of a pattern and over the child expressions of an expression, up to the first that a closure
-//! refuses. They take no memory and don't recurse: patterns are walked by turns, and no expression, type or path is entered.
+//! Walks that can stop: over the patterns of a pattern and over the child expressions of an expression, up to
+//! the first that a closure refuses. They take no memory and don't recurse: patterns are walked by turns, and
+//! no expression, type or path is entered.
 #![tactic(auto, using(crate::proofs::TryLemmas::tries))]
 
 ghost use Rattle.std.specs.Prelude.{◌≡◌, ◌<◌, IsTrue, length};
@@ -14,7 +15,8 @@ use crate::store::ExpressionStore;
 use hir_node::{BindingId, ExprId, LifetimeRefId, PatId, StoreVisitor, TypeRefId};
 
 impl ExpressionStore {
-    /// Runs the closure on what `walk_pats` does, up to the first pattern that it refuses, whose refusal is the answer.
+    /// Runs the closure on what `walk_pats` does, up to the first pattern that it refuses, and returns this
+    /// refusal.
     pub fn try_walk_pats<E, F: FnMut(PatId) -> Result<(), E>>(
         &self,
         id: PatId,
@@ -30,7 +32,8 @@ impl ExpressionStore {
         self.walk_turns(id, &mut entered)
     }
 
-    /// Runs the closure on what `walk_bindings_in_pat` does, up to the first binding that it refuses, whose refusal is the answer.
+    /// Runs the closure on what `walk_bindings_in_pat` does, up to the first binding that it refuses, and
+    /// returns this refusal.
     pub fn try_walk_bindings_in_pat<E, F: FnMut(BindingId) -> Result<(), E>>(
         &self,
         id: PatId,
@@ -49,7 +52,8 @@ impl ExpressionStore {
         self.walk_turns(id, &mut entered)
     }
 
-    /// Runs the closure on what `walk_exprs_in_pat` does, up to the first expression that it refuses, whose refusal is the answer.
+    /// Runs the closure on what `walk_exprs_in_pat` does, up to the first expression that it refuses, and
+    /// returns this refusal.
     pub fn try_walk_exprs_in_pat<E: Drop, F: FnMut(ExprId) -> Result<(), E>>(
         &self,
         id: PatId,
@@ -68,7 +72,8 @@ impl ExpressionStore {
         self.walk_turns(id, &mut left)
     }
 
-    /// Runs the closure on what `walk_child_exprs` does, up to the first expression that it refuses, whose refusal is the answer.
+    /// Runs the closure on what `walk_child_exprs` does, up to the first expression that it refuses, and
+    /// returns this refusal.
     pub fn try_walk_child_exprs<E: Drop, F: FnMut(ExprId) -> Result<(), E>>(
         &self,
         id: ExprId,
@@ -90,8 +95,8 @@ impl ExpressionStore {
         answer
     }
 
-    /// Runs the closure on what `walk_child_exprs_without_pats` does, up to the first expression that it refuses, whose refusal is the
-    /// answer.
+    /// Runs the closure on what `walk_child_exprs_without_pats` does, up to the first expression that it
+    /// refuses, and returns this refusal.
     pub fn try_walk_child_exprs_without_pats<E: Drop, F: FnMut(ExprId) -> Result<(), E>>(
         &self,
         id: ExprId,
@@ -112,7 +117,8 @@ impl ExpressionStore {
     }
 }
 
-/// Runs a closure on each expression, each anonymous constant, and the expressions of each pattern, and on none after a refusal.
+/// Runs a closure on each expression, each anonymous constant, and the expressions of each pattern, and on
+/// none after a refusal.
 #[derive(Drop)]
 struct ChildExprs<'s, 'f, 'a, F, E> {
     store: &'s ExpressionStore,

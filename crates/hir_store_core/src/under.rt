@@ -1,4 +1,4 @@
-//! Sets of nodes of a store, and which nodes lie under others.
+//! Sets of nodes of a store, and which nodes are descendants of others.
 
 ghost use Rattle.std.specs.Prelude.{◌≡◌, ◌↔◌, ◌<◌, length, IfOk, IsTrue};
 ghost use Rattle.hir_node.specs.declared.node_id.NodeId.{NodeId};
@@ -8,12 +8,12 @@ ghost use Rattle.hir_store_core.specs.NodeSets.{IsIn, Gains, NoChildIn};
 ghost use Rattle.hir_store_core.specs.Under.{LiesUnderOther};
 
 use crate::store::ExpressionStore;
-use hir_validate::Sizes;
 use hir_node::{ExprId, PatId};
+use hir_validate::Sizes;
 use std::alloc::{AllocError, Global};
 use std::marker::Model;
 
-/// A set of nodes of a store. It has a mark for each node that was there when it was made.
+/// A set of nodes of a store. It has a mark for each node that existed when it was made.
 #[derive(Drop)]
 pub struct NodeSet {
     sizes: Sizes,
@@ -32,7 +32,7 @@ impl Model for NodeSet {
 }
 
 impl NodeSet {
-    /// Whether the expression is in the set. The store has to have it.
+    /// Returns whether the expression is in the set. The store has to have it.
     pub fn has_expr(&self, id: ExprId) -> bool
         requires { id < self.now.sizes.exprs }
         ensures { IsTrue result ↔ IsIn self.now (node.Expr id) }
@@ -41,7 +41,7 @@ impl NodeSet {
         self.marks[at]
     }
 
-    /// Whether the pattern is in the set. The store has to have it.
+    /// Returns whether the pattern is in the set. The store has to have it.
     pub fn has_pat(&self, id: PatId) -> bool
         requires { id < self.now.sizes.pats }
         ensures { IsTrue result ↔ IsIn self.now (node.Pat id) }
@@ -68,9 +68,9 @@ impl NodeSet {
 }
 
 impl ExpressionStore {
-    /// The empty set.
+    /// Returns the empty set.
     ///
-    /// It fails only when memory for a mark for each node is refused.
+    /// It fails only where the allocation of a mark for each node fails.
     pub fn no_nodes(&self, alloc: Global) -> Result<NodeSet, AllocError>
         ensures sizes { IfOk result (λ set. set.sizes ≡ sizes_of self.now.nodes) }
         ensures none { IfOk result (λ set. (n : NodeId) → IsIn set n → ⊥) }
@@ -82,9 +82,10 @@ impl ExpressionStore {
         })
     }
 
-    /// Whether no child of a node is in the set, which is of nodes of this store. Then no node in it lies under another node.
+    /// Returns whether no child of a node is in the set, which is of nodes of this store. Then no node in it
+    /// is a descendant of another node.
     ///
-    /// It takes time in the number of nodes and no memory: the parents of nodes are kept.
+    /// It takes time in the number of nodes and no memory: the store keeps the parents of nodes.
     pub fn no_child_is_in(&self, set: &NodeSet) -> bool
         requires { set.now.sizes ≡ sizes_of self.now.nodes }
         ensures { IsTrue result ↔ NoChildIn self.now.nodes set.now }
@@ -96,10 +97,11 @@ impl ExpressionStore {
         }
     }
 
-    /// The nodes that lie properly under one of these, which are nodes of this store.
+    /// Returns the nodes that are descendants of one of these, other than itself. These are nodes of this
+    /// store.
     ///
-    /// It takes time in the number of nodes and doesn't recurse: it goes from node to parent, which is kept. It fails only when memory for
-    /// two marks a node is refused.
+    /// It takes time in the number of nodes and doesn't recurse: it goes from node to parent, which the store
+    /// keeps. It fails only where an allocation of two marks a node fails.
     pub fn under(&self, alloc: Global, entry_nodes: &NodeSet) -> Result<NodeSet, AllocError>
         requires { entry_nodes.now.sizes ≡ sizes_of self.now.nodes }
         ensures sizes { IfOk result (λ found. found.sizes ≡ sizes_of self.now.nodes) }

@@ -1,5 +1,5 @@
-//! Walks over the patterns of a pattern and over the child expressions of an expression, for every closure that may always be called.
-//! Each is the walk that can stop, by a closure that refuses nothing.
+//! Walks over the patterns of a pattern and over the child expressions of an expression, for every closure
+//! that may always be called. Each is the walk that can stop, by a closure that refuses nothing.
 
 ghost use Rattle.std.specs.Prelude.{◌≡◌, ◌<◌, Ok, length};
 ghost use Rattle.std.specs.List.{FoldsTo};
@@ -39,7 +39,8 @@ impl ExpressionStore {
         );
     }
 
-    /// Runs the closure on the binding of each pattern of a pattern that brings one into scope, in the order of `walk_pats`.
+    /// Runs the closure on the binding of each pattern of a pattern that binds one, in the order of
+    /// `walk_pats`.
     pub fn walk_bindings_in_pat<F: FnMut(BindingId)>(&self, id: PatId, f: &mut F)
         requires in_range { id < length self.now.nodes.pats }
         requires callable { F.IsAlwaysCallable f.old }
@@ -58,7 +59,8 @@ impl ExpressionStore {
         );
     }
 
-    /// Runs the closure on each expression of a pattern: those met by descending through patterns, the constants in their paths included.
+    /// Runs the closure on each expression of a pattern: those visited by descending through patterns, the
+    /// constants in their paths included.
     pub fn walk_exprs_in_pat<F: FnMut(ExprId)>(&self, id: PatId, f: &mut F)
         requires in_range { id < length self.now.nodes.pats }
         requires callable { F.IsAlwaysCallable f.old }
@@ -77,7 +79,8 @@ impl ExpressionStore {
         );
     }
 
-    /// Runs the closure on each child expression of an expression, anonymous constants included; a child pattern gives its expressions.
+    /// Runs the closure on each child expression of an expression, anonymous constants included; a child
+    /// pattern gives its expressions.
     pub fn walk_child_exprs<F: FnMut(ExprId)>(&self, id: ExprId, f: &mut F)
         requires in_range { id < length self.now.nodes.exprs }
         requires callable { F.IsAlwaysCallable f.old }
@@ -96,7 +99,8 @@ impl ExpressionStore {
         );
     }
 
-    /// Runs the closure on each child expression of an expression, anonymous constants included; a child pattern gives none.
+    /// Runs the closure on each child expression of an expression, anonymous constants included; a child
+    /// pattern gives none.
     pub fn walk_child_exprs_without_pats<F: FnMut(ExprId)>(&self, id: ExprId, f: &mut F)
         requires in_range { id < length self.now.nodes.exprs }
         requires callable { F.IsAlwaysCallable f.old }

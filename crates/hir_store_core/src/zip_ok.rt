@@ -3,9 +3,10 @@ ghost use Rattle.std.specs.Prelude.{◌≡◌, Err, IfErr, IfOk, Ok};
 
 use std::alloc::AllocError;
 
-/// Both values, if there is a second one; else its error, and the first is dropped.
+/// Returns both values, where the second is one; else returns its error and drops the first.
 ///
-/// The first is moved whole. A `?` next to it would take it apart once more, which is costly to prove when it is large.
+/// The first is moved whole. A `?` next to it would take it to pieces once more, which is costly to prove
+/// when it is large.
 pub(crate) fn zip_ok<A: Drop, B>(
     first: A,
     second: Result<B, AllocError>,

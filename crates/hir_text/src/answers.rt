@@ -36,8 +36,8 @@ impl Entry {
         &self.answer
     }
 
-    /// Writes the answer as lines, each with its end: the first behind `= `, or `! ` where it is a refusal, each further one behind `| `;
-    /// of an empty line the mark alone.
+    /// Writes the answer as lines, each with its end: the first behind `= `, or `! ` where it is a refusal,
+    /// each further one behind `| `; of an empty line the mark alone.
     pub fn write_lines(&self, out: &mut String) -> Result<(), AllocError> {
         let mut mark = if self.answer.is_refusal() { '!' } else { '=' };
         for line in self.answer.as_str().split('\n') {

@@ -7,13 +7,13 @@ use hir_base::{
 use hir_captures::CapturesFault;
 use hir_defs::{BodyFault, SignatureFault};
 use hir_error::HirError;
-use hir_store_core::Missing;
-use hir_show_io::{EndFailed, FillFault, LineFault};
-use hir_text_nodes::{Answer, TextError, Words};
 use hir_pretty::PrintFault;
-use hir_show_run::RunFault;
 use hir_scope::ScopesFault;
+use hir_show_io::{EndFailed, FillFault, LineFault};
+use hir_show_run::RunFault;
 use hir_store::FinishFault;
+use hir_store_core::Missing;
+use hir_text_nodes::{Answer, TextError, Words};
 use hir_text_words::value_of;
 use std::alloc::Global;
 use std::fmt::Display;

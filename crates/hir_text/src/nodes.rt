@@ -1,8 +1,8 @@
 //! The nodes that lines have made so far, and the store that questions ask.
 
+use hir_store::{ExpressionStoreBuilder, FinishFault};
 use hir_text_defs::{Finished, Subject};
 use hir_text_nodes::{Answer, TextError, Words};
-use hir_store::{ExpressionStoreBuilder, FinishFault};
 use hir_text_store::{answer_unknown, refuse};
 use std::alloc::{AllocError, Global};
 use std::mem;
@@ -80,8 +80,8 @@ impl Nodes {
         }
     }
 
-    /// Whether there is a store to ask: the nodes are finished, where lines made some since the last time. Where that is refused,
-    /// the answer says why.
+    /// Whether there is a store to ask: the nodes are finished, where lines made some since the last time.
+    /// Where that is refused, the answer says why.
     pub(crate) fn ready(&mut self, alloc: Global, answer: &mut Answer) -> Result<bool, TextError> {
         if !self.has_lines {
             return Ok(true);
@@ -95,8 +95,9 @@ impl Nodes {
         }
     }
 
-    /// Takes the store for a body, a signature or the fields of a variant: the one that was finished last, or that of the lines
-    /// since then. Where these are refused they stay, and the answer says why; so it does where the store has an owner.
+    /// Takes the store for a body, a signature or the fields of a variant: the one that was finished last, or
+    /// that of the lines since then. Where these are refused they stay, and the answer says why; so it does
+    /// where the store has an owner.
     pub(crate) fn take_store(
         &mut self,
         alloc: Global,

@@ -1,10 +1,11 @@
-//! The program over ends in memory: lines that are its input, and a run of it, with what it writes to each end.
+//! The program over ends in memory: lines that are its input, and a run of it, with what it writes to each
+//! end.
 
 ghost use Rattle.std.specs.Prelude.{◌≡◌, ◌++◌, IsFalse, IsTrue, false};
 
 use hir_show_io::{EndFailed, Sink, Source};
-use hir_text_nodes::{Answer, TextError, Words};
 use hir_show_run::{report, run as run_program};
+use hir_text_nodes::{Answer, TextError, Words};
 use std::alloc::{AllocError, Global};
 use std::mem;
 
@@ -158,7 +159,8 @@ pub(crate) fn line(
     Ok(true)
 }
 
-/// How many calls of an end come before the one that fails: the number behind this word tells which one it is.
+/// How many calls of an end come before the one that fails: the number behind this word tells which one it
+/// is.
 fn good_calls(words: &mut Words<'_>, word: &[u8]) -> Result<u64, TextError> {
     if !words.prefix(word) {
         return Ok(u64::MAX);

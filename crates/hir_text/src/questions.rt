@@ -3,10 +3,10 @@
 use crate::{faults, scopes, texts};
 use hir_base::ExpressionStoreOwnerId;
 use hir_defs::{StoreOf, Tables};
-use hir_text_defs::{Subject, asked_body};
-use hir_text_nodes::{Answer, TextError, Words};
 use hir_source_map::SourceMapBuilder;
 use hir_store::{ExpressionStore, ExpressionStoreSourceMap};
+use hir_text_defs::{Subject, asked_body};
+use hir_text_nodes::{Answer, TextError, Words};
 use std::alloc::Global;
 
 /// A store and its source map.

@@ -7,11 +7,11 @@ use hir_base::{
 };
 use hir_captures::{CapturesFault, captures};
 use hir_defs::{Body, Tables};
-use hir_text_defs::asked_body;
 use hir_node::{BindingId, ExprId};
-use hir_text_nodes::{Answer, TextError, Words, next_hygiene, next_owner, opt_hygiene};
 use hir_scope::{Expansion, ExprScopes, ScopeEntry, ScopeId, ScopesFault};
 use hir_store::ExpressionStore;
+use hir_text_defs::asked_body;
+use hir_text_nodes::{Answer, TextError, Words, next_hygiene, next_owner, opt_hygiene};
 use hir_text_store::{answer_unknown, differs, refuse, write_same};
 use hir_text_words::value_of;
 use std::alloc::{AllocError, Global};
@@ -71,8 +71,8 @@ fn read_resolve(alloc: Global, words: &mut Words<'_>) -> Result<OfScopes, TextEr
     Ok(OfScopes::Resolve(expr, name, hygiene))
 }
 
-/// An expansion: the hygiene of its names, the macro, and the hygiene that the names have in the macro's definition. The words
-/// stand behind `macro:`, as `5 1 root`.
+/// An expansion: the hygiene of its names, the macro, and the hygiene that the names have in the macro's
+/// definition. The words stand behind `macro:`, as `5 1 root`.
 fn read_expansion(words: &mut Words<'_>) -> Result<(HygieneId, Expansion), TextError> {
     let macro_def = MacroDefId::from_raw(words.number()?);
     let hygiene = next_hygiene(words)?;
@@ -339,8 +339,8 @@ fn write(question: &OfScopes, scopes: &ExprScopes, answer: &mut Answer) -> Resul
     }
 }
 
-/// An owner that is lent to the call for whatever converts into one: at an owner itself the prover's borrow checker can't build the
-/// proof of the call.
+/// An owner that is lent to the call for whatever converts into one: at an owner itself the prover's borrow
+/// checker can't build the proof of the call.
 #[derive(Clone, Copy)]
 struct OwnerRef<'a>(&'a ExpressionStoreOwnerId);
 
@@ -372,7 +372,8 @@ fn compared(
     }
 }
 
-/// Writes how many scopes and entries there are, where others were the same. Where there were none, the answer says why.
+/// Writes how many scopes and entries there are, where others were the same. Where there were none, the
+/// answer says why.
 fn write_compared(
     is_same: Option<bool>,
     scopes: &ExprScopes,

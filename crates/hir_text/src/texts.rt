@@ -5,17 +5,17 @@ use hir_base::{
     VariantId,
 };
 use hir_defs::{Body, Tables};
-use hir_text_defs::asked_def;
 use hir_node::{ExprId, PatId, Path};
-use hir_text_nodes::{
-    Answer, TextError, Words, as_def_with_body, as_generic, as_variant, next_def, next_path,
-    opt_edition, read_def,
-};
 use hir_pretty::{
     PrettyBody, PrintFault, print_body_hir, print_expr_hir, print_function, print_pat_hir,
     print_path, print_signature, print_struct, print_variant_body_hir,
 };
 use hir_store::ExpressionStore;
+use hir_text_defs::asked_def;
+use hir_text_nodes::{
+    Answer, TextError, Words, as_def_with_body, as_generic, as_variant, next_def, next_path,
+    opt_edition, read_def,
+};
 use hir_text_store::{answer_unknown, refuse_missing};
 use hir_text_words::value_of;
 use std::alloc::Global;

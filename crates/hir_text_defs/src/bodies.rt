@@ -5,8 +5,8 @@ use crate::subject::{Finished, Subject, ask_accepted, ask_again};
 use hir_base::{DefWithBodyId, ExpressionStoreOwnerId, Idx};
 use hir_defs::{Body, BodyFault, BodySourceMap, Param, RefusedBody, Tables, TablesOf};
 use hir_node::BindingId;
-use hir_text_nodes::{Answer, TextError, Words};
 use hir_store::ExpressionStore;
+use hir_text_nodes::{Answer, TextError, Words};
 use hir_text_store::{answer_unknown, done_or_stop, refuse};
 use hir_text_words::value_of;
 use std::alloc::{AllocError, Global};
@@ -32,7 +32,8 @@ fn take_back(
     Ok(store)
 }
 
-/// Makes a body of the store and of what waits for it, and adds it to the tables. Answers the store that questions ask from then on.
+/// Makes a body of the store and of what waits for it, and adds it to the tables. Answers the store that
+/// questions ask from then on.
 pub(crate) fn make<F: Drop, S: Drop, P: Drop, V: Drop, M: Drop>(
     alloc: Global,
     def: &DefWithBodyId,

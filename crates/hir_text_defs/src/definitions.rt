@@ -13,8 +13,8 @@ use hir_defs::{
     PlainSignature, RefusedSignature, SignatureFault, StructParts, StructSignature, Tables,
     TablesOf, VariantFields, VariantParts,
 };
-use hir_text_nodes::{Answer, TextError, Words, as_def_with_body, as_variant, next_def};
 use hir_store::{ExpressionStore, ExpressionStoreSourceMap};
+use hir_text_nodes::{Answer, TextError, Words, as_def_with_body, as_variant, next_def};
 use hir_text_store::{done_or_stop, refuse};
 use hir_text_words::value_of;
 use std::alloc::Global;
@@ -231,8 +231,8 @@ fn make_variant<F: Drop, S: Drop, P: Drop, B: Drop, N: Drop>(
     }
 }
 
-/// Makes the definition of the store and of what waits for it, and adds it to the tables. Answers the store that questions ask from
-/// then on: that of the definition, or what was handed back.
+/// Makes the definition of the store and of what waits for it, and adds it to the tables. Answers the store
+/// that questions ask from then on: that of the definition, or what was handed back.
 pub fn make(
     alloc: Global,
     definition: Definition,

@@ -1,4 +1,5 @@
-//! What waits for the next body, signature or fields: parameters, `self` and its source, generic parameters, predicates and fields.
+//! What waits for the next body, signature or fields: parameters, `self` and its source, generic parameters,
+//! predicates and fields.
 
 use crate::fields::read_field;
 use hir_base::{

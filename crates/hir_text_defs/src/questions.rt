@@ -12,11 +12,11 @@ use hir_defs::{
     Bodies, Body, BodySourceMap, FunctionSignature, GenericParams, PlainDef, PlainSignature,
     Signatures, StructSignature, Tables, TablesOf, VariantFields,
 };
+use hir_store::ExpressionStore;
 use hir_text_nodes::{
     Answer, TextError, Words, as_def_with_body, as_generic, as_named, as_variant, next_def,
     next_edition, syntax, write_source,
 };
-use hir_store::ExpressionStore;
 use hir_text_store::{differs, refuse_missing};
 use hir_text_words::value_of;
 use std::alloc::{AllocError, Global};
@@ -272,7 +272,8 @@ fn write(tables: &Tables, question: &Question, answer: &mut Answer) -> Result<()
     }
 }
 
-/// Whether the parameters of a definition are these by each call that looks them up, and their store is this one.
+/// Whether the parameters of a definition are these by each call that looks them up, and their store is this
+/// one.
 fn are_beside<T: Signatures>(
     tables: &T,
     def: &GenericDefId,
@@ -288,7 +289,8 @@ fn are_beside<T: Signatures>(
     *alone == *params && *beside == *params && *same_store == *store
 }
 
-/// `beside DEF QUESTION`: asks the store and the source map that are looked up with the generic parameters of a definition.
+/// `beside DEF QUESTION`: asks the store and the source map that are looked up with the generic parameters of
+/// a definition.
 fn ask_beside<T: Signatures>(
     alloc: Global,
     tables: &T,

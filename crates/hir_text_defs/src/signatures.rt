@@ -4,8 +4,8 @@ use crate::fields::next_shape;
 use hir_base::{ExternAbi, Id, Name, Seq};
 use hir_defs::{FieldsShape, FunctionParts, GenericParams, PlainDef, StructParts};
 use hir_node::TypeRefId;
-use hir_text_nodes::{Def, DefKind, TextError, Words, opt_abi};
 use hir_store::ExpressionStore;
+use hir_text_nodes::{Def, DefKind, TextError, Words, opt_abi};
 use std::alloc::Global;
 
 /// What a line says of a function.

@@ -1,8 +1,8 @@
 //! The store that questions ask.
 
 use hir_base::ExpressionStoreOwnerId;
-use hir_text_nodes::{Answer, TextError};
 use hir_store::{ExpressionStore, ExpressionStoreSourceMap};
+use hir_text_nodes::{Answer, TextError};
 use std::alloc::Global;
 
 /// A finished store, and its source map.

@@ -1,4 +1,5 @@
-//! Generic arguments, as `::<T0,L1,Item=T3>`: types, lifetimes and constants by their numbers, and the bindings of associated types.
+//! Generic arguments, as `::<T0,L1,Item=T3>`: types, lifetimes and constants by their numbers, and the
+//! bindings of associated types.
 
 use crate::reading::{joined_or_none, push, three, zip_ok};
 use hir_base::{Idx, Name, Seq};
@@ -12,7 +13,8 @@ use std::alloc::Global;
 /// How many arguments may stand around others, each in a binding of the one before.
 const DEEPEST: u8 = 100;
 
-/// The letter of a name that reads like the number of a type, a lifetime or a constant: one of theirs, and then only digits.
+/// The letter of a name that reads like the number of a type, a lifetime or a constant: one of theirs, and
+/// then only digits.
 pub(crate) fn letter_of(name: &[u8]) -> Option<u8> {
     match name {
         [letter, digits @ ..] if is_letter(*letter) && is_digits(digits) => Some(*letter),
@@ -118,7 +120,8 @@ fn opt_type(words: &mut Words<'_>) -> Result<Option<TypeRefId>, TextError> {
     Ok(None)
 }
 
-/// The arguments of an associated type, where it has any. In them others may be nested less deep than `depth`.
+/// The arguments of an associated type, where it has any. In them others may be nested less deep than
+/// `depth`.
 #[cycle(read_within)]
 fn opt_args(
     words: &mut Words<'_>,

@@ -1,4 +1,5 @@
-//! Bindings with their hygiene, labels and lifetimes, as the lines behind `bind`, `label` and `lifetime` have them.
+//! Bindings with their hygiene, labels and lifetimes, as the lines behind `bind`, `label` and `lifetime` have
+//! them.
 
 use crate::definitions::next_lifetime_param;
 use crate::reading::zip_ok;

@@ -1,4 +1,5 @@
-//! Bounds, as `T3`, `?T3`, `for<NAMES>T3`, `L0`, `use<T,L0>` and `error`, and lists of them that are joined by `+`.
+//! Bounds, as `T3`, `?T3`, `for<NAMES>T3`, `L0`, `use<T,L0>` and `error`, and lists of them that are joined
+//! by `+`.
 
 use crate::args::{lettered_id, next_letter};
 use crate::reading::{Read, joined_or_none, one_or_more, zip_ok};

@@ -1,4 +1,5 @@
-//! Definitions: a kind and a number, as `FunctionId(7)`. Any of them is read as a `Def`, and narrowed to the kinds of its place.
+//! Definitions: a kind and a number, as `FunctionId(7)`. Any of them is read as a `Def`, and narrowed to the
+//! kinds of its place.
 
 use crate::reading::{three, zip_ok};
 use crate::variants::{Word, of_word};

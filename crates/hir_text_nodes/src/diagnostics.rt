@@ -1,4 +1,5 @@
-//! Diagnostics of lowering, as the line behind `diagnostic` has them: the kind, the source, and what the kind has.
+//! Diagnostics of lowering, as the line behind `diagnostic` has them: the kind, the source, and what the kind
+//! has.
 
 use crate::path_text::write_mod_path;
 use crate::paths::next_mod_path;

@@ -1,4 +1,5 @@
-//! Generic parameters and the predicates of `where` clauses: read behind the first word of their line, and written as their line has them.
+//! Generic parameters and the predicates of `where` clauses: read behind the first word of their line, and
+//! written as their line has them.
 
 use crate::bounds::{next_bound, opt_binder};
 use crate::path_text::{join_names, write_bound};

@@ -1,4 +1,5 @@
-//! The notation of nodes, paths and definitions: words of a line that are read as values, and values that are written as words.
+//! The notation of nodes, paths and definitions: words of a line that are read as values, and values that are
+//! written as words.
 #![tactic(auto)]
 
 mod args;

@@ -77,8 +77,8 @@ pub(crate) fn behind_spaces<T: Read>(
     Ok(items)
 }
 
-/// Both parts, where each could be read: else why the first that couldn't. Whoever reads a form reads all its parts and asks once, so that
-/// nothing is given back on the way.
+/// Both parts, where each could be read: else why the first that couldn't. Whoever reads a form reads all its
+/// parts and asks once, so that nothing is given back on the way.
 pub(crate) fn zip_ok<A: Drop, B: Drop>(
     first: Result<A, TextError>,
     second: Result<B, TextError>,

@@ -45,7 +45,8 @@ fn read_abi(words: &mut Words<'_>, alloc: Global) -> Result<ExternAbi, TextError
     Ok(abi_of(words.keyword_in(&ABIS)?))
 }
 
-/// The calling convention where `extern:` comes next: that of Rust where it doesn't. Before a number it is the name of a parameter.
+/// The calling convention where `extern:` comes next: that of Rust where it doesn't. Before a number it is
+/// the name of a parameter.
 pub fn opt_abi(words: &mut Words<'_>, alloc: Global) -> Result<ExternAbi, TextError> {
     let mut ahead = *words;
     if !ahead.prefix(b"extern:") || matches!(ahead.rest(), [b'0'..=b'9', ..]) {

@@ -2,8 +2,8 @@
 
 use crate::missing::refuse_missing;
 use hir_base::{BlockId, Id};
-use hir_text_nodes::{Answer, TextError, Words};
 use hir_store::{Blocks, ExpressionStore};
+use hir_text_nodes::{Answer, TextError, Words};
 use std::alloc::{AllocError, Global};
 use std::collections::BTreeMap;
 

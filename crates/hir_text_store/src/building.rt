@@ -1,10 +1,10 @@
 //! Lines that make nodes.
 
 use hir_node::{Binding, Expr, Label, LifetimeRef, Pat, TypeRef};
+use hir_store::ExpressionStoreBuilder;
 use hir_text_nodes::{
     TextError, Words, read_binding, read_expr, read_label, read_lifetime, read_pat, read_type,
 };
-use hir_store::ExpressionStoreBuilder;
 use std::alloc::Global;
 
 /// The arena of the node that a line makes.

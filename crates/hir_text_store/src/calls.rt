@@ -5,8 +5,8 @@ use crate::ends::last_node;
 use crate::missing::answer_unknown;
 use crate::recorder::{Recorder, write_same};
 use hir_node::{GenericArgs, Path, StoreVisitorExt, TypeBound, visit_generic_args};
-use hir_text_nodes::{Answer, Node, TextError, Words, next_args, next_bound, next_path};
 use hir_store::ExpressionStore;
+use hir_text_nodes::{Answer, Node, TextError, Words, next_args, next_bound, next_path};
 use std::alloc::Global;
 
 /// A part of a node that a visitor is called for.
@@ -76,8 +76,8 @@ fn of_part<T: Part>(
     Ok(write_same(&first, &second, answer)?)
 }
 
-/// Visits the children of a node, by the store and by the node alone; answers whether the node is there. A binding, a label and a
-/// lifetime have no children.
+/// Visits the children of a node, by the store and by the node alone; answers whether the node is there. A
+/// binding, a label and a lifetime have no children.
 fn visit(
     store: &ExpressionStore,
     node: Node,

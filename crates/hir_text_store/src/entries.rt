@@ -3,8 +3,8 @@
 use crate::building::done_or_stop;
 use hir_base::{BlockId, HygieneId, Id};
 use hir_node::{BindingId, ExprId, ExprOrPatId, PatId};
-use hir_text_nodes::{TextError, Words, next_hygiene};
 use hir_store::ExpressionStoreBuilder;
+use hir_text_nodes::{TextError, Words, next_hygiene};
 
 /// What the first word of a line says that it adds.
 #[derive(Clone, Copy)]

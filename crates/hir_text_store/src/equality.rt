@@ -5,8 +5,8 @@ use crate::missing::{answer_unknown, differs};
 use crate::nodes::has_node;
 use hir_base::{ArenaIter, ExactEq, TryClone};
 use hir_node::{Binding, Expr, Label, LabelId, LifetimeRef, Pat, TypeRef};
-use hir_text_nodes::{Answer, Node, TextError, Words, next_node};
 use hir_store::{ExpressionStore, ExpressionStoreSourceMap};
+use hir_text_nodes::{Answer, Node, TextError, Words, next_node};
 use hir_text_words::value_of;
 use std::alloc::AllocError;
 

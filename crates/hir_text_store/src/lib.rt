@@ -1,6 +1,7 @@
 //! Lines that make the nodes of a store, and questions on a store and its source map.
 #![tactic(auto)]
 
+mod ancestors;
 mod blocks;
 mod building;
 mod calls;

@@ -3,8 +3,8 @@
 use crate::building::{self, Arena};
 use crate::entries::{self, Kind};
 use crate::mapping::{self, Either, Numbered, Place};
-use hir_text_nodes::{TextError, Words};
 use hir_store::ExpressionStoreBuilder;
+use hir_text_nodes::{TextError, Words};
 use hir_text_words::value_of;
 use std::alloc::Global;
 

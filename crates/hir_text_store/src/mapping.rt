@@ -4,8 +4,8 @@ use crate::building::done_or_stop;
 use crate::ends::{last_either, last_number, last_source};
 use hir_base::{Id, Idx, InFile, SyntaxNodePtr};
 use hir_node::ExprOrPatId;
-use hir_text_nodes::{TextError, Words, next_source, pointer, read_diagnostic};
 use hir_store::ExpressionStoreBuilder;
+use hir_text_nodes::{TextError, Words, next_source, pointer, read_diagnostic};
 use std::alloc::Global;
 
 /// Which call a source is mapped by to an expression or a pattern.

@@ -4,10 +4,10 @@ use crate::ends::last_either;
 use crate::missing::{answer_unknown, differs};
 use hir_base::TryClone;
 use hir_node::{BindingId, Expr, ExprId, ExprOrPatId, LabelId, Literal, PathId, TypeRefId};
+use hir_store::{ExprRoots, ExpressionStore};
 use hir_text_nodes::{
     Answer, Node, TextError, Words, next_node, precedence_text, write_hygiene, write_literal,
 };
-use hir_store::{ExprRoots, ExpressionStore};
 use std::alloc::AllocError;
 
 /// What the first word of a question asks.

@@ -3,8 +3,8 @@
 use crate::ends::last_id;
 use crate::missing::answer_unknown;
 use hir_node::ExprId;
-use hir_text_nodes::{Answer, TextError, Words, next_precedence};
 use hir_store::ExpressionStore;
+use hir_text_nodes::{Answer, TextError, Words, next_precedence};
 use std::alloc::AllocError;
 
 /// What is asked.

@@ -5,11 +5,11 @@ use hir_base::{ModPath, PathKind, Seq, TryClone};
 use hir_node::{
     GenericArgs, Path, PathSegment, PathSegments, TraitBoundModifier, TypeBound, TypeRefId,
 };
+use hir_store::{ExpressionStore, TypeBoundExt};
 use hir_text_nodes::{
     Answer, TextError, Words, join_args, next_bound, next_path, write_args, write_mod_path,
     write_path, write_segments,
 };
-use hir_store::{ExpressionStore, TypeBoundExt};
 use hir_text_words::value_of;
 use std::alloc::{AllocError, Global};
 

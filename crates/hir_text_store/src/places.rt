@@ -4,8 +4,8 @@ use crate::ends::last_source;
 use crate::missing::differs;
 use hir_base::{HirFileId, InFile, MacroCallId, SyntaxNodePtr, TextRange};
 use hir_node::ExprOrPatId;
-use hir_text_nodes::{Answer, Node, TextError, Words, pointer, syntax, write_node, write_source};
 use hir_store::ExpressionStoreSourceMap;
+use hir_text_nodes::{Answer, Node, TextError, Words, pointer, syntax, write_node, write_source};
 use std::alloc::{AllocError, Global};
 use std::collections::BTreeMap;
 

@@ -3,10 +3,11 @@
 use crate::try_walks::TryWalk;
 use crate::walks::Walk;
 use crate::{
-    blocks, calls, equality, nodes, numbers, paths, places, searches, sources, try_walks, walks,
+    ancestors, blocks, calls, equality, nodes, numbers, paths, places, searches, sources,
+    try_walks, walks,
 };
-use hir_text_nodes::{Answer, TextError, Words};
 use hir_store::{ExpressionStore, ExpressionStoreSourceMap};
+use hir_text_nodes::{Answer, TextError, Words};
 use hir_text_words::value_of;
 use std::alloc::Global;
 
@@ -19,6 +20,7 @@ enum Question {
     Numbers(numbers::Question),
     Root,
     CountedRoot,
+    Around(ancestors::Question),
     Equal,
     Copies,
     OfStore(OfStore),
@@ -49,7 +51,7 @@ enum OfSources {
 }
 
 /// The first words of questions.
-const QUESTIONS: [(&str, Question); 48] = [
+const QUESTIONS: [(&str, Question); 53] = [
     ("nodes", Question::Nodes(nodes::Kind::Counts)),
     ("list-roots", Question::Nodes(nodes::Kind::Roots)),
     ("has", Question::Has),
@@ -68,6 +70,23 @@ const QUESTIONS: [(&str, Question); 48] = [
     ),
     ("root-of", Question::Root),
     ("counted-root-of", Question::CountedRoot),
+    ("node-parent", Question::Around(ancestors::Question::Parent)),
+    (
+        "ancestors",
+        Question::Around(ancestors::Question::Ancestors),
+    ),
+    (
+        "enclosing-closure",
+        Question::Around(ancestors::Question::EnclosingClosure),
+    ),
+    (
+        "enclosing-loop",
+        Question::Around(ancestors::Question::EnclosingLoop),
+    ),
+    (
+        "jump-target",
+        Question::Around(ancestors::Question::JumpTarget),
+    ),
     ("equal", Question::Equal),
     ("copies", Question::Copies),
     ("blocks", Question::OfStore(OfStore::Blocks)),
@@ -225,6 +244,7 @@ fn answer_question(
         Question::Numbers(question) => numbers::ask(question, words, answer),
         Question::Root => searches::ask(store, false, words, answer),
         Question::CountedRoot => searches::ask(store, true, words, answer),
+        Question::Around(question) => ancestors::ask(store, question, words, answer),
         Question::Equal => equality::equal(store, words, answer),
         Question::Copies => equality::copies(store, words, answer),
         Question::OfStore(question) => ask_store(alloc, store, question, words, answer),

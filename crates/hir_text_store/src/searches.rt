@@ -3,8 +3,8 @@
 use crate::ends::last_node;
 use hir_base::Steps;
 use hir_node::{BindingId, ExprId, PatId};
-use hir_text_nodes::{Answer, Node, TextError, Words};
 use hir_store::ExpressionStore;
+use hir_text_nodes::{Answer, Node, TextError, Words};
 
 /// A node of the kinds that are made for a root.
 #[derive(Clone, Copy)]

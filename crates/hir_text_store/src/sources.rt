@@ -3,8 +3,8 @@
 use crate::ends::{last_either, last_number};
 use hir_base::{AstPtr, Idx, InFile, SyntaxNodePtr, SyntheticSyntax};
 use hir_node::{ExprId, LabelId, PatId};
-use hir_text_nodes::{Answer, TextError, Words, syntax, write_diagnostic, write_source};
 use hir_store::{ExpressionStoreDiagnostics, ExpressionStoreSourceMap};
+use hir_text_nodes::{Answer, TextError, Words, syntax, write_diagnostic, write_source};
 use std::alloc::AllocError;
 
 /// What is asked by a number.

@@ -5,8 +5,8 @@ use crate::missing::answer_unknown;
 use crate::recorder::{Halt, Recorder};
 use hir_base::Idx;
 use hir_node::{BindingId, ExprId, PatId};
-use hir_text_nodes::{Answer, TextError, Words};
 use hir_store::ExpressionStore;
+use hir_text_nodes::{Answer, TextError, Words};
 use std::alloc::Global;
 
 /// A walk that can stop.
@@ -19,7 +19,8 @@ pub(crate) enum TryWalk {
     Exprs,
 }
 
-/// Walks over the child expressions of an expression, up to this number; returns how it ended, where the expression is there.
+/// Walks over the child expressions of an expression, up to this number; returns how it ended, where the
+/// expression is there.
 fn walk_expr(
     store: &ExpressionStore,
     id: ExprId,
@@ -53,7 +54,8 @@ fn walk_pats(
     Some(store.try_walk_pats(id, &mut |pat: PatId| found.meet_up_to(pat, end)))
 }
 
-/// Walks over the bindings or the expressions in a pattern, up to this number; returns how it ended, where the pattern is there.
+/// Walks over the bindings or the expressions in a pattern, up to this number; returns how it ended, where
+/// the pattern is there.
 fn walk_in_pat(
     store: &ExpressionStore,
     id: PatId,
@@ -71,7 +73,8 @@ fn walk_in_pat(
     })
 }
 
-/// Does a walk from the node of the first number, up to the second; returns how it ended, where the node is there.
+/// Does a walk from the node of the first number, up to the second; returns how it ended, where the node is
+/// there.
 fn walk_from(
     store: &ExpressionStore,
     walk: TryWalk,

@@ -5,8 +5,8 @@ use crate::missing::answer_unknown;
 use crate::recorder::{Recorder, write_same};
 use hir_base::Idx;
 use hir_node::{BindingId, ExprId, PatId};
-use hir_text_nodes::{Answer, TextError, Words};
 use hir_store::ExpressionStore;
+use hir_text_nodes::{Answer, TextError, Words};
 use std::alloc::{AllocError, Global};
 
 /// A walk from an expression or a pattern.

@@ -1,4 +1,5 @@
-//! Words of a line that is read, and the text of an answer that is written: numbers, names, quoted texts, lists and tables of words.
+//! Words of a line that is read, and the text of an answer that is written: numbers, names, quoted texts,
+//! lists and tables of words.
 #![tactic(auto)]
 
 mod answer;

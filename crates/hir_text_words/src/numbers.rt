@@ -7,7 +7,8 @@ use crate::words::Words;
 use hir_base::{Id, Idx, ShortList};
 use std::alloc::Global;
 
-/// The number of these digits; none where one is no digit of the base, or the number takes more than 128 bits.
+/// The number of these digits; none where one is no digit of the base, or the number takes more than 128
+/// bits.
 pub(crate) fn number_of(digits: &[u8], base: u32) -> Option<u128>
     requires least { 2 ≤ base }
     requires most { base ≤ 36 }

@@ -59,7 +59,7 @@ noted_all {v} {w} (a_call {v = x} {c} {cs} s rest) =
     subst (λ (ps : List ℕ). NotesIds v (list_all (is_in_range v.sizes) (c ∷ cs)) ps w) (places_more v.sizes c cs)
     (noted_both v x w (is_in_range v.sizes c) (list_all (is_in_range v.sizes) cs) (places v.sizes (c ∷ [])) (places v.sizes cs) s more)
 
--- there stays room and a row
+-- the room stays, and the list of children
 room_still : (v w : EdgeVisitor) → w.sizes ≡ v.sizes → length w.parents.parents ≡ length v.parents.parents → HasRoomForNodes v → HasRoomForNodes w
 room_still v w sizes room has = record {
   few = subst Few (sym sizes) has.few;
@@ -73,7 +73,7 @@ pub may_note : (may : EdgeVisitor → Call → Type 0) → ((v : EdgeVisitor) (c
 may_note may can [] v h = at_end
 may_note may can (c ∷ calls) v h = at_call (can v c h) (λ w s. may_note may can calls w (can_still v w (is_in_range v.sizes c) (places v.sizes (c ∷ [])) h s))
 
--- a row is begun for a node, and its calls are noted
+-- a list of children is begun for a node, and its calls are noted
 pub visited_one : (v b w : EdgeVisitor) (x : TestedParts) → IsTrue v.all_in_range
     → b.sizes ≡ v.sizes → b.all_in_range ≡ v.all_in_range → b.parents.rows ≡ v.parents.rows + 1 → length b.parents.parents ≡ length v.parents.parents
     → ((g : List (List ℕ)) → IsParentageOf g v.parents → IsParentageOf (g ++ [] ∷ []) b.parents)
@@ -125,7 +125,7 @@ pub if_none : {X : Type 0} (o : Option X) (P : Type 0) → P → IfNone o P
 if_none None P p = p
 if_none (Some x) P p = tt
 
--- the places of what is there
+-- the places of ids in range
 pub expr_within : (v : EdgeVisitor) → CanNote v → (n : ℕ) → IsTrue (nat_lt n v.sizes.exprs) → n < length v.parents.parents
 expr_within v can n t = let lt = ltb-true n v.sizes.exprs t in omega (arith, can.0.nodes)
 
@@ -145,7 +145,7 @@ noted_test v w b sizes parents in_range = record {
   children = λ t g h. subst (λ (rows : List (List ℕ)). IsParentageOf rows w.parents) (with_children-nothing g) (subst (IsParentageOf g) (sym parents) h);
 }
 
--- the rows of all nodes are the graph
+-- the lists of children of all nodes are the graph
 pub all_rows : (s : Nodes) → map (λ x. places (sizes_of s) x.calls) (all_tested s) ≡ graph s
 all_rows s =
     let row : TestedParts → List ℕ = λ x. places (sizes_of s) x.calls in

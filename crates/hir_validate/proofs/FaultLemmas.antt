@@ -19,7 +19,7 @@ use Rattle.hir_validate.specs.TestedParts.{TestedParts, tested_expr, tested_pat,
 use Rattle.hir_validate.specs.Nodes.{Nodes, sizes_of, graph}
 use Rattle.hir_validate.specs.Faults.{RootedNodes, node_fault, nothing_tested, first_of, first_bad_node, graph_fault, rooted_fault, ends_of}
 
--- a node without a fault names what is there
+-- a node without a fault names ids in range
 ids_are_in_range : (sizes : Sizes) (types : List TypeRef) (id : NodeId) (x : TestedParts) → node_fault sizes types id x None → ids_in_range sizes x ≡ true
 unfolding node_fault
 ids_are_in_range sizes types id x h = h.0
@@ -30,7 +30,7 @@ all_nodes sizes = sizes.exprs + sizes.pats + sizes.types
 lt_from : (a b : ℕ) → nat_lt a b ≡ true → a < b
 lt_from a b h = ltb-true a b h
 
--- the places of children that are there are in the row
+-- the places of children in range are below the number of nodes
 module _ (sizes : Sizes) where
   abbrev In : ℕ → Type 0
   In n = n < sizes.exprs + sizes.pats + sizes.types
@@ -65,7 +65,7 @@ pub map-map : {X Y Z : Type 0} (f : Y → Z) (g : X → Y) (xs : List X) → map
 map-map f g [] = refl
 map-map f g (x ∷ xs) = ap (λ rest. f (g x) ∷ rest) (map-map f g xs)
 
--- the graph as the rows of the three sorts
+-- the graph as the lists of the three sorts
 pub graph-is : (s : Nodes) → graph s ≡
     map (λ x. places (sizes_of s) (tested_expr x).calls) s.exprs
     ++ map (λ x. places (sizes_of s) (tested_pat x).calls) s.pats
@@ -84,7 +84,7 @@ pub graph-length : (s : Nodes) → length (graph s) ≡ length s.exprs + length 
 graph-length s =
     rw (length-map, length-append, length-append, length-map, length-map, length-map) (omega arith)
 
--- where each node names what is there, each child of an edge is a node
+-- if each node names ids in range, each child of an edge is a node
 pub children_in_range : (s : Nodes) → first_bad_node s None → All (λ n. n < length (graph s)) (concat (graph s))
 unfolding first_bad_node
 children_in_range s h =

@@ -12,7 +12,7 @@ pub agree_from_members : {A : Type 0} (f g : NodeId → A) (xs : List NodeId) �
 agree_from_members f g [] e = tt
 agree_from_members f g (x ∷ xs) e = (e x (0, omega arith, refl), agree_from_members f g xs (λ y c. e y (suc c.0, omega (arith, c.1), c.2)))
 
--- only what is there has children
+-- only a node in range has children
 with_children : {X : Type 0} (calls : X → List Call) (xs : List X) (i : ℕ) (k : NodeId) → Contains (children (opt calls (slice_get xs i))) k → i < length xs
 with_children calls xs i k c =
     elim (cases_lt i (length xs)) [

@@ -1,4 +1,4 @@
--- What a store without a fault is: each node is sound, the graph is a forest, and the children of a node are there and stand lower.
+-- A store without a fault: each node is sound, the graph is a forest, and the children of a node are in range and have a lower rank.
 use Rattle.std.proofs.Common.{◌≡◌, ℕ, zero, suc, ◌+◌, ◌<◌, ◌≤◌, true, List, [], ◌∷◌, ◌++◌, Some, None, refl, ap, subst, ◌∙◌, map, length, take, get_or, slice_get, Contains, arith}
 use Rattle.std.specs.List.{AllByRecursion, list_all}
 use Rattle.std.specs.Cmp.{first_so, second_so}
@@ -62,13 +62,13 @@ module _ (c : RootedNodes) (sound : rooted_fault c None) where
   unfolding rooted_fault first_bad_node
   types_sound = sound_at tested_type c.nodes node.TypeRef c.nodes.types sound.0.1.1
 
-  -- each call of a node is made with what is there
+  -- each call of a node is made with an id in range
   pub calls_in_range : (n : NodeId) → Has c.nodes n → list_all (is_in_range (sizes_of c.nodes)) (calls_of c.nodes n) ≡ true
   calls_in_range (node.Expr id) h = let x = item_at c.nodes.exprs id h in rw x.1 (first_so _ _ (first_so _ _ (exprs_sound id x.0 x.1).in_range))
   calls_in_range (node.Pat id) h = let x = item_at c.nodes.pats id h in rw x.1 (first_so _ _ (first_so _ _ (pats_sound id x.0 x.1).in_range))
   calls_in_range (node.TypeRef id) h = let x = item_at c.nodes.types id h in rw x.1 (first_so _ _ (first_so _ _ (types_sound id x.0 x.1).in_range))
 
--- the children among calls that are made with what is there are there
+-- the children among calls with ids in range are in range
 children_in_range : (sizes : Sizes) (calls : List Call) → list_all (is_in_range sizes) calls ≡ true → AllByRecursion (HasNode sizes) (children calls)
 children_in_range sizes [] h = tt
 children_in_range sizes (OnExpr id ∷ calls) h = (ltb-true _ _ (first_so _ _ h), children_in_range sizes calls (second_so _ _ h))
@@ -85,7 +85,7 @@ member P (y ∷ ys) x h (suc i, lt, e) = member P ys x h.1 (i, omega arith, e)
 mapped_member : {X Y : Type 0} (f : X → Y) (xs : List X) (x : X) → Contains xs x → Contains (map f xs) (f x)
 mapped_member f xs x c = (c.0, omega (arith, length-map xs f, c.1), get_or-map f xs c.0 x (f x) c.1 ∙ ap f c.2)
 
--- the places of the nodes that are there, and no other, are below the number of nodes
+-- the places of the nodes in range, and no others, are below the number of nodes
 pub place_within : (sizes : Sizes) (n : NodeId) → HasNode sizes n → place sizes n < sizes.exprs + sizes.pats + sizes.types
 place_within sizes (node.Expr id) h = omega arith
 place_within sizes (node.Pat id) h = omega arith

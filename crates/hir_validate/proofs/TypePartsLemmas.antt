@@ -64,7 +64,7 @@ all_stops p [] i x lt is h = absurd (omega arith)
 all_stops p (y ∷ ys) zero x lt is h = sym (ap (λ b. b && list_all p ys) (ap p (sym is) ∙ h))
 all_stops p (y ∷ ys) (suc i) x lt is h = and_false (p y) ∙ ap (λ rest. p y && rest) (all_stops p ys i x (omega arith) is h)
 
--- it goes on behind one that doesn't
+-- if a prefix and the next item pass the test, the longer prefix passes it
 pub all_more : {X : Type 0} (p : X → Bool) (xs : List X) (i : ℕ) (x : X) → i < length xs → x ≡ get_or xs i x → list_all p (take i xs) ≡ true → p x ≡ true → list_all p (take (i + 1) xs) ≡ true
 all_more p xs i x lt is h k = list_all_more p xs i x lt ∙ (rw (h, ← is) k)
 

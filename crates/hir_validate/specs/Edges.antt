@@ -1,4 +1,5 @@
--- What the calls of the visitor leave that tests the ids of a node and notes the node as the parent of its children.
+-- Defines how calls change the visitor that tests the ids of a node and notes the node as the parent of its
+-- children.
 use Rattle.std.specs.Prelude.{◌≡◌, ◌+◌, ◌<◌, ◌≤◌, ◌&&◌, ℕ, Bool, List, [], ◌∷◌, ◌++◌, IsTrue, length, map}
 use Rattle.hir_forest.specs.Rows.{with_children}
 use Rattle.hir_forest.specs.Parents.{IsParentageOf}
@@ -13,12 +14,14 @@ pub record HasRoomForNodes (v : EdgeVisitor) : Type 0 where
   pub few : Few v.sizes
   pub nodes : length v.parents.parents ≡ v.sizes.exprs + v.sizes.pats + v.sizes.types
 
--- and a row was begun
+-- there is room for the nodes, and a list of children was begun
 abbrev pub CanNote : EdgeVisitor → Type 0
 CanNote v = HasRoomForNodes v × (0 < v.parents.rows)
 
--- it knows whether these ids are there too, and where all are, the last row has these children more
-pub record NotesIds (v : EdgeVisitor) (are_in_range : Bool) (new_children : List ℕ) (w : EdgeVisitor) : Type 0 where
+-- w also knows whether these ids are in range, and if all are, the last list of the graph has these children
+-- more
+pub record NotesIds (v : EdgeVisitor) (are_in_range : Bool) (new_children : List ℕ)
+    (w : EdgeVisitor) : Type 0 where
   pub sizes : w.sizes ≡ v.sizes
   pub room : length w.parents.parents ≡ length v.parents.parents
   pub rows : w.parents.rows ≡ v.parents.rows
@@ -29,13 +32,13 @@ pub record NotesIds (v : EdgeVisitor) (are_in_range : Bool) (new_children : List
 abbrev pub Notes : EdgeVisitor → Call → EdgeVisitor → Type 0
 Notes v c w = NotesIds v (is_in_range v.sizes c) (places v.sizes (c ∷ [])) w
 
--- each id so far is there, and there is room for so many rows more
+-- each id so far is in range, and there is room for so many more nodes
 pub record CanVisit (v : EdgeVisitor) (count : ℕ) : Type 0 where
   pub room : HasRoomForNodes v
   pub in_range : IsTrue v.all_in_range
   pub rows : v.parents.rows + count ≤ length v.parents.parents
 
--- these nodes were visited too, and each id that they name is there: each has its row
+-- w has visited these nodes too, each id that they name is in range, and each node has its list of children
 pub record VisitsNodes (v : EdgeVisitor) (nodes : List TestedParts) (w : EdgeVisitor) : Type 0 where
   pub sizes : w.sizes ≡ v.sizes
   pub room : length w.parents.parents ≡ length v.parents.parents

@@ -1,4 +1,4 @@
--- The first fault of nodes with their roots.
+-- Defines the first fault of nodes with their roots.
 use Rattle.std.specs.Prelude.{ℕ, List, [], Option, None, IsTrue, true, length, map, slice_index_or}
 use Rattle.hir_node.specs.declared.type_ref.TypeRef.{TypeRef}
 use Rattle.hir_forest.specs.declared.roots.Ends.{Ends}
@@ -33,11 +33,12 @@ pub record RootedNodes : Type 0 where
   pub nodes : Nodes
   pub roots : List Root
 
--- how many expressions, patterns and bindings there are
+-- the number of expressions, of patterns and of bindings
 abbrev pub ends_of : Nodes → Ends
 ends_of s = record { exprs = length s.exprs; pats = length s.pats; bindings = length s.bindings }
 
--- a fault of one node: ids out of range, then what isn't a path, then a missing return type, then a missing self argument, then lists that don't fit
+-- the first fault of one node: ids out of range, then a type that isn't a path, then a missing return type,
+-- then a missing self argument, then lists that don't fit
 unfoldable pub node_fault : Sizes → List TypeRef → NodeId → TestedParts → Option FinishFault → Type 0
 node_fault sizes types id x =
     (IdOutOfRange id unless IsTrue (ids_in_range sizes x))
@@ -55,19 +56,19 @@ nothing_tested = record {
   returns = true;
 }
 
--- the first fault of one node, of nodes of one sort
+-- the first fault of a single node, among nodes of one sort
 abbrev pub first_of : Sizes → List TypeRef → (ℕ → NodeId) → List TestedParts → Option FinishFault → Type 0
 first_of sizes types name parts = first_below (length parts)
     (λ n. node_fault sizes types (name n) (slice_index_or parts n nothing_tested))
 
--- the first fault of one node: of an expression, then of a pattern, then of a type
+-- the first fault of a single node: of an expression, then of a pattern, then of a type
 unfoldable pub first_bad_node : Nodes → Option FinishFault → Type 0
 first_bad_node s =
     first_of (sizes_of s) s.types node.Expr (map tested_expr s.exprs)
     before first_of (sizes_of s) s.types node.Pat (map tested_pat s.pats)
     before first_of (sizes_of s) s.types node.TypeRef (map tested_type s.types)
 
--- a fault of the graph, with the node in place of its row number
+-- a fault of the graph, with the node in place of its number
 abbrev pub fault_of_graph : Sizes → ForestFault → FinishFault
 fault_of_graph sizes (forest.SharedChild n) = SharedChild (node_at sizes n)
 fault_of_graph sizes (forest.Cycle n) = Cycle (node_at sizes n)

@@ -1,10 +1,20 @@
+-- the sizes of arenas, ids in range, and the order of all nodes
 pub mod Sizes
+-- the parts of a node that are tested
 pub mod TestedParts
+-- the model of a reference to such parts
 pub mod TypeParts
+-- the nodes of a store, and their graph
 pub mod Nodes
+-- the first fault of nodes with their roots
 pub mod Faults
-pub mod Ranges
-pub mod Edges
-pub mod Fits
-pub mod Recursion
+-- what holds of nodes and roots without a fault
 pub mod Sound
+-- when a path, generic arguments or a bound fit a store
+pub mod Fits
+-- recursion over a store
+pub mod Recursion
+-- how calls change the visitor that tests ids
+pub mod Ranges
+-- how calls change the visitor that also notes parents
+pub mod Edges

@@ -1,4 +1,4 @@
--- The nodes of a store under their ids, and the graph of their children.
+-- Defines the nodes of a store, by their ids, and the graph of their children.
 use Rattle.std.specs.Prelude.{ℕ, List, ◌++◌, map, length, slice_get}
 use Rattle.hir_node.specs.declared.expr.Expr.{Expr}
 use Rattle.hir_node.specs.declared.pat.Pat.{Pat}
@@ -34,7 +34,7 @@ sizes_of s = record {
 abbrev pub Has : Nodes → NodeId → Type 0
 Has s n = HasNode (sizes_of s) n
 
--- the calls of what is there
+-- the calls of the item with an id, none if the id is out of range
 abbrev pub calls_at : {X : Type 0} → (X → List Call) → List X → ℕ → List Call
 calls_at calls xs id = opt calls (slice_get xs id)
 

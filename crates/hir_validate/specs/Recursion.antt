@@ -1,25 +1,27 @@
--- Recursion over a store: the rank, which decreases from each node to its children, and definitions of a node's value by its children's.
+-- Defines recursion over a store: a rank that decreases from each node to its children, and definitions of a
+-- node's value by its children' values.
 use Rattle.std.specs.Prelude.{◌≡◌, ◌<◌, ℕ, zero, suc, List, [], ◌∷◌, ⊤, Contains}
 use Rattle.hir_forest.specs.Height.{height}
 use Rattle.hir_node.specs.declared.node_id.NodeId.{NodeId}
 use Rattle.hir_validate.specs.Sizes.{place}
 use Rattle.hir_validate.specs.Nodes.{Nodes, sizes_of, Has, children_of, graph}
 
--- how many nodes are on the longest way down from a node
+-- the number of nodes on the longest path down from a node
 unfoldable pub rank : Nodes → NodeId → ℕ
 rank s n = height (graph s) (place (sizes_of s) n)
 
--- each child of a node that is there is there, and has a lower rank
+-- each child of a node of the store is in range, and has a lower rank
 pub record RankDecreases (s : Nodes) : Type 0 where
   pub in_range : (n : NodeId) → Has s n → (k : NodeId) → Contains (children_of s n) k → Has s k
   pub lower : (n : NodeId) → Has s n → (k : NodeId) → Contains (children_of s n) k → rank s k < rank s n
 
--- the value of a node by a step, where `self` in the step is the value of another node, to a depth; below it `default`
+-- the value of a node by a step, to a depth: `self` in the step is the value of another node, and `default`
+-- its value below that depth
 abbrev pub fold_down_within : {A : Type 0} → ((NodeId → A) → NodeId → A) → A → ℕ → NodeId → A
 fold_down_within step default zero n = default
 fold_down_within step default (suc depth) n = step (fold_down_within step default depth) n
 
--- the value of a node by a step: no way down is longer than the rank says
+-- the value of a node by a step: no path down is longer than the rank
 unfoldable pub fold_down : {A : Type 0} → Nodes → ((NodeId → A) → NodeId → A) → A → NodeId → A
 fold_down s step default n = fold_down_within step default (suc (rank s n)) n
 
@@ -28,7 +30,7 @@ abbrev pub AgreeOn : {A : Type 0} → (NodeId → A) → (NodeId → A) → List
 AgreeOn self other [] = ⊤
 AgreeOn self other (k ∷ ks) = (self k ≡ other k) × AgreeOn self other ks
 
--- the step asks only for the values of a node's children
+-- the step depends only on the values of a node's children
 abbrev pub DependsOnChildren : {A : Type 0} → Nodes → ((NodeId → A) → NodeId → A) → Type 0
 DependsOnChildren s step = (self other : NodeId → _) (n : NodeId) → AgreeOn self other (children_of s n)
     → step self n ≡ step other n

@@ -1,11 +1,12 @@
--- How many of each there are, which calls name what is there, and the places of nodes in one row: expressions, then patterns, then types.
+-- Defines the sizes of the arenas, which ids are in range, and the places of nodes in the order of all:
+-- expressions, then patterns, then types.
 use Rattle.std.specs.Prelude.{ℕ, Bool, ◌+◌, ◌-◌, ◌<◌, ◌≤◌, List, map, nat_lt, cond}
 use Rattle.hir_node.specs.ChildCalls.{Call, OnExpr, OnAnonConst, OnPat, OnType, OnLifetime, children}
 use Rattle.hir_validate.specs.declared.sizes.Sizes.{Sizes}
 use Rattle.hir_node.specs.declared.node_id.NodeId.{NodeId}
 use Rattle.hir_node.specs.declared.node_id.NodeId.TheVariants as node
 
--- the call is made with an id that is there
+-- whether the id that a call is made with is in range
 abbrev pub is_in_range : Sizes → Call → Bool
 is_in_range sizes (OnExpr id) = nat_lt id sizes.exprs
 is_in_range sizes (OnAnonConst id) = nat_lt id sizes.exprs
@@ -13,19 +14,19 @@ is_in_range sizes (OnPat id) = nat_lt id sizes.pats
 is_in_range sizes (OnType id) = nat_lt id sizes.types
 is_in_range sizes (OnLifetime id) = nat_lt id sizes.lifetimes
 
--- the node is there
+-- the node is in range
 abbrev pub HasNode : Sizes → NodeId → Type 0
 HasNode sizes (node.Expr id) = id < sizes.exprs
 HasNode sizes (node.Pat id) = id < sizes.pats
 HasNode sizes (node.TypeRef id) = id < sizes.types
 
--- the place of a node in the row
+-- the place of a node in the order of all nodes
 abbrev pub place : Sizes → NodeId → ℕ
 place sizes (node.Expr id) = id
 place sizes (node.Pat id) = sizes.exprs + id
 place sizes (node.TypeRef id) = sizes.exprs + sizes.pats + id
 
--- the node at a place of the row
+-- the node at a place in the order of all nodes
 abbrev pub node_at : Sizes → ℕ → NodeId
 node_at sizes n =
     cond (nat_lt n sizes.exprs) (node.Expr n)

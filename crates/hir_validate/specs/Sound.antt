@@ -1,4 +1,4 @@
--- What is true of each node and of the roots of a store without a fault.
+-- Defines what is true of each node and of the roots of a store without a fault.
 use Rattle.std.specs.Prelude.{◌≢◌, ◌<◌, ℕ, suc, IsTrue, length, slice_index}
 use Rattle.hir_forest.specs.Forest.{LiesUnder}
 use Rattle.hir_forest.specs.Faults.{root_nodes, EndsFit, ends_before}
@@ -6,8 +6,9 @@ use Rattle.hir_validate.specs.TestedParts.{TestedParts, ids_in_range, names_path
 use Rattle.hir_validate.specs.Nodes.{Nodes, sizes_of, graph}
 use Rattle.hir_validate.specs.Faults.{RootedNodes, ends_of}
 
--- each id that a node names is there, each type that it names as a path is one, a function type has a return type, each list of generic
--- arguments that begins with a self type isn't empty, and a `Normal` path has one list for each segment
+-- each id that a node names is in range, each type that it names as a path is one, a function type has a
+-- return type, each list of generic arguments that begins with a self type isn't empty, and a `Normal` path
+-- has one list for each segment
 pub record IsSoundNode (s : Nodes) (x : TestedParts) : Type 0 where
   pub in_range : IsTrue (ids_in_range (sizes_of s) x)
   pub paths : IsTrue (names_paths s.types x.held)
@@ -15,8 +16,8 @@ pub record IsSoundNode (s : Nodes) (x : TestedParts) : Type 0 where
   pub gives_self : IsTrue (gives_self x.held)
   pub lists_fit : IsTrue (lists_fit x.held)
 
--- The roots are expressions that are there, none is listed twice and none lies under another, and their ends rise up to the lengths of the
--- arenas.
+-- The roots are expressions in range, none is listed twice and none is a descendant of another, and their
+-- ends rise up to the lengths of the arenas.
 pub record RootsStandApart (c : RootedNodes) : Type 0 where
   pub in_range : (i : ℕ) → i < length c.roots → slice_index (root_nodes c.roots) i < length c.nodes.exprs
   pub listed_once : (i j : ℕ) → i < j → j < length c.roots

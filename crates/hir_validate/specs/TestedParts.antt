@@ -1,7 +1,9 @@
--- What is tested of a node: its child calls, the other ids that it names, and what it holds: a path, generic arguments, bounds.
-use Rattle.std.specs.Prelude.{ℕ, Bool, true, false, ◌&&◌, eqb, nat_lt, List, [], ◌∷◌, ◌++◌, Option, Some, None, length, slice_get, flat_map, is_some}
+-- Defines the parts of a node that are tested: its child calls, the other ids that it names, and what it
+-- holds, which is a path, generic arguments and bounds.
+use Rattle.std.specs.Prelude.{Bool, true, false, ◌&&◌, eqb, nat_lt, List, [], ◌∷◌, ◌++◌, Option, Some, None, length, slice_get, flat_map, is_some}
 use Rattle.std.specs.Option.{option_and_then}
 use Rattle.std.specs.List.{list_all}
+use Rattle.hir_path.specs.NodeIds.{TypeRefId, BindingId, LabelId}
 use Rattle.hir_path.specs.declared.bound.TypeBound.{TypeBound}
 use Rattle.hir_path.specs.declared.bound.TypeBound.TheVariants as bound
 use Rattle.hir_node.specs.declared.type_ref.TypeRef.{TypeRef}
@@ -20,7 +22,7 @@ use Rattle.hir_node.specs.OtherIds.{expr_labels, pat_bindings}
 use Rattle.hir_validate.specs.declared.sizes.Sizes.{Sizes}
 use Rattle.hir_validate.specs.Sizes.{is_in_range}
 
--- what a node holds: a path, generic arguments that aren't in a path, bounds
+-- the parts that a node holds: a path, generic arguments that aren't in a path, bounds
 pub record HeldParts : Type 0 where
   pub path : Option Path
   pub args : Option GenericArgs
@@ -107,7 +109,7 @@ type_holds (type.Fn function) = nothing
 type_holds (type.TypeParam param) = nothing
 type_holds (type.PatternType id pat) = nothing
 
--- a function type has a list that isn't empty: its last entry is the return type
+-- whether a list isn't empty; the last entry of a function type's list is the return type
 abbrev pub some_entry : {X : Type 0} → List X → Bool
 some_entry [] = false
 some_entry (x ∷ xs) = true
@@ -128,11 +130,11 @@ type_returns (type.DynTrait bounds) = true
 type_returns (type.TypeParam param) = true
 type_returns (type.PatternType id pat) = true
 
--- what is tested of a node
+-- the parts of a node that are tested
 pub record TestedParts : Type 0 where
   pub calls : List Call
-  pub bindings : List ℕ
-  pub labels : List ℕ
+  pub bindings : List BindingId
+  pub labels : List LabelId
   pub held : HeldParts
   pub returns : Bool
 
@@ -164,7 +166,7 @@ tested_type x = record {
 }
 
 -- the types that bounds name as paths
-abbrev pub bound_paths : TypeBound → List ℕ
+abbrev pub bound_paths : TypeBound → List TypeRefId
 bound_paths (bound.Path id modifier) = id ∷ []
 bound_paths (bound.ForLifetime names id) = id ∷ []
 bound_paths (bound.Lifetime id) = []
@@ -175,20 +177,22 @@ abbrev pub all_of : {X A : Type 0} → (X → List A) → Option X → List A
 all_of list None = []
 all_of list (Some x) = list x
 
--- the types that generic arguments name as paths: in the bounds of their bindings, and in the arguments of these, however deep
-abbrev pub binding_paths_layer : AssociatedTypeBinding-F (List ℕ) (List ℕ) → List ℕ
+-- the types that generic arguments, with those nested in their bindings, name as paths: in the bounds of
+-- bindings
+abbrev pub binding_paths_layer : AssociatedTypeBinding-F (List TypeRefId) (List TypeRefId) → List TypeRefId
 binding_paths_layer b = all_of (λ ids. ids) b.args ++ flat_map bound_paths b.bounds
 
-abbrev pub args_paths_layer : GenericArgs-F (List ℕ) (List ℕ) → List ℕ
+abbrev pub args_paths_layer : GenericArgs-F (List TypeRefId) (List TypeRefId) → List TypeRefId
 args_paths_layer x = flat_map (λ ids. ids) x.bindings
 
-abbrev pub args_paths : GenericArgs → List ℕ
-args_paths = fold-GenericArgs (List ℕ) (List ℕ) binding_paths_layer args_paths_layer
+abbrev pub args_paths : GenericArgs → List TypeRefId
+args_paths = fold-GenericArgs (List TypeRefId) (List TypeRefId) binding_paths_layer args_paths_layer
 
-abbrev pub binding_paths : AssociatedTypeBinding → List ℕ
-binding_paths = fold-AssociatedTypeBinding (List ℕ) (List ℕ) binding_paths_layer args_paths_layer
+abbrev pub binding_paths : AssociatedTypeBinding → List TypeRefId
+binding_paths = fold-AssociatedTypeBinding (List TypeRefId)
+    (List TypeRefId) binding_paths_layer args_paths_layer
 
--- a list of arguments that begins with a self type isn't empty
+-- whether a list of arguments isn't empty, if it begins with a self type
 abbrev pub self_given : Bool → List GenericArg → Bool
 self_given false args = true
 self_given true args = some_entry args
@@ -197,7 +201,8 @@ abbrev pub option_all : {X : Type 0} → (X → Bool) → Option X → Bool
 option_all holds None = true
 option_all holds (Some x) = holds x
 
--- that holds of generic arguments and of those in their bindings, however deep
+-- whether each list that begins with a self type isn't empty, in generic arguments and in those nested in
+-- their bindings
 abbrev pub binding_self_layer : AssociatedTypeBinding-F Bool Bool → Bool
 binding_self_layer b = option_all (λ given. given) b.args
 
@@ -211,26 +216,26 @@ abbrev pub binding_gives_self : AssociatedTypeBinding → Bool
 binding_gives_self = fold-AssociatedTypeBinding Bool Bool binding_self_layer args_self_layer
 
 -- the types that a path names as paths, in the generic arguments of its segments
-abbrev pub path_paths : Path → List ℕ
+abbrev pub path_paths : Path → List TypeRefId
 path_paths (path.BarePath mod_path) = []
 path_paths (path.Normal normal) = flat_map (all_of args_paths) normal.generic_args
 path_paths (path.LangItem target name) = []
 
--- each list of generic arguments in a path that begins with a self type isn't empty
+-- whether each list of generic arguments in a path that begins with a self type isn't empty
 abbrev pub path_gives_self : Path → Bool
 path_gives_self (path.BarePath mod_path) = true
 path_gives_self (path.Normal normal) = list_all (option_all args_give_self) normal.generic_args
 path_gives_self (path.LangItem target name) = true
 
 -- the types that a node names as paths
-abbrev pub held_paths : HeldParts → List ℕ
+abbrev pub held_paths : HeldParts → List TypeRefId
 held_paths h = all_of path_paths h.path ++ all_of args_paths h.args ++ flat_map bound_paths h.bounds
 
--- each list of generic arguments that begins with a self type isn't empty
+-- whether each list of generic arguments that begins with a self type isn't empty
 abbrev pub gives_self : HeldParts → Bool
 gives_self h = option_all path_gives_self h.path && option_all args_give_self h.args
 
--- a `Normal` path has one list for each segment
+-- whether a `Normal` path has one list for each segment
 abbrev pub one_list_each : Path → Bool
 one_list_each (path.BarePath mod_path) = true
 one_list_each (path.Normal normal) = eqb (length normal.generic_args) (length normal.mod_path.segments)
@@ -256,17 +261,17 @@ path_of (type.DynTrait bounds) = None
 path_of (type.TypeParam param) = None
 path_of (type.PatternType id pat) = None
 
-abbrev pub path_at : List TypeRef → ℕ → Option Path
+abbrev pub path_at : List TypeRef → TypeRefId → Option Path
 path_at types id = option_and_then path_of (slice_get types id)
 
-abbrev pub is_path_at : List TypeRef → ℕ → Bool
+abbrev pub is_path_at : List TypeRef → TypeRefId → Bool
 is_path_at types id = is_some (path_at types id)
 
--- each type that is named as a path is one
+-- whether each type that is named as a path is one
 abbrev pub names_paths : List TypeRef → HeldParts → Bool
 names_paths types h = list_all (is_path_at types) (held_paths h)
 
--- each id that is named is there
+-- whether each id that is named is in range
 abbrev pub ids_in_range : Sizes → TestedParts → Bool
 ids_in_range sizes x = list_all (is_in_range sizes) x.calls
     && list_all (λ id. nat_lt id sizes.bindings) x.bindings

@@ -1,4 +1,4 @@
--- What a node holds, read from the code's references to it.
+-- Defines the parts that a node holds, as the model of the code's references to them.
 use Rattle.std.specs.Prelude.{◌≡◌, Bool, true, false, List, Option, Some, None}
 use Rattle.std.specs.Option.{option_copied}
 use Rattle.hir_path.specs.declared.path.Path.{Path}
@@ -10,14 +10,14 @@ use Rattle.hir_validate.specs.TestedParts.{HeldParts, names_paths, gives_self, l
 abbrev pub type_parts_of : TypeParts → HeldParts
 type_parts_of h = record { path = option_copied h.path; args = option_copied h.args; bounds = h.bounds.now }
 
--- the path, if there is one, may have generic arguments
+-- whether the path, if there is one, may have generic arguments
 abbrev pub may_have_args : Option Path → Bool
 may_have_args None = false
 may_have_args (Some (path.BarePath mod_path)) = false
 may_have_args (Some (path.Normal normal)) = true
 may_have_args (Some (path.LangItem target name)) = false
 
--- nothing that is held is at fault
+-- no part that is held has a fault
 pub record IsFine (h : HeldParts) : Type 0 where
   pub paths : (types : List TypeRef) → names_paths types h ≡ true
   pub gives_self : gives_self h ≡ true

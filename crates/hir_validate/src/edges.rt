@@ -1,4 +1,5 @@
-//! The one visit of a node: each id that the node passes to a visitor is tested, and the node is noted as the parent of its children.
+//! The visit of a node that tests each id that the node passes to a visitor, and notes the node as the
+//! parent of its children.
 
 ghost use Rattle.std.specs.Prelude.{◌<◌, [], ◌∷◌, IsTrue, length};
 ghost use Rattle.hir_validate.specs.Edges.{CanNote, NotesIds, Notes};
@@ -7,8 +8,8 @@ use crate::sizes::Sizes;
 use hir_forest::Parents;
 use hir_node::{ExprId, LifetimeRefId, PatId, StoreVisitor, TypeRefId};
 
-/// The parents of the nodes visited so far, and whether each id that they name is there. A visitor's calls have no answer, so it
-/// keeps that.
+/// The parents of the nodes visited so far, and whether each id that they name is in range. A visitor's
+/// calls return nothing, so it keeps that.
 #[derive(Drop)]
 pub(crate) struct EdgeVisitor {
     pub(crate) sizes: Sizes,
@@ -50,7 +51,7 @@ impl StoreVisitor for EdgeVisitor {
 }
 
 impl EdgeVisitor {
-    /// Adds a child to the last row, if it is there.
+    /// Adds a child to the last list, if the child is in range.
     fn note(&mut self, is_in_range: bool, place: usize)
         requires can { CanNote self.old }
         requires within { IsTrue is_in_range → place < length self.old.parents.parents }

@@ -9,7 +9,7 @@ ghost use Rattle.hir_validate.specs.Faults.{nodes_in, node_fault, first_of, firs
 ghost use Rattle.hir_validate.specs.Nodes.{sizes_of, graph};
 ghost use Rattle.hir_validate.specs.Edges.{CanVisit, VisitsNodes, all_tested};
 ghost use Rattle.hir_validate.specs.TestedParts.{ids_in_range};
-ghost use Rattle.hir_validate.specs.Sizes.{Few, is_in_range, node_at};
+ghost use Rattle.hir_validate.specs.Sizes.{Few, is_in_range};
 
 use crate::edges::EdgeVisitor;
 use crate::fault::FinishFault;
@@ -18,10 +18,10 @@ use crate::sizes::Sizes;
 use crate::tested_node::TestedNode;
 use hir_base::{Idx, MOST_ITEMS};
 use hir_forest::{ForestFault, Parents, Root};
-use hir_node::{ExprId, NodeId, PatId, TypeRef, TypeRefId};
+use hir_node::{NodeId, TypeRef};
 use std::alloc::{AllocError, Global};
 
-/// Whether the id, if there is one, is less than the count.
+/// Returns whether the id, if there is one, is less than the count.
 fn is_below<K>(id: Option<Idx<K>>, count: usize) -> bool
     ensures { result ≡ list_all (λ n. nat_lt n count) (option_to_list id) }
 {
@@ -31,7 +31,7 @@ fn is_below<K>(id: Option<Idx<K>>, count: usize) -> bool
     }
 }
 
-/// The first fault of one node whose ids are all there, from a look at all that it holds.
+/// Returns the first fault of one node whose ids are all in range, from a test of all that it holds.
 fn held_fault<N: TestedNode>(node: &N, id: NodeId, types: &[TypeRef]) -> Option<FinishFault>
     ensures { (sizes : Sizes) → ids_in_range sizes (N.tested_parts node.now) ≡ true
         → node_fault sizes types.now id (N.tested_parts node.now) result }
@@ -52,7 +52,7 @@ fn held_fault<N: TestedNode>(node: &N, id: NodeId, types: &[TypeRef]) -> Option<
     None
 }
 
-/// The first fault of one node whose ids are all there.
+/// Returns the first fault of one node whose ids are all in range.
 fn other_fault<N: TestedNode>(node: &N, id: NodeId, types: &[TypeRef]) -> Option<FinishFault>
     ensures { (sizes : Sizes) → ids_in_range sizes (N.tested_parts node.now) ≡ true
         → node_fault sizes types.now id (N.tested_parts node.now) result }
@@ -63,7 +63,7 @@ fn other_fault<N: TestedNode>(node: &N, id: NodeId, types: &[TypeRef]) -> Option
     held_fault(node, id, types)
 }
 
-/// Visits one node: whether each id that it passes to a visitor is there.
+/// Visits one node, and returns whether each id that it passes to a visitor is in range.
 fn calls_in_range<N: TestedNode>(node: &N, visitor: &mut EdgeVisitor) -> bool
     requires { CanVisit visitor.old 1 }
     ensures in_range { result ≡ list_all (is_in_range visitor.old.sizes) (N.tested_parts node.now).calls }
@@ -75,7 +75,7 @@ fn calls_in_range<N: TestedNode>(node: &N, visitor: &mut EdgeVisitor) -> bool
     visitor.all_in_range
 }
 
-/// Visits one node: whether each id that it names is there.
+/// Visits one node, and returns whether each id that it names is in range.
 fn ids_in_range<N: TestedNode>(node: &N, visitor: &mut EdgeVisitor) -> bool
     requires { CanVisit visitor.old 1 }
     ensures in_range { result ≡ ids_in_range visitor.old.sizes (N.tested_parts node.now) }
@@ -86,7 +86,7 @@ fn ids_in_range<N: TestedNode>(node: &N, visitor: &mut EdgeVisitor) -> bool
         && is_below(node.label(), visitor.sizes.labels)
 }
 
-/// The first fault of one node.
+/// Returns the first fault of one node.
 fn fault_of<N: TestedNode>(
     node: &N,
     id: NodeId,
@@ -103,7 +103,7 @@ fn fault_of<N: TestedNode>(
     other_fault(node, id, types)
 }
 
-/// The first fault of nodes of one sort.
+/// Returns the first fault of nodes of one sort.
 fn first_of<N: TestedNode>(
     nodes: &[N],
     types: &[TypeRef],
@@ -122,30 +122,16 @@ fn first_of<N: TestedNode>(
     None
 }
 
-/// The node at a place of the row.
-fn node_at(sizes: Sizes, n: usize) -> NodeId
-    requires few { Few sizes }
-    requires within { n < sizes.exprs + sizes.pats + sizes.types }
-    ensures { result ≡ node_at sizes n }
-{
-    if n < sizes.exprs {
-        return NodeId::Expr(ExprId::from_raw(n as u32));
-    }
-    if n < sizes.exprs + sizes.pats {
-        return NodeId::Pat(PatId::from_raw((n - sizes.exprs) as u32));
-    }
-    NodeId::TypeRef(TypeRefId::from_raw((n - (sizes.exprs + sizes.pats)) as u32))
-}
-
-/// Turns a fault of the graph, which has a row number, into a fault of that node. A fault of a root keeps its index.
+/// Turns a fault of the graph, which has a node's place, into a fault of that node. A fault of a root keeps
+/// its index.
 fn tell(sizes: Sizes, roots: usize, fault: ForestFault) -> FinishFault
     requires few { Few sizes }
     requires within { IsWithin (sizes.exprs + sizes.pats + sizes.types) roots fault }
     ensures { result ≡ fault_of_graph sizes fault }
 {
     match fault {
-        ForestFault::SharedChild(n) => FinishFault::SharedChild(node_at(sizes, n)),
-        ForestFault::Cycle(n) => FinishFault::Cycle(node_at(sizes, n)),
+        ForestFault::SharedChild(n) => FinishFault::SharedChild(sizes.node_at(n)),
+        ForestFault::Cycle(n) => FinishFault::Cycle(sizes.node_at(n)),
         ForestFault::RootOutOfRange(i) => FinishFault::RootOutOfRange(i),
         ForestFault::RootRepeated(i) => FinishFault::RootRepeated(i),
         ForestFault::RootUnderRoot(i) => FinishFault::RootUnderRoot(i),
@@ -153,7 +139,7 @@ fn tell(sizes: Sizes, roots: usize, fault: ForestFault) -> FinishFault
     }
 }
 
-/// The first fault of a single node: of an expression, then of a pattern, then of a type.
+/// Returns the first fault of a single node: of an expression, then of a pattern, then of a type.
 fn first_bad_node(nodes: &NodeSlices<'_>, visitor: &mut EdgeVisitor) -> Option<FinishFault>
     requires sizes { visitor.old.sizes ≡ sizes_of (nodes_in nodes.now) }
     requires room { CanVisit visitor.old (length (all_tested (nodes_in nodes.now))) }
@@ -169,7 +155,7 @@ fn first_bad_node(nodes: &NodeSlices<'_>, visitor: &mut EdgeVisitor) -> Option<F
     first_of(nodes.types, nodes.types, visitor)
 }
 
-/// The first fault of the graph and the roots, where the parents of all nodes are known.
+/// Returns the first fault of the graph and the roots, where the parents of all nodes are known.
 fn first_graph_fault(
     alloc: Global,
     nodes: &NodeSlices<'_>,
@@ -190,11 +176,12 @@ fn first_graph_fault(
     }
 }
 
-/// The parents of the nodes, if these have no fault with these roots. Else the first fault: of a node, then of the graph, then of a root;
-/// or `Memory`.
+/// Returns the parents of the nodes, if these have no fault with these roots, else the first fault: of a
+/// node, then of the graph, then of a root; or `Memory`.
 ///
-/// It takes time in the number of nodes, edges and roots. It recurses only into associated type bindings that are nested in one path.
-/// It answers `Memory` only where memory for its tables is refused.
+/// It takes time linear in nodes, edges and roots. It recurses only into associated type bindings that are
+/// nested in one path.
+/// It returns `Memory` only if an allocation of its tables fails.
 pub fn validated_parents(
     alloc: Global,
     nodes: &NodeSlices<'_>,

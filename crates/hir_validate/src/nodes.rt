@@ -9,9 +9,11 @@ ghost use Rattle.hir_validate.specs.TestedParts.{bound_paths, is_path_at};
 ghost use Rattle.hir_validate.specs.Fits.{path_fits};
 ghost use Rattle.hir_validate.specs.Sizes.{Few, is_in_range};
 
-use crate::type_parts::{bound_names_path, is_path, one_list_each, path_gives_self, path_names_paths};
 use crate::range::{bound_is_in_range, path_is_in_range};
 use crate::sizes::Sizes;
+use crate::type_parts::{
+    bound_names_path, is_path, one_list_each, path_gives_self, path_names_paths,
+};
 use hir_forest::Ends;
 use hir_node::{Binding, Expr, Label, LifetimeRef, Pat, Path, PathId, TypeBound, TypeRef};
 
@@ -27,7 +29,7 @@ pub struct NodeSlices<'a> {
 }
 
 impl NodeSlices<'_> {
-    /// How many of each there are.
+    /// Returns how many items of each sort there are.
     pub fn sizes(&self) -> Sizes
         ensures { result ≡ sizes_of (nodes_in self.now) }
     {
@@ -41,7 +43,8 @@ impl NodeSlices<'_> {
         }
     }
 
-    /// How many expressions, patterns and bindings there are, as the ends of a root that is listed now.
+    /// Returns how many expressions, patterns and bindings there are, as the ends of a root that is listed
+    /// now.
     pub fn ends(&self) -> Ends
         requires { Few (sizes_of (nodes_in self.now)) }
         ensures { result ≡ ends_of (nodes_in self.now) }
@@ -53,15 +56,16 @@ impl NodeSlices<'_> {
         }
     }
 
-    /// Whether the type of this id is there and is a path.
+    /// Returns whether the type of this id is in range and is a path.
     pub fn has_path(&self, id: PathId) -> bool
         ensures { result ≡ is_path_at self.now.types.now id }
     {
         is_path(self.types, id)
     }
 
-    /// Whether a path fits these nodes: each id that it names is there, each type that it names as a path is one, each list of generic
-    /// arguments that begins with a self type isn't empty, and a `Normal` path has one list for each segment.
+    /// Returns whether a path fits these nodes: each id that it names is in range, each type that it names
+    /// as a path is one, each list of generic arguments that begins with a self type isn't empty, and a
+    /// `Normal` path has one list for each segment.
     pub fn path_is_sound(&self, path: &Path) -> bool
         ensures { result ≡ path_fits (nodes_in self.now) path.now }
     {
@@ -71,14 +75,14 @@ impl NodeSlices<'_> {
             && one_list_each(path)
     }
 
-    /// Whether each type and each lifetime that the bound names is there.
+    /// Returns whether each type and each lifetime that the bound names is in range.
     pub fn has_bound(&self, bound: &TypeBound) -> bool
         ensures { result ≡ list_all (is_in_range (sizes_of (nodes_in self.now))) (bound_calls bound.now) }
     {
         bound_is_in_range(bound, self.sizes())
     }
 
-    /// Whether what the bound names as a path is there and is a path.
+    /// Returns whether the type that the bound names as a path is in range and is a path.
     pub fn bound_names_path(&self, bound: &TypeBound) -> bool
         ensures { result ≡ list_all (is_path_at self.now.types.now) (bound_paths bound.now) }
     {

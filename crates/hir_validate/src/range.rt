@@ -1,4 +1,4 @@
-//! Tests whether everything that a visitor is called with is there.
+//! A visitor that tests whether every id that it is called with is in range.
 
 ghost use Rattle.std.specs.Prelude.{◌≡◌};
 ghost use Rattle.std.specs.List.{list_all};
@@ -11,7 +11,7 @@ use hir_node::{
     ExprId, LifetimeRefId, PatId, Path, StoreVisitor, StoreVisitorExt, TypeBound, TypeRefId,
 };
 
-/// Whether everything that it was called with is there.
+/// Whether every id that it was called with is in range.
 #[derive(Drop)]
 struct InRange {
     sizes: Sizes,
@@ -42,20 +42,26 @@ impl StoreVisitor for InRange {
     }
 }
 
-/// Whether each id that the path passes to a visitor is there.
+/// Returns whether each id that the path passes to a visitor is in range.
 pub(crate) fn path_is_in_range(path: &Path, sizes: Sizes) -> bool
     ensures { result ≡ list_all (is_in_range sizes) (path_calls path.now) }
 {
-    let mut ids = InRange { sizes, all_in_range: true };
+    let mut ids = InRange {
+        sizes,
+        all_in_range: true,
+    };
     ids.on_path(path);
     ids.all_in_range
 }
 
-/// Whether each id that the bound passes to a visitor is there.
+/// Returns whether each id that the bound passes to a visitor is in range.
 pub(crate) fn bound_is_in_range(bound: &TypeBound, sizes: Sizes) -> bool
     ensures { result ≡ list_all (is_in_range sizes) (bound_calls bound.now) }
 {
-    let mut ids = InRange { sizes, all_in_range: true };
+    let mut ids = InRange {
+        sizes,
+        all_in_range: true,
+    };
     ids.on_type_bound(bound);
     ids.all_in_range
 }

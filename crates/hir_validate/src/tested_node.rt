@@ -1,5 +1,6 @@
-//! How nodes of the three sorts are tested: how a fault names each, the visit of its children, and what else is tested.
-//! The matches name each field of a node, so that whoever adds one has to look here.
+//! How nodes of the three sorts are tested: how a fault names each, the visit of its children, and what else
+//! is tested.
+//! The matches name each field of a node, so that a new field is a compile error here.
 
 ghost use Rattle.std.specs.Prelude.{◌≡◌, ℕ, Option};
 ghost use Rattle.std.specs.Option.{option_to_list};
@@ -15,7 +16,7 @@ use hir_node::{
     TypeBound, TypeRef, TypeRefId,
 };
 
-/// Holds nothing.
+/// Returns the parts of a node that holds nothing.
 fn nothing<'a>() -> TypeParts<'a>
     ensures { type_parts_of result ≡ nothing }
 {
@@ -26,7 +27,7 @@ fn nothing<'a>() -> TypeParts<'a>
     }
 }
 
-/// Holds a path.
+/// Returns the parts of a node that holds a path.
 fn a_path(path: &Path) -> TypeParts<'_>
     ensures { type_parts_of result ≡ a_path path.now }
 {
@@ -37,7 +38,7 @@ fn a_path(path: &Path) -> TypeParts<'_>
     }
 }
 
-/// Holds generic arguments, if there are some.
+/// Returns the parts of a node that may hold generic arguments.
 fn some_args(args: &Option<Boxed<GenericArgs>>) -> TypeParts<'_>
     ensures { type_parts_of result ≡ some_args args.now }
 {
@@ -48,7 +49,7 @@ fn some_args(args: &Option<Boxed<GenericArgs>>) -> TypeParts<'_>
     }
 }
 
-/// Holds bounds.
+/// Returns the parts of a node that holds bounds.
 fn some_bounds(bounds: &[TypeBound]) -> TypeParts<'_>
     ensures { type_parts_of result ≡ some_bounds bounds.now }
 {
@@ -61,13 +62,13 @@ fn some_bounds(bounds: &[TypeBound]) -> TypeParts<'_>
 
 /// A node of one sort, as it is tested.
 pub(crate) trait TestedNode {
-    // what is tested of it
+    // the parts of a node that are tested
     ghost tested_parts: { Self → TestedParts };
 
-    // how a fault names the node with this number
+    // the id by which a fault names the node with this number
     ghost name: { ℕ → NodeId };
 
-    /// The id by which a fault names the node with this number.
+    /// Returns the id by which a fault names the node with this number.
     fn name(n: u32) -> NodeId
         ensures { result ≡ name n };
 
@@ -76,19 +77,19 @@ pub(crate) trait TestedNode {
         requires { MayRun V.may V.step visitor.old (tested_parts self.now).calls }
         ensures { Runs V.step visitor.old (tested_parts self.now).calls visitor.new };
 
-    /// The binding that it names.
+    /// Returns the binding that the node names.
     fn binding(&self) -> Option<BindingId>
         ensures { option_to_list result ≡ (tested_parts self.now).bindings };
 
-    /// The label that it names.
+    /// Returns the label that the node names.
     fn label(&self) -> Option<LabelId>
         ensures { option_to_list result ≡ (tested_parts self.now).labels };
 
-    /// What it holds.
+    /// Returns the parts that the node holds.
     fn type_parts(&self) -> TypeParts<'_>
         ensures { type_parts_of result ≡ (tested_parts self.now).held };
 
-    /// Whether it has a return type, where it is a function type.
+    /// Returns whether the node has a return type, if it is a function type.
     fn returns(&self) -> bool
         ensures { result ≡ (tested_parts self.now).returns };
 }

@@ -1,5 +1,6 @@
-//! What a node holds that has to be right in itself: a path, generic arguments, bounds.
-//! The tests of generic arguments recurse into the arguments of associated type bindings, as deep as these are nested.
+//! The parts of a node that are tested on their own: a path, generic arguments, bounds.
+//! The tests of generic arguments recurse into the arguments of associated type bindings, as deep as these
+//! are nested.
 
 ghost use Rattle.std.specs.Prelude.{◌≡◌, flat_map, IsTrue};
 ghost use Rattle.std.specs.Option.{option_copied};
@@ -9,7 +10,7 @@ ghost use Rattle.hir_validate.specs.TypeParts.{type_parts_of, may_have_args, IsF
 
 use hir_node::{AssociatedTypeBinding, GenericArg, GenericArgs, Path, PathId, TypeBound, TypeRef};
 
-/// The path that a type is. `None` for a type that isn't a path.
+/// Returns the path that a type is, and `None` for a type that isn't a path.
 pub fn as_path(type_ref: &TypeRef) -> Option<&Path>
     ensures { option_copied result ≡ path_of type_ref.now }
 {
@@ -31,7 +32,7 @@ pub fn as_path(type_ref: &TypeRef) -> Option<&Path>
     }
 }
 
-/// Whether the type of this id is there and is a path.
+/// Returns whether the type of this id is in range and is a path.
 pub(crate) fn is_path(types: &[TypeRef], id: PathId) -> bool
     ensures { result ≡ is_path_at types.now id }
 {
@@ -41,7 +42,7 @@ pub(crate) fn is_path(types: &[TypeRef], id: PathId) -> bool
     }
 }
 
-/// Whether what a bound names as a path is one.
+/// Returns whether the type that a bound names as a path is one.
 pub(crate) fn bound_names_path(types: &[TypeRef], bound: &TypeBound) -> bool
     ensures { result ≡ list_all (is_path_at types.now) (bound_paths bound.now) }
 {
@@ -52,7 +53,7 @@ pub(crate) fn bound_names_path(types: &[TypeRef], bound: &TypeBound) -> bool
     }
 }
 
-/// Whether each type that bounds name as a path is one.
+/// Returns whether each type that bounds name as a path is one.
 pub(crate) fn bounds_name_paths(types: &[TypeRef], bounds: &[TypeBound]) -> bool
     ensures { result ≡ list_all (is_path_at types.now) (flat_map bound_paths bounds.now) }
 {
@@ -64,7 +65,7 @@ pub(crate) fn bounds_name_paths(types: &[TypeRef], bounds: &[TypeBound]) -> bool
     true
 }
 
-/// Whether each type that generic arguments name as a path is one.
+/// Returns whether each type that generic arguments name as a path is one.
 #[cycle(args_name_paths)]
 pub(crate) fn args_name_paths(types: &[TypeRef], args: &GenericArgs) -> bool
     ensures { result ≡ list_all (is_path_at types.now) (args_paths args.now) }
@@ -89,14 +90,14 @@ fn binding_names_paths(types: &[TypeRef], binding: &AssociatedTypeBinding) -> bo
     bounds_name_paths(types, binding.bounds.as_slice())
 }
 
-/// Whether the arguments aren't empty, if they have `has_self_type`.
+/// Returns whether the arguments aren't empty, if they have `has_self_type`.
 fn gives_self(has_self_type: bool, args: &[GenericArg]) -> bool
     ensures { result ≡ self_given has_self_type args.now }
 {
     !has_self_type || !args.is_empty()
 }
 
-/// Whether each list of arguments that has `has_self_type` isn't empty.
+/// Returns whether each list of arguments that has `has_self_type` isn't empty.
 #[cycle(args_give_self)]
 pub(crate) fn args_give_self(args: &GenericArgs) -> bool
     ensures { result ≡ args_give_self args.now }
@@ -130,7 +131,7 @@ pub(crate) struct TypeParts<'a> {
     pub bounds: &'a [TypeBound],
 }
 
-/// Whether each type that the arguments of one segment name as a path is one.
+/// Returns whether each type that the arguments of one segment name as a path is one.
 fn segment_names_paths(types: &[TypeRef], args: &Option<GenericArgs>) -> bool
     ensures { result ≡ list_all (is_path_at types.now) (all_of args_paths args.now) }
 {
@@ -140,7 +141,7 @@ fn segment_names_paths(types: &[TypeRef], args: &Option<GenericArgs>) -> bool
     }
 }
 
-/// Whether each type that the arguments of segments name as a path is one.
+/// Returns whether each type that the arguments of segments name as a path is one.
 fn segments_name_paths(types: &[TypeRef], lists: &[Option<GenericArgs>]) -> bool
     ensures { result ≡ list_all (is_path_at types.now) (flat_map (all_of args_paths) lists.now) }
 {
@@ -152,7 +153,7 @@ fn segments_name_paths(types: &[TypeRef], lists: &[Option<GenericArgs>]) -> bool
     true
 }
 
-/// Whether each type that a path names as a path is one.
+/// Returns whether each type that a path names as a path is one.
 pub(crate) fn path_names_paths(types: &[TypeRef], path: &Path) -> bool
     ensures { result ≡ list_all (is_path_at types.now) (path_paths path.now) }
 {
@@ -162,7 +163,7 @@ pub(crate) fn path_names_paths(types: &[TypeRef], path: &Path) -> bool
     }
 }
 
-/// Whether each list that has `has_self_type` in the arguments of one segment isn't empty.
+/// Returns whether each list that has `has_self_type` in the arguments of one segment isn't empty.
 fn segment_gives_self(args: &Option<GenericArgs>) -> bool
     ensures { result ≡ option_all args_give_self args.now }
 {
@@ -187,7 +188,7 @@ pub(crate) fn path_gives_self(path: &Path) -> bool
     }
 }
 
-/// Whether a `Normal` path has one list for each segment.
+/// Returns whether a `Normal` path has one list for each segment.
 pub(crate) fn one_list_each(path: &Path) -> bool
     ensures { result ≡ one_list_each path.now }
 {
@@ -199,7 +200,7 @@ pub(crate) fn one_list_each(path: &Path) -> bool
     }
 }
 
-/// Whether the path, if there is one, may have generic arguments: only a `Normal` path may.
+/// Returns whether the path, if there is one, may have generic arguments: only a `Normal` path may.
 fn may_have_args(path: Option<&Path>) -> bool
     ensures { result ≡ may_have_args (option_copied path.entry) }
 {
@@ -213,7 +214,7 @@ fn may_have_args(path: Option<&Path>) -> bool
 }
 
 impl TypeParts<'_> {
-    /// Whether nothing in it can be at fault: no `Normal` path, no generic arguments and no bounds.
+    /// Returns whether nothing in it can be at fault: no `Normal` path, no generic arguments and no bounds.
     pub fn is_plain(&self) -> bool
         ensures { IsTrue result → IsFine (type_parts_of self.now) }
     {
@@ -223,7 +224,7 @@ impl TypeParts<'_> {
         self.args.is_none() && self.bounds.is_empty()
     }
 
-    /// Whether each type that is named as a path is one.
+    /// Returns whether each type that is named as a path is one.
     pub fn names_paths(&self, types: &[TypeRef]) -> bool
         ensures { result ≡ names_paths types.now (type_parts_of self.now) }
     {
@@ -240,7 +241,7 @@ impl TypeParts<'_> {
         bounds_name_paths(types, self.bounds)
     }
 
-    /// Whether each list that has `has_self_type` isn't empty.
+    /// Returns whether each list that has `has_self_type` isn't empty.
     pub fn gives_self(&self) -> bool
         ensures { result ≡ gives_self (type_parts_of self.now) }
     {
@@ -255,7 +256,7 @@ impl TypeParts<'_> {
         }
     }
 
-    /// Whether a `Normal` path has one list for each segment.
+    /// Returns whether a `Normal` path has one list for each segment.
     pub fn lists_fit(&self) -> bool
         ensures { result ≡ lists_fit (type_parts_of self.now) }
     {

@@ -1,4 +1,4 @@
-//! Ids, arenas and their iterators, once each on the happy path, and the laws of ids.
+//! Ids, arenas and their iterators, once each on the happy path, and the theorems of ids.
 use crate::same;
 use hir_base::{Arena, ArenaFault, ArenaIter, ExactEq, Idx, MOST_ITEMS, TryClone, laws};
 use std::alloc::{AllocError, Global};
@@ -35,7 +35,7 @@ fn has_twenty(arena: &Arena<Kind, u32>) -> bool {
         && !arena.has(Idx::from_raw(20))
 }
 
-// Whether the ids and the items come in turn from the front and from the back, and ten from each.
+// Whether the ids and the items come in turn from both ends, and ten from each.
 fn meet(mut items: ArenaIter<'_, Kind, u32>) -> bool {
     let mut holds = items.len() == 20;
     let mut front = 0u32;
@@ -62,7 +62,7 @@ fn are_left(items: ArenaIter<'_, Kind, u32>, first: u32) -> bool {
     holds & (number == 20)
 }
 
-// Whether behind the first item the iterator and a copy of it have the same items left.
+// Whether after the first item the iterator and a copy of it have the same items left.
 fn copy_goes_on(mut items: ArenaIter<'_, Kind, u32>) -> Result<bool, AllocError> {
     let begun = items.next().is_some();
     let copy = items.clone()?;
@@ -85,7 +85,7 @@ fn items_are_numbered(rt: HostRuntime) -> Result<(), Fail> {
     Ok(())
 }
 
-// Makes item 3, which was 3, 300, and answers whether it is.
+// Makes item 3, which was 3, 300, and returns whether it is.
 fn change(arena: &mut Arena<Kind, u32>) -> bool {
     let third = Idx::from_raw(3);
     if !arena.has(third) || arena[third] != 3 {

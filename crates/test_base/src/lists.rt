@@ -30,7 +30,8 @@ fn has_three(seq: &Seq<u32>) -> bool {
         && seq.iter().rev().next().copied() == Some(9)
 }
 
-// Makes the second of three items 80, and answers whether it is, and what it is between where the others are swapped.
+// Makes the second of three items 80, and returns whether it is, and what it is between where the others are
+// swapped.
 fn change(seq: &mut Seq<u32>) -> bool {
     if seq.len() != 3 {
         return false;
@@ -72,7 +73,7 @@ fn a_list_keeps_its_items(rt: HostRuntime) -> Result<(), Fail> {
     Ok(())
 }
 
-// Whether the list has these items, told by a loop over it.
+// Whether a loop over the list gives these items.
 fn gives(items: &Seq<u32>, wanted: &[u32]) -> bool {
     let mut rest = wanted;
     for item in items {
@@ -93,7 +94,7 @@ fn a_list_is_made_of_an_array(rt: HostRuntime) -> Result<(), Fail> {
     Ok(())
 }
 
-// Of 0 to 5 items: more than three don't lie in the value.
+// Lists of 0 to 5 items: more than three aren't stored in the value itself.
 const LISTS: [&[u32]; 6] = [
     &[],
     &[7],
@@ -116,7 +117,7 @@ fn fill_list(
     Ok(list)
 }
 
-// Whether the item stands at this place.
+// Whether the item is at this place.
 fn has_at(list: &ShortList<u32>, at: usize, item: u32) -> bool {
     match list.get(at) {
         Some(found) => *found == item && at < list.len() && list[at] == item,
@@ -124,7 +125,7 @@ fn has_at(list: &ShortList<u32>, at: usize, item: u32) -> bool {
     }
 }
 
-// Whether each of these items stands at its place, and none behind them.
+// Whether each of these items is at its place, and none after them.
 fn has_each(list: &ShortList<u32>, items: &[u32]) -> bool {
     for (at, item) in items.iter().enumerate() {
         if !has_at(list, at, *item) {
@@ -134,7 +135,7 @@ fn has_each(list: &ShortList<u32>, items: &[u32]) -> bool {
     (list.len() == items.len()) & list.get(items.len()).is_none()
 }
 
-// Whether these items come one by one from the front.
+// Whether these items come one by one from the first.
 fn from_the_front(list: &ShortList<u32>, items: &[u32]) -> bool {
     let mut rest = items;
     for item in list {
@@ -146,7 +147,7 @@ fn from_the_front(list: &ShortList<u32>, items: &[u32]) -> bool {
     rest.is_empty()
 }
 
-// Whether these items come one by one from the back, the last one first.
+// Whether these items come one by one from the last.
 fn from_the_back(list: &ShortList<u32>, items: &[u32]) -> bool {
     let mut rest = items;
     for item in list.iter().rev() {
@@ -193,7 +194,7 @@ fn a_short_list_keeps_its_items(rt: HostRuntime) -> Result<(), Fail> {
     Ok(())
 }
 
-// A list that has room for more than three lies outside from the first item on.
+// A list that has room for more than three is stored outside from the first item on.
 #[test]
 fn short_lists_of_the_same_items_are_alike(rt: HostRuntime) -> Result<(), Fail> {
     let alloc = rt.alloc();
@@ -269,7 +270,7 @@ fn each_item_of_a_short_list_is_written_to(rt: HostRuntime) -> Result<(), Fail> 
     Ok(())
 }
 
-// Nothing here takes memory, so that the test passes too where the first growth is refused.
+// Nothing here takes memory, so that the test passes too where the first allocation fails.
 #[test]
 fn three_ids_lie_in_16_bytes(rt: HostRuntime) -> Result<(), Fail> {
     assert!(rt; size_of::<ShortList<Idx<Name>>>() == 16);

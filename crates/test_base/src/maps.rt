@@ -58,7 +58,7 @@ fn are_entries(entries: ArenaMapIter<'_, Kind, u32>, wanted: &[(u32, u32)]) -> b
     holds & (count == wanted.len())
 }
 
-// Whether behind the first entry the iterator and a copy of it have these entries left.
+// Whether after the first entry the iterator and a copy of it have these entries left.
 fn copy_goes_on(
     mut entries: ArenaMapIter<'_, Kind, u32>,
     wanted: &[(u32, u32)],
@@ -83,8 +83,8 @@ fn a_map_keeps_the_last_values_and_its_entries_rise(rt: HostRuntime) -> Result<(
 
 type Map = ArenaMap<Kind, u32>;
 
-// Whether a map that is given 5 and then 1 becomes this one, the map of 1 and 5 to themselves: it was another before each, and is another
-// with a value of its own.
+// Whether a map that is given 5 and then 1 becomes this one, the map of 1 and 5 to themselves: it was another
+// before each, and is another with a value of its own.
 fn becomes(other: &mut Map, made: &Map) -> Result<bool, AllocError> {
     let was_same = other.is_same(made);
     other.insert(Idx::from_raw(5), 5)?;

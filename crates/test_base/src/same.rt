@@ -1,4 +1,5 @@
-//! What is asked of values of many types: that a copy is the same, that others are not, and that same values hash alike.
+//! Tests of values of many types: that a copy is the same, that others are not, and that same values hash
+//! alike.
 use hir_base::{ExactEq, ExternAbi, ModPath, Name, PathKind, Seq, Text, TryClone};
 use std::alloc::{AllocError, Global};
 use std::hash::{DefaultHasher, Hash, Hasher};
@@ -16,7 +17,7 @@ fn is_apart<T: TryClone + ExactEq + Drop>(value: T, other: T) -> Result<bool, Al
     Ok(copies & !value.is_same(&other))
 }
 
-// The same of values that memory was asked for.
+// Whether both values could be made, a copy of the first is the same, and the second is not.
 fn both_are_apart<T: TryClone + ExactEq + Drop>(
     value: Result<T, AllocError>,
     other: Result<T, AllocError>,
@@ -51,14 +52,16 @@ fn hash_of<T: Hash>(value: &T) -> u64 {
     state.finish()
 }
 
-/// Whether the two values are equal and hash alike. They come as they were made: where their type is any type, they aren't laid out.
+/// Whether the two values are equal and hash alike. They come as they were made: where their type is any
+/// type, they aren't laid out.
 pub fn alike<T: Hash + Drop, E: Drop>(one: Result<T, E>, second: Result<T, E>) -> Result<bool, E> {
     let one = one?;
     let second = second?;
     Ok(one == second && hash_of(&one) == hash_of(&second))
 }
 
-// The list with the item behind it, if both could be made. It is said of any type: each `?` beside which something is owned is dear to prove.
+// The list with the item after it, if both could be made. It is said of any type: each `?` beside which
+// something is owned is dear to prove.
 fn with<T: Drop>(
     list: Result<Seq<T>, AllocError>,
     item: Result<T, AllocError>,
@@ -68,7 +71,7 @@ fn with<T: Drop>(
     Ok(list)
 }
 
-/// The path of these names behind this kind.
+/// The path of these names after this kind.
 pub fn path(alloc: Global, kind: PathKind, texts: &[&str]) -> Result<ModPath, AllocError> {
     let mut names = Ok(Seq::new(alloc));
     for text in texts {

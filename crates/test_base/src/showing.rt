@@ -35,7 +35,8 @@ fn shows<T: Display + Debug + Drop>(
     Ok(is_displayed & is_debugged)
 }
 
-// The same of an id. It is said of any kind, so that a test names the kind alone.
+// Whether an id shows as this text, by `Display` and by `Debug`. It is said of any kind, so that a test names
+// the kind alone.
 fn id_shows<K: Kind>(alloc: Global, id: Id<K>, text: &str) -> Result<bool, AllocError> {
     shows(alloc, id, text)
 }

@@ -23,7 +23,7 @@ fn count_three() -> Steps
     steps
 }
 
-// The number stands in the contract above. At run time there is nothing to see of it.
+// The number is in the contract above. At run time there is nothing to see of it.
 #[test]
 fn a_count_of_steps_takes_no_bytes(rt: HostRuntime) {
     drop(count_three());

@@ -57,7 +57,8 @@ fn lists_both(table: &Table<NamedDef, u32>) -> bool {
     holds && sum == 5
 }
 
-// Whether a table that is given 2 at one key and 3 at the other becomes the same as this one, and was not before.
+// Whether a table that is given 2 at one key and 3 at the other becomes the same as this one, and was not
+// before.
 fn becomes<K: HasCode + Copy + Drop>(
     table: &mut Table<K, u32>,
     made: &Table<K, u32>,
@@ -117,7 +118,7 @@ fn a_value_is_put_in_place_of_the_one_before(rt: HostRuntime) -> Result<(), Fail
     Ok(())
 }
 
-// Writes the value at the key, if it has one, and answers the one that it had.
+// Writes the value at the key, if it has one, and returns the one that it had.
 fn write(table: &mut Table<NamedDef, u32>, key: NamedDef, value: u32) -> Option<u32> {
     match table.get_mut(&key) {
         None => None,

@@ -1,5 +1,5 @@
-//! Paths, hygiene, ids, pointers and calling conventions, once each on the happy path.
-//! The table of `HygieneId` stands here row by row.
+//! Paths, hygiene, ids, pointers and calling conventions, once each on the happy path. The table of
+//! `HygieneId` is here line by line.
 use crate::same;
 use either::Either;
 use hir_base::{
@@ -37,7 +37,8 @@ fn hygiene_keeps_the_number_of_its_expansion(rt: HostRuntime) {
     assert!(rt; size_of::<HygieneId>() == 5);
 }
 
-// The hygiene of every context is source text's, where the context is a root, and never a root of a later edition.
+// The hygiene of every context is source text's, where the context is a root, and never a root of a later
+// edition.
 #[test]
 fn no_hygiene_is_a_root_of_a_later_edition(rt: HostRuntime) {
     for edition in &[
@@ -90,7 +91,8 @@ fn have_texts(names: &[Name], texts: &[&str]) -> bool {
     left.is_empty()
 }
 
-// Whether the path is of this kind and has these names, and is an ident or not, and `Self` or not. The path is taken.
+// Whether the path is of this kind and has these names, and is an ident or not, and `Self` or not. The path
+// is taken.
 fn is_known(made: ModPath, kind: PathKind, names: &[&str], ident: bool, is_self: bool) -> bool {
     let known = (made.kind() == kind)
         & have_texts(made.segments(), names)
@@ -115,7 +117,7 @@ fn is_kept(
     Ok(copies? && known)
 }
 
-// Names behind a kind, and whether their path is an ident, and whether it is `Self`.
+// Names after a kind, and whether their path is an ident, and whether it is `Self`.
 const KNOWN: [(PathKind, &[&str], bool, bool); 8] = [
     (PathKind::Plain, &["x"], true, false),
     (PathKind::Plain, &["Self"], true, true),

@@ -1,4 +1,5 @@
-//! Bodies: parts that are refused come back as they were given, and what an accepted body gives is in its store.
+//! Bodies: parts that are refused come back as they were given, and what an accepted body gives is in its
+//! store.
 use crate::memory::push;
 use crate::trees::{self, BindingOf, One, PatOf, Tree};
 use hir_base::{Idx, Seq};
@@ -139,8 +140,8 @@ fn has_self(body: &Body) -> bool {
 
 /// What tests ask of a body that is accepted, and of one that is refused.
 trait Answered {
-    /// Whether it is what is wanted, and its parts are there, or come back, as they were given. Where memory was refused, that is the
-    /// error.
+    /// Whether it is what is wanted, and its parts are there, or come back, as they were given. Where memory
+    /// was refused, that is the error.
     fn is_wanted(&self, case: &Case) -> Result<bool, BodyFault>;
 }
 
@@ -176,7 +177,8 @@ impl Answered for RefusedBody {
     }
 }
 
-/// Whether the outcome is the one that is wanted. It is said of any type, so that no large one is laid out here.
+/// Whether the outcome is the one that is wanted. It is said of any type, so that no large one is laid out
+/// here.
 fn answers<B: Answered + Drop, R: Answered + Drop>(
     outcome: Result<B, R>,
     case: &Case,
@@ -198,8 +200,9 @@ fn made_again(alloc: Global, refused: RefusedBody) -> Result<Body, RefusedBody> 
     Body::new(alloc, store, params, self_param)
 }
 
-/// Whether the body of these parameters in the store of the tree, or its refusal, is the one that is wanted. A body that is refused is
-/// made again of what was handed back: it has its fault again, and where memory was refused it is accepted.
+/// Whether the body of these parameters in the store of the tree, or its refusal, is the one that is wanted.
+/// A body that is refused is made again of what was handed back: it has its fault again, and where memory was
+/// refused it is accepted.
 fn is_answered(alloc: Global, case: &Case) -> Result<bool, Fail> {
     let (tree, params, self_param, _) = case;
     let store = trees::store(alloc, &[], tree)?;

@@ -6,8 +6,8 @@ use hir_items::{BoundLifetimes, GenericParams, LifetimeParamData, generic_laws};
 use std::alloc::{AllocError, Global};
 use std::test::Fail;
 
-/// The type `Self` of a trait, the type `T`, the constant `N`, five lifetimes, and two predicates. Three of the lifetimes are bound
-/// early and two late, so that no count of the ones is right for the others.
+/// The type `Self` of a trait, the type `T`, the constant `N`, five lifetimes, and two predicates. Three of
+/// the lifetimes are bound early and two late, so that no count of the ones is right for the others.
 const ALL: ParamLists = ParamLists {
     types: TYPES,
     lifetimes: LIFETIMES,
@@ -94,7 +94,8 @@ fn is_e(lifetime: &LifetimeParamData) -> bool {
     lifetime.name.as_str() == "'e" && lifetime.is_early_bound() && !lifetime.is_late_bound()
 }
 
-/// Whether the ids begin with the `Self` of a trait, and end with the constant 2 and the lifetime 4, which is `'e`.
+/// Whether the ids begin with the `Self` of a trait, and end with the constant 2 and the lifetime 4, which is
+/// `'e`.
 fn has_ends(params: &GenericParams) -> bool {
     let (first, constant) = (Idx::from_raw(0), Idx::from_raw(2));
     let e = Idx::from_raw(4);
@@ -109,8 +110,8 @@ fn has_ends(params: &GenericParams) -> bool {
         && is_e(&params[e])
 }
 
-/// The order of items as a number: each is a digit, counted from 1, in the order in which they come when they are asked for from both
-/// ends in turn.
+/// The order of items as a number: each is a digit, counted from 1, in the order in which they come when they
+/// are asked for from both ends in turn.
 fn order<K, T>(mut items: ArenaIter<'_, K, T>) -> u32 {
     let mut order = 0u32;
     while let Some((id, _)) = items.next() {
@@ -157,7 +158,8 @@ fn come_in_order(params: &GenericParams) -> Result<bool, AllocError> {
     )
 }
 
-/// Whether there are parameters and predicates, by all that rows don't ask; a copy of a predicate is asked too.
+/// Whether there are parameters and predicates, by all that rows don't ask; a copy of a predicate is asked
+/// too.
 fn are_all(alloc: Global, params: &GenericParams) -> Result<bool, AllocError> {
     let is_full = !params.is_empty() && !params.has_no_predicates() && has_ends(params);
     let ordered = come_in_order(params)?;

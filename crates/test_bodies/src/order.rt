@@ -1,4 +1,5 @@
-//! The children of an expression in the order in which scopes are made, beside the order in which they are written.
+//! The children of an expression in the order in which scopes are made, beside the order in which they are
+//! written.
 #![tactic(auto, using(hir_node::proofs::RunLemmas::freely))]
 
 use hir_base::Idx;
@@ -6,7 +7,8 @@ use hir_node::{Expr, ExprId, LifetimeRefId, PatId, StoreVisitor, TypeRefId};
 use hir_scope::visit_in_scope_order;
 use std::test::Fail;
 
-/// A visitor that keeps the places at which it was called with the pattern and with the expression, from 1 on.
+/// A visitor that keeps the places at which it was called with the pattern and with the expression, from 1
+/// on.
 #[derive(Drop)]
 struct Places {
     calls: u32,

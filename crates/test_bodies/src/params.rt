@@ -145,7 +145,8 @@ impl NodeForm<WherePredicate> for Predicate {
     }
 }
 
-/// The parameters and predicates of these lists. In a box, so that what a test drops is a pointer; so are the lists.
+/// The parameters and predicates of these lists. In a box, so that what a test drops is a pointer; so are the
+/// lists.
 pub fn make_params(alloc: Global, listed: &ParamLists) -> Result<Box<GenericParams>, Fail> {
     let types = arena(alloc, listed.types)?;
     let lifetimes = arena(alloc, listed.lifetimes)?;

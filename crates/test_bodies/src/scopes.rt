@@ -1,4 +1,5 @@
-//! The scopes along a chain, all scopes, and the expressions that have a scope, item by item, to their end and behind it.
+//! The scopes along a chain, all scopes, and the expressions that have a scope, item by item, to their end
+//! and behind it.
 #![tactic(auto)]
 
 use hir_base::Idx;
@@ -33,7 +34,8 @@ fn opened(
     Ok(Box::new(alloc, outcome?)?)
 }
 
-/// Whether from `a` in `|x| |x| a` there are three scopes, the inner closure's first and the body's last, and none behind them.
+/// Whether from `a` in `|x| |x| a` there are three scopes, the inner closure's first and the body's last, and
+/// none behind them.
 fn chain_ends(scopes: &ExprScopes) -> bool {
     let inner = scopes.scope_for(Idx::from_raw(0));
     let outer = scopes.scope_for(Idx::from_raw(1));

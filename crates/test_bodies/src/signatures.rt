@@ -1,5 +1,6 @@
-//! Signatures: parts that are refused come back as they were given, and what an accepted signature names is in its store. They are asked
-//! as soon as they are made, so that a test has small values alone and its proof is short.
+//! Signatures: parts that are refused come back as they were given, and what an accepted signature names is
+//! in its store. They are asked as soon as they are made, so that a test has small values alone and its proof
+//! is short.
 use crate::memory::push;
 use crate::params::{self, Entry, ParamLists, Predicate};
 use crate::trees::{self, BARE, Never};
@@ -44,7 +45,8 @@ impl Known for VariantParts {
     }
 }
 
-/// What tests ask of a signature that is accepted. An id that it gives is in its store: nothing is tested first.
+/// What tests ask of a signature that is accepted. An id that it gives is in its store: nothing is tested
+/// first.
 trait Named {
     /// Whether each type that it names is `!`.
     fn names_never(&self) -> bool;
@@ -100,8 +102,8 @@ impl Named for VariantFields {
     }
 }
 
-/// Whether the types that are named are `!`, where the parts are accepted. Else why they are refused, and whether what comes back has
-/// what it was given.
+/// Whether the types that are named are `!`, where the parts are accepted. Else why they are refused, and
+/// whether what comes back has what it was given.
 type Outcome = Result<bool, (SignatureFault, bool)>;
 
 /// The answer where the parts are refused so: where memory was refused, that is the error.
@@ -157,7 +159,8 @@ fn field_x(alloc: Global) -> Result<Seq<FieldData>, AllocError> {
     Ok(fields)
 }
 
-/// `const unsafe extern "C" fn f<T>(..) -> ..`, with one parameter of type 0, which it returns, over these types.
+/// `const unsafe extern "C" fn f<T>(..) -> ..`, with one parameter of type 0, which it returns, over these
+/// types.
 fn function(alloc: Global, types: &[Never]) -> Result<Outcome, Fail> {
     let generic_params = params::make_params(alloc, &T)?;
     let store = trees::store(alloc, types, &BARE)?;

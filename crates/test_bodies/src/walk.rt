@@ -1,5 +1,6 @@
-//! A body as a new user builds it, by calls, and walks over it: the children of each expression, and what is visited below the root. What the
-//! body and its store give is handed back to them with nothing asked in between.
+//! A body as a new user builds it, by calls, and walks over it: the children of each expression, and what is
+//! visited below the root. What the body and its store give is handed back to them with nothing asked in
+//! between.
 #![tactic(auto, using(hir_store_core::proofs::GivenLemmas::id_is_in_range, hir_node::proofs::RunLemmas::freely))]
 
 use hir_error::HirError;

@@ -1,5 +1,5 @@
-//! Sources and sinks that fail at a chosen call, and readers and writers of std that are interrupted or fail. But for those that
-//! break they tell no bytes: a test compares what a run gave.
+//! Sources and sinks that fail at a chosen call, and readers and writers of std that are interrupted or fail.
+//! But for those that break they show no bytes to contracts: a test compares what a run gave.
 
 ghost use Rattle.std.specs.Prelude.{◌≤◌, IfOk};
 
@@ -120,8 +120,8 @@ impl Sink for FailingWriter {
     }
 }
 
-/// A reader and writer of std whose calls are interrupted so many times before each that answers. One that answers takes so many
-/// bytes at most, or fails.
+/// A reader and writer of std whose calls are interrupted so many times before each that succeeds or fails.
+/// One that succeeds takes so many bytes at most.
 #[derive(Drop)]
 pub struct Interrupted {
     times: u32,

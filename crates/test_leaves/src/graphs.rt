@@ -1,4 +1,4 @@
-//! Graphs, each with its roots and the fault that it must have: a further case is one more row of a table.
+//! Graphs, each with its roots and the fault that it must have: a further case is one more entry of a table.
 //! The ends of roots have a table of their own, and the last test has 1,000,000 nodes.
 
 use crate::making::{Edge, chain, chain_and_cycle, fault_of, only_exprs};
@@ -47,7 +47,8 @@ const LAST: Root = Root {
     ends: NO_ENDS,
 };
 
-/// How many nodes there are, all of them expressions, their edges, and the first fault where there are no roots.
+/// How many nodes there are, all of them expressions, their edges, and the first fault where there are no
+/// roots.
 type Shape = (u32, &'static [Edge], Option<ForestFault>);
 
 const SHAPES: [Shape; 10] = [
@@ -210,8 +211,8 @@ fn ends_of_a_lone_root_lie_within_the_arenas(rt: HostRuntime) -> Result<(), Fail
     Ok(())
 }
 
-/// The first fault of a chain of 1,000,000 nodes, in which each is the only child of the next and whose ends are roots, and of the
-/// chain with one node more, which is its own child.
+/// The first fault of a chain of 1,000,000 nodes, in which each is the only child of the next and whose ends
+/// are roots, and of the chain with one node more, which is its own child.
 fn faults_of_the_chain(
     alloc: Global,
 ) -> Result<(Option<ForestFault>, Option<ForestFault>), AllocError> {

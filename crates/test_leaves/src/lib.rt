@@ -1,6 +1,7 @@
-//! The tests of the crates that use no other: of `hir_forest` graphs with the fault that each must have, a million nodes, parents, and what
-//! lies under marked nodes; of `hir_show_io` lines, sources and sinks that fail, and output that waits; of `hir_pretty_layout` what pages look like, in
-//! lines and in one line, and calls that are refused.
+//! The tests of the crates that use no other: of `hir_forest` graphs with the fault that each must have, a
+//! million nodes, parents, and the descendants of marked nodes; of `hir_show_io` lines, sources and sinks
+//! that fail, and output that waits; of `hir_pretty_layout` what pages look like, in lines and in one line,
+//! and calls that are refused.
 #![tactic(auto)]
 
 #[cfg(test)]

@@ -9,7 +9,8 @@ use std::test::Fail;
 /// A node and a child of it.
 pub type Edge = (usize, usize);
 
-/// Notes the edge in the last row, that of this node, where it begins there. An edge to what is no node is left out.
+/// Notes the edge in the last row, that of this node, where it begins there. An edge to what is no node is
+/// left out.
 fn add_edge(parents: &mut Parents, node: usize, count: usize, edge: &Edge)
     requires nodes { length parents.old.parents ≡ count }
     requires some { 0 < parents.old.rows }

@@ -1,5 +1,5 @@
-//! Refused growths of a page. A call that is refused leaves the page as it was, so the same call made again gives the whole page. The loop
-//! over the growths is `scripts/refused-growths`.
+//! Failed allocations of a page. A call that fails leaves the page as it was, so the same call made again
+//! gives the whole page. The loop over the allocations is `scripts/refused-growths`.
 use hir_pretty_layout::{LineFormat, PageBuffer, PieceWriter};
 use std::alloc::AllocError;
 use std::test::Fail;

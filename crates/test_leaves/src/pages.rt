@@ -1,4 +1,4 @@
-//! Shapes of layout, in lines and in one line: a further case is one more row of a table.
+//! Shapes of layout, in lines and in one line: a further case is one more entry of a table.
 use hir_pretty_layout::{LineFormat, PageBuffer, PieceWriter, write_number};
 use std::alloc::{AllocError, Global};
 use std::fmt::Write;
@@ -35,7 +35,7 @@ const MATCH_IN_A_REPEAT: &[Step] = &[
 ];
 
 const SHAPES: [Shape; 7] = [
-    // Arguments stand in lines.
+    // Arguments are in lines.
     (
         LineFormat::Newline,
         &[&[
@@ -82,7 +82,7 @@ const SHAPES: [Shape; 7] = [
         ],
         "{\n    [\n        x; match y {\n        }\n    \n    ]}",
     ),
-    // A record stands in one line.
+    // A record is in one line.
     (
         LineFormat::Oneline,
         &[&[
@@ -178,7 +178,7 @@ fn each_shape_is_laid_out(rt: HostRuntime) -> Result<(), Fail> {
     Ok(())
 }
 
-/// The text `x`, a line end, and behind it, a level further in, `ExprId(3)`.
+/// The text `x`, a line end, and after it, a level further in, `ExprId(3)`.
 fn write_in_place(page: &mut PageBuffer) -> Result<(), Fail> {
     page.indent()?;
     page.text("x\n")?;
@@ -196,7 +196,7 @@ fn numbers_are_written_in_place(rt: HostRuntime) -> Result<(), Fail> {
     Ok(())
 }
 
-/// A page of the text `x = 7`, a line end, and behind it, a level further in, `y`.
+/// A page of the text `x = 7`, a line end, and after it, a level further in, `y`.
 fn formatted_page(alloc: Global) -> Result<String, Fail> {
     let mut page = PageBuffer::new(alloc, LineFormat::Newline);
     page.indent()?;

@@ -1,4 +1,5 @@
-//! Parents that are noted edge by edge have the first fault that the same rows have, and tell who has none.
+//! Parents that are noted edge by edge have the first fault that those of the same rows have, and say who has
+//! none.
 
 ghost use Rattle.std.specs.Prelude.{◌≡◌, length, IfOk};
 

@@ -1,5 +1,6 @@
-//! Lines through both ends: across blocks, empty, longer than the buffer, without their end, and where a read or a write
-//! fails. Each line is written again with a `$` behind it, so that what a run wrote says which lines it took.
+//! Lines through both ends: across blocks, empty, longer than the buffer, without their end, and where a read
+//! or a write fails. Each line is written again with a `$` after it, so that what a run wrote says which
+//! lines it took.
 
 ghost use Rattle.std.specs.Prelude.{◌+◌, ◌<◌, ◌^◌, length};
 
@@ -29,8 +30,8 @@ fn echo<R: Source, W: Sink>(
     }
 }
 
-/// How a run ended, whether the sink has what it should, and of the source and of the sink how many calls it took and whether one
-/// failed.
+/// How a run ended, whether the sink has what it should, and of the source and of the sink how many calls it
+/// took and whether one failed.
 type Ran = (Result<u64, LineFault>, bool, (u64, bool), (u64, bool));
 
 /// Echoes all lines of a source, and says how that ran where the sink should have this echo.
@@ -79,13 +80,15 @@ const TEXT: &[u8] = b"one\n\nthree\nfour";
 
 const ECHO: &[u8] = b"one$$three$four$";
 
-/// How many of the first bytes of the text are whole lines, where so many bytes are read: their echo has as many.
+/// How many of the first bytes of the text are whole lines, where so many bytes are read: their echo has as
+/// many.
 const WHOLE: [usize; 16] = [0, 0, 0, 0, 4, 5, 5, 5, 5, 5, 5, 11, 11, 11, 11, 11];
 
 #[test]
 fn stops_where_a_read_fails(rt: HostRuntime) -> Result<(), Fail> {
     let alloc = rt.alloc();
-    // Each read gives one byte, and one more meets the end: what was read before the failed one is answered.
+    // Each read gives one byte, and one more reaches the end: the lines read before the failed one are
+    // returned.
     for (call, whole) in WHOLE.iter().enumerate() {
         let reader = FailingReader::new(TEXT, 1, call as u64);
         let answered = ECHO.get(..*whole).unwrap_or(b"");
@@ -101,11 +104,11 @@ fn stops_where_a_read_fails(rt: HostRuntime) -> Result<(), Fail> {
         );
         assert!(rt; reads == (call as u64 + 1, true) && !writes.1, "at {call}");
     }
-    // The end is asked for once.
+    // One read reaches the end.
     let reader = FailingReader::new(TEXT, 1, TEXT.len() as u64 + 1);
     let ran = run(alloc, reader, FailingWriter::new(1000, u64::MAX), ECHO)?;
     assert!(rt; ran.0 == Ok(4) && ran.1);
-    // All answers of a block are written by one call, before the read that meets the end.
+    // All answers of a block are written by one call, before the read that reaches the end.
     let reader = FailingReader::new(TEXT, 100, 1);
     let (ended, is_echoed, _, writes) = run(
         alloc,
@@ -150,7 +153,7 @@ fn takes_line(alloc: Global, line: &[u8], step: usize) -> Result<bool, AllocErro
     Ok((taken == Ok(true)) & (lines.count() == 1) & (lines.line() == line))
 }
 
-/// The same of a long line. It is made here: a static of its length is dear to prove.
+/// Takes a long line in reads of this many bytes. It is made here: a static of its length is dear to prove.
 fn takes_long_line(alloc: Global, step: usize) -> Result<bool, AllocError> {
     let line = vec![in alloc; b'x'; 400_000]?;
     let takes = takes_line(alloc, &line, step);

@@ -1,13 +1,16 @@
-//! Readers and writers of std as sources and sinks: interruptions, failures, and what one answer means.
+//! Readers and writers of std as sources and sinks: interruptions, failures, and how one result is
+//! classified.
 
 ghost use Rattle.std.specs.Prelude.{◌≡◌, ◌≤◌, false, length, OnErr, Some};
 ghost use Rattle.hir_show_io.specs.Effects.{AppendsPrefix};
 
 use crate::fakes::{BreakingReader, BreakingWriter, Interrupted};
-use hir_show_io::{Attempt, EndFailed, Sink, Source, StdEnd, read_attempt, write_all, write_attempt};
+use hir_show_io::{
+    Attempt, EndFailed, Sink, Source, StdEnd, read_attempt, write_all, write_attempt,
+};
 use std::io::{Error, ErrorKind};
 
-/// What two calls in a row answer, whether one failed, and how many calls of std they make.
+/// What two calls in a row return, whether one failed, and how many calls of std they make.
 type Twice = (
     Result<usize, EndFailed>,
     Result<usize, EndFailed>,
@@ -36,7 +39,8 @@ const NONE: Twice = (Ok(0), Ok(0), false, 2);
 
 const FAILED: Twice = (Err(EndFailed), Err(EndFailed), true, 2);
 
-/// How often each call of std is interrupted, what it takes, the bytes to write, and what two reads and two writes do.
+/// How often each call of std is interrupted, what it takes, the bytes to write, and what two reads and two
+/// writes do.
 type Calls = (u32, Result<usize, ErrorKind>, &'static [u8], Twice, Twice);
 
 const CALLS: [Calls; 8] = [
@@ -90,7 +94,8 @@ fn interrupted_calls_alone_are_made_again(rt: HostRuntime) {
     }
 }
 
-/// Bytes that a call of std took, the bytes it was asked for, and what that means for a read and for a write.
+/// Bytes that a call of std took, the bytes it was asked for, and the attempt that this is for a read and for
+/// a write.
 const TAKEN: [(usize, usize, Attempt, Attempt); 5] = [
     (0, 0, Attempt::Done(0), Attempt::Done(0)),
     (0, 7, Attempt::Done(0), Attempt::Failed),
@@ -119,7 +124,8 @@ fn each_answer_is_weighed(rt: HostRuntime) {
     }
 }
 
-/// Writes over a writer of std. Where that fails, what the writer says that it took has grown by a front of the text.
+/// Writes over a writer of std. Where that fails, what the writer says that it took has grown by a prefix of
+/// the text.
 fn write_over(writer: &mut StdEnd<&mut BreakingWriter>, text: &[u8]) -> Result<(), EndFailed>
     ensures { OnErr result (AppendsPrefix (Some writer.old.inner.now.bytes.items)
         (Some writer.new.inner.now.bytes.items) text.now) }
@@ -137,7 +143,8 @@ fn a_failed_writer_says_what_it_took(rt: HostRuntime) {
     }
 }
 
-/// Reads once over a reader of std. Where that fails, the reader has left what it had, if that is within the allowance.
+/// Reads once over a reader of std. Where that fails, the reader has left what it had, if that is within the
+/// allowance.
 fn read_over(reader: &mut StdEnd<&mut BreakingReader>, room: &mut [u8]) -> Result<usize, EndFailed>
     ensures { reader.old.has_overrun ≡ false →
         length reader.old.inner.now.left.now ≤ reader.old.allowance →

@@ -1,4 +1,4 @@
-//! What lies under marked nodes.
+//! The descendants of marked nodes.
 
 use crate::making::{Edge, chain, parents_of};
 use std::alloc::{AllocError, Global};

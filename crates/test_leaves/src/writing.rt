@@ -6,8 +6,8 @@ use std::alloc::{AllocError, Global};
 use std::mem::drop;
 use std::test::Fail;
 
-/// How many bytes are written, how many calls are made after it, and how many bytes those have. A whole buffer waits; one byte more
-/// writes it, and a longer text goes past it.
+/// How many bytes are written, how many calls are made after it, and how many bytes those have. A whole
+/// buffer waits; one byte more writes it, and a longer text goes past it.
 const FILLS: [(usize, u64, usize); 6] = [
     (0, 0, 0),
     (2, 0, 0),
@@ -17,8 +17,8 @@ const FILLS: [(usize, u64, usize); 6] = [
     (1, 4, 135_539),
 ];
 
-/// How many of the texts, from the first one on, are written when they should be, and how many calls and bytes there are once
-/// what waits is written, where it is. To write it again is no call.
+/// How many of the texts, from the first one on, are written when they should be, and how many calls and
+/// bytes there are once what waits is written, where it is. To write it again is no call.
 fn fill(alloc: Global, text: &[u8]) -> Result<Option<(usize, u64, usize)>, AllocError> {
     let mut output = OutputBuffer::new(alloc)?;
     let mut writer = FailingWriter::new(1_000_000, u64::MAX);
@@ -36,7 +36,7 @@ fn fill(alloc: Global, text: &[u8]) -> Result<Option<(usize, u64, usize)>, Alloc
     Ok(None)
 }
 
-/// The same of the fronts of a text of 70,000 bytes. It is made here: a static of its length is dear to prove.
+/// Writes the prefixes of a text of 70,000 bytes. It is made here: a static of its length is dear to prove.
 fn fill_fronts(alloc: Global) -> Result<Option<(usize, u64, usize)>, AllocError> {
     let text = vec![in alloc; b'w'; 70_000]?;
     let filled = fill(alloc, &text);
@@ -44,7 +44,7 @@ fn fill_fronts(alloc: Global) -> Result<Option<(usize, u64, usize)>, AllocError>
     filled
 }
 
-/// Whether four numbers are written in digits, each with a comma behind it.
+/// Whether four numbers are written in digits, each with a comma after it.
 fn are_digits(alloc: Global) -> Result<bool, AllocError> {
     let mut output = OutputBuffer::new(alloc)?;
     let mut writer = FailingWriter::new(1_000_000, u64::MAX);
@@ -64,14 +64,16 @@ fn what_waits_is_written_in_time(rt: HostRuntime) -> Result<(), Fail> {
     Ok(())
 }
 
-/// Whether a text that is written byte by byte is a front of it where the call of this number fails, and one failure is told.
+/// Whether a text that is written byte by byte is a prefix of it where the call of this number fails, and one
+/// failure is returned.
 fn writes_a_front(call: u64) -> bool {
     let mut writer = FailingWriter::new(1, call);
     let ended = write_all(&mut writer, b"abcdef");
     ended == Err(EndFailed) && writer.bytes() == &b"abcdef"[..(call as usize).min(6)]
 }
 
-/// The same of what waits in a buffer. Nothing waits after a failed write, so the next has nothing to write.
+/// Flushes a buffer into a writer that fails at this call. Nothing waits after a failed write, so the next
+/// has nothing to write.
 fn flushes_a_front(alloc: Global, call: u64) -> Result<bool, AllocError> {
     let mut output = OutputBuffer::new(alloc)?;
     let mut sink = FailingWriter::new(1, call);
@@ -97,7 +99,8 @@ fn writes_a_front_before_it_fails(rt: HostRuntime) -> Result<(), Fail> {
     Ok(())
 }
 
-/// Whether the greatest number that is written digit by digit is a front of its digits where the call of this number fails.
+/// Whether the greatest number that is written digit by digit is a prefix of its digits where the call of
+/// this number fails.
 fn digits_are_a_front(call: u64) -> bool {
     let digits = b"18446744073709551615".as_slice();
     let mut writer = FailingWriter::new(1, call);

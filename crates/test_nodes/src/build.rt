@@ -1,5 +1,5 @@
-//! Lists, paths and generic arguments for the tests. What takes parts that may have been refused is said of any type, or opens them
-//! once: each `?` beside which something is owned is dear to prove.
+//! Lists, paths and generic arguments for the tests. What takes parts that may have been refused is said of
+//! any type, or opens them once: each `?` beside which something is owned is dear to prove.
 use hir_base::{Idx, ModPath, Name, PathKind, Seq};
 use hir_node::{
     AssociatedTypeBinding, Boxed, GenericArg, GenericArgs, GenericArgsParentheses, NormalPath,
@@ -21,7 +21,7 @@ pub fn two<T: Drop>(alloc: Global, first: T, second: T) -> Result<Seq<T>, AllocE
     Ok(list)
 }
 
-/// The list with the item behind it, if both could be made.
+/// The list with the item after it, if both could be made.
 pub fn with<T: Drop>(
     list: Result<Seq<T>, AllocError>,
     item: Result<T, AllocError>,
@@ -139,7 +139,7 @@ pub fn lists(
     lists
 }
 
-/// The names behind the anchor, with these lists.
+/// The names after the anchor, with these lists.
 pub fn with_lists(
     alloc: Global,
     lists: Result<Seq<Option<GenericArgs>>, AllocError>,
@@ -162,7 +162,7 @@ pub fn with_args_first(alloc: Global, texts: &[&str]) -> Result<Path, AllocError
     with_lists(alloc, lists(alloc, texts.len(), Some(0)), None, texts)
 }
 
-/// The path `a::b` behind the anchor, whose second name has the nested arguments.
+/// The path `a::b` after the anchor, whose second name has the nested arguments.
 pub fn nested_path(alloc: Global) -> Result<Path, AllocError> {
     let lists = with(only(alloc, Ok(None)), nested_args(alloc).map(Some));
     with_lists(alloc, lists, Some(anchor()), &["a", "b"])

@@ -1,4 +1,5 @@
-//! The calls of every visitor that rows don't make: parts that may be absent, lists, laws of arguments, and visitors that are lent.
+//! The calls of every visitor that golden cases don't make: parts that may be absent, lists, theorems of
+//! arguments, and visitors that are lent.
 #![tactic(auto, using(hir_node::proofs::RunLemmas::freely))]
 
 ghost use Rattle.std.specs.Prelude.{List};
@@ -16,7 +17,7 @@ use std::alloc::{AllocError, Global};
 use std::mem::drop;
 use std::test::Fail;
 
-// Whether one part of each kind, that is there, makes these calls.
+// Whether one part of each kind, where it is present, makes these calls.
 fn parts_give(calls: &[Call]) -> bool {
     let mut wanted = CallList::new(calls);
     wanted.on_expr_opt(Some(Idx::from_raw(1)));
@@ -70,7 +71,8 @@ const NESTED: [Call; 5] = [
     Call::Lifetime(5),
 ];
 
-// Whether a visit of the arguments makes the calls `NESTED`, and so do the visitor's calls with them. Their laws have nothing to run.
+// Whether a visit of the arguments makes the calls `NESTED`, and so do the visitor's calls with them. Their
+// theorems have nothing to run.
 fn give_nested(args: &GenericArgs) -> bool {
     laws::calls_of_generic_args(args);
     for binding in args.bindings.as_slice() {

@@ -32,7 +32,7 @@ fn slice(alloc: Global) -> Result<Pat, AllocError> {
     }
 }
 
-// Whether behind the first child pattern the iterator and a copy of it have the same ones left, and then none.
+// Whether after the first child pattern the iterator and a copy of it have the same ones left, and then none.
 fn copy_goes_on(pat: &Pat) -> Result<bool, AllocError> {
     let mut left = pat.child_pats();
     let first = left.next();

@@ -1,4 +1,4 @@
-//! The segments of a path: cuts of cuts, missing segments and laws. Rows ask for one cut alone.
+//! The segments of a path: cuts of cuts, missing segments and theorems. Golden cases ask for one cut alone.
 use crate::build;
 use hir_base::Name;
 use hir_path::{Path, PathSegment, PathSegments, laws};

@@ -1,4 +1,5 @@
-//! Hashes of nodes that have each kind of part that owns memory, sizes of nodes, and the copy that no row asks for.
+//! Hashes of nodes that have each kind of part that owns memory, sizes of nodes, and the copy that no golden
+//! case asks for.
 use crate::build;
 use hir_base::{
     ExactEq, ExternAbi, FunctionId, Idx, LangItemTarget, Name, Seq, ShortList, Text, TryClone,
@@ -85,7 +86,7 @@ fn function(alloc: Global) -> Result<FnType, AllocError> {
     }
 }
 
-// Function 4, as the item `new` of the language.
+// Function 4, as the lang item `new`.
 fn item(alloc: Global) -> Result<Path, AllocError> {
     let item = LangItemTarget::FunctionId(FunctionId::from_raw(4));
     match build::in_box(alloc, Name::new(alloc, "new")) {

@@ -1,9 +1,9 @@
-//! A builder that keeps what lines make, as it came, but for types, which rows see. Lines are compared by functions: a derived
-//! comparison is dear to prove, since it proves its laws.
+//! A builder that keeps what lines make, as it came, but for types, which golden cases see. Lines are
+//! compared by functions: a derived comparison is dear to prove, since it proves its theorems.
 
 use hir_base::{HygieneId, Name, Seq};
-use hir_show_grammar::{Builder, LineError, ask, make};
 use hir_node::{Binding, BindingId, Expr, ExprId, ExprOrPatId, Pat, PatId, TypeRef};
+use hir_show_grammar::{Builder, LineError, ask, make};
 use std::alloc::Global;
 
 /// A line that makes something.
@@ -11,7 +11,7 @@ use std::alloc::Global;
 pub enum Maker {
     Binding(Binding),
     Pat(Pat),
-    /// A type, whichever.
+    /// Any type.
     SomeType,
     Expr(Expr),
     Hygiene(ExprOrPatId, HygieneId),
@@ -27,7 +27,7 @@ pub enum Maker {
 pub enum Line {
     Blank,
     Make(Maker),
-    /// A question, whichever.
+    /// Any question.
     Ask,
     Bad,
 }

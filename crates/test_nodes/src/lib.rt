@@ -1,5 +1,6 @@
-//! The tests of `hir_node`, `hir_path` and `hir_show_grammar` through their public surface, of what no row of `hir_golden` asks: visitors that
-//! compare their calls, the copy of an iterator, cuts of cuts, laws, hashes, sizes, small calls, and what lines make that no row can see.
+//! The tests of `hir_node`, `hir_path` and `hir_show_grammar` through their public surface, of what no golden
+//! case of `hir_golden` asks: visitors that compare their calls, the copy of an iterator, cuts of cuts,
+//! theorems, hashes, sizes, small calls, and what lines make that no golden case can see.
 #![tactic(auto)]
 
 #[cfg(test)]

@@ -1,5 +1,6 @@
-//! What lines make, where no row can see it: the greatest number, numbers of each length, hygienes, what bindings have beside a name, ids of
-//! blocks and of macro definitions, what is printed alike, and a text that ends in a line end.
+//! What lines make, where no golden case can see it: the greatest number, numbers of each length, hygienes,
+//! what bindings have beside a name, ids of blocks and of macro definitions, what is printed alike, and a
+//! text that ends in a line end.
 
 use crate::kept_lines::{Line, Maker};
 use crate::says::{id, list, makes, says};
@@ -92,7 +93,7 @@ fn hygienes_of_paths(rt: HostRuntime) -> Result<(), Fail> {
     makes(&rt, alloc, b"pat-hygiene 7 0", of_pat)
 }
 
-// Both are printed alike, so that no row tells them apart.
+// Both are printed alike, so that no golden case tells them apart.
 #[test]
 fn patterns_of_values(rt: HostRuntime) -> Result<(), Fail> {
     let alloc = rt.alloc();
@@ -100,7 +101,8 @@ fn patterns_of_values(rt: HostRuntime) -> Result<(), Fail> {
     makes(&rt, alloc, b"pat expr 2", Maker::Pat(Pat::Expr(id(2))))
 }
 
-/// Texts of expressions, of which each is made by its place here: each function that holds expressions is dear to prove.
+/// Texts of expressions, of which each is made by its place here: each function that holds expressions is
+/// dear to prove.
 const TEXTS: [&[u8]; 5] = [
     b"expr loop 1",
     b"expr const 4294967295",

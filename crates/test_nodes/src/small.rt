@@ -1,4 +1,5 @@
-//! The small calls: ids, words before bindings and pointers, boxes, texts of floats and nodes, and function types.
+//! The small calls: ids, words before bindings and pointers, boxes, texts of floats and nodes, and function
+//! types.
 use crate::build;
 use hir_base::{ExternAbi, Idx, ShortList, Text};
 use hir_node::{

@@ -1,5 +1,5 @@
-//! A visitor that compares each call with the next one that is wanted. It takes no memory, and no call is compared as a whole: a derived
-//! comparison is dear to prove.
+//! A visitor that compares each call with the next one that is wanted. It takes no memory, and no call is
+//! compared as a whole: a derived comparison is dear to prove.
 use hir_node::{ExprId, LifetimeRefId, PatId, StoreVisitor, TypeRefId};
 
 /// A call of a visitor.

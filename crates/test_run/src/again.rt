@@ -1,5 +1,5 @@
-//! Whole runs in memory: how they end, and what is read and written. A run that was refused memory is made again, so that each
-//! test passes with any one allocation refused too.
+//! Whole runs in memory: how they end, and what is read and written. A run that was refused memory is made
+//! again, so that each test passes with any one allocation refused too.
 
 use crate::fakes::{FailingReader, FailingWriter};
 use hir_show_run::{RunFault, run, run_to_exit};
@@ -37,8 +37,8 @@ pub struct Seen<'a> {
     pub writer: FailingWriter,
 }
 
-/// Fails where the run of this case ended in another way, or wrote something else. What was seen is lent: an assert beside which something
-/// owned is alive is dear to prove.
+/// Fails where the run of this case ended in another way, or wrote something else. What was seen is lent: an
+/// assert beside which something owned is alive is dear to prove.
 pub fn ends(
     rt: &impl Abort,
     seen: &Seen<'_>,

@@ -1,5 +1,5 @@
-//! Ends that fail: at each read and at each write, what was answered before, and that the other end is left alone. Answers wait
-//! and are written before each read, at the end, and before a fault is told.
+//! Ends that fail: at each read and at each write, what was answered before, and that the other end is left
+//! alone. Answers wait and are written before each read, at the end, and before a fault is told.
 
 use crate::again::{Seen, by, ends, run_again, until};
 use hir_show_io::{Sink, Source};

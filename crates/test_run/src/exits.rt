@@ -1,4 +1,5 @@
-//! Runs for a process that ends behind them: they answer and end as runs that give their memory back, wherever they end.
+//! Runs for a process that ends behind them: they answer and end as runs that give their memory back,
+//! wherever they end.
 
 use crate::again::{Calls, Seen, by, run_again, run_to_exit_again, until};
 use crate::fakes::{FailingReader, FailingWriter};
@@ -88,7 +89,8 @@ fn run_both<'a>(
     left
 }
 
-/// Fails where a case of `RUNS` has written something else, or ended with another status, or where its fault isn't said.
+/// Fails where a case of `RUNS` has written something else, or ended with another status, or where its fault
+/// isn't said.
 fn answers(
     rt: &impl Abort,
     case: &(&[u8], &[u8], u8),
@@ -102,7 +104,8 @@ fn answers(
     assert_eq!(rt; errors.bytes.is_empty(), *status == 0, "{input:?}");
 }
 
-/// What the `main` of a process does: the same is written and reported, and the same status answered. Inputs and outputs are of `RUNS`.
+/// What the `main` of a process does: the same is written and reported, and the same status answered. Inputs
+/// and outputs are of `RUNS`.
 #[test]
 fn runs_and_reports_in_one_call(rt: HostRuntime) {
     let alloc = rt.alloc();

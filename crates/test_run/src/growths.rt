@@ -1,5 +1,6 @@
-//! Refused growths. With ample memory each run is the whole one; with an allocation refused, what was answered is compared, and
-//! the call is made again. The loop over the allocations is `scripts/refused-growths`.
+//! Refused growths. With ample memory each run is the whole one; with an allocation refused, what was
+//! answered is compared, and the call is made again. The loop over the allocations is
+//! `scripts/refused-growths`.
 
 use crate::again::{by, ends, run_once};
 use hir_show_run::RunFault;
@@ -10,7 +11,8 @@ use std::test::Fail;
 
 static LONG: [u8; 200_000] = [b'x'; 200_000];
 
-/// Lines for which each buffer grows: a name, lists of arguments, the arena, the roots, the tables of `finish`.
+/// Lines for which each buffer grows: a name, lists of arguments, the arena, the roots, the tables of
+/// `finish`.
 const MAKERS: &[u8] =
     b"bind a_name_of_some_length\npat bind 0 -\npat tuple 0\nparam 1\nself 0\nfn a_name_of_some_length\ntype path T\ntype tuple 0\nexpr path a_name_of_some_length\nexpr path b\nexpr path c\nexpr call 0 1,2\nexpr missing\nexpr missing\nexpr missing\nexpr missing\nexpr missing\nexpr tuple 4,5,6,7,8\nroot 3\nroot 9\n";
 

@@ -26,8 +26,8 @@ fn reports_to(
     assert_eq!(rt; errors.bytes.as_slice(), text);
 }
 
-/// Fails where an outcome is reported in other words or by another status. A sink that fails takes a front of the text, is
-/// called no more, and changes no status.
+/// Fails where an outcome is reported in other words or by another status. A sink that fails takes a front of
+/// the text, is called no more, and changes no status.
 fn reports(rt: &impl Abort, alloc: Global, outcome: Result<(), RunFault>, text: &str, status: u8) {
     for step in &[1, 1000] {
         let mut errors = FailingWriter::new(alloc, *step, u64::MAX);

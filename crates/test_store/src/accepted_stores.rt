@@ -24,7 +24,7 @@ fn a_chain_and_nothing(rt: HostRuntime) -> Result<(), Fail> {
     Ok(())
 }
 
-/// The roots 2 and 4, with two patterns and a binding made between them, and an expression behind.
+/// The roots 2 and 4, with two patterns and a binding made between them, and an expression after.
 const TWO_ROOTS: &[Step] = &[
     PATH,
     PATH,
@@ -39,7 +39,7 @@ const TWO_ROOTS: &[Step] = &[
     PATH,
 ];
 
-/// Whether the roots are 4 from the end, and then 2 from the front alone.
+/// Whether the roots are 4 from the end, and then 2 from the first on alone.
 fn are_4_and_2(mut roots: ExprRoots<'_>) -> bool {
     let last = roots.next_back();
     let first = roots.next();

@@ -1,4 +1,4 @@
-//! Whether what a bound names is there, and whether it is a path. Which path it is stands in rows.
+//! Whether what a bound names exists, and whether it is a path. Golden cases have which path it is.
 use crate::build::{NEVER, Step};
 use crate::nodes::TypeStep;
 use crate::outcomes;
@@ -10,7 +10,7 @@ use std::test::Fail;
 /// The types `a` and `!`.
 const TYPES: &[Step] = &[Step::Type(TypeStep::Path), NEVER];
 
-/// Whether what the bound by the type of this number names is there, and whether it is a path.
+/// Whether what the bound by the type of this number names exists, and whether it is a path.
 fn names(store: &ExpressionStore, number: u32) -> (bool, bool) {
     let id = PathId::from_type_ref_unchecked(Idx::from_raw(number));
     let bound = TypeBound::Path(id, TraitBoundModifier::Maybe);

@@ -1,5 +1,5 @@
 //! Builders, made of steps. A tree is a list of steps, so that few functions are lent a builder: its type is
-//! laid out in each anew. A call that is refused has to hand back what it was given and to leave the builder
+//! laid out in each anew. A call that is refused has to give back what it was given and to leave the builder
 //! as it was; it is made again then.
 use crate::entries::{ENTRIES, Entry, add_entry};
 use crate::nodes::{self, ExprStep, PatStep, TypeStep, Written};
@@ -8,7 +8,7 @@ use hir_node::{Expr, LifetimeRef};
 use hir_store::ExpressionStoreBuilder;
 use std::alloc::{AllocError, AllocFailed, Global};
 
-/// What a builder is told next. Nodes are named by their numbers.
+/// A call that a builder gets next. Nodes are named by their numbers.
 #[derive(Clone, Copy)]
 pub enum Step {
     /// A list of roots begins, where there is none.
@@ -42,7 +42,7 @@ pub const WILD: Step = Step::Pat(PatStep::Wild);
 /// The type `!`.
 pub const NEVER: Step = Step::Type(TypeStep::Never);
 
-/// Puts an entry of each kind, of this number, behind the steps.
+/// Puts an entry of each kind, of this number, after the steps.
 pub fn push_entries(steps: &mut Vec<Step>, number: u32) -> Result<(), AllocError> {
     for kind in &ENTRIES {
         steps.push(Step::Entry(*kind, number))?;
@@ -53,9 +53,9 @@ pub fn push_entries(steps: &mut Vec<Step>, number: u32) -> Result<(), AllocError
 /// Why something isn't built.
 #[derive(Debug, Drop)]
 pub enum BuildFault {
-    /// Memory was refused: what the call was given came back, or couldn't be made.
+    /// An allocation failed: what the call was given came back, or couldn't be made.
     Memory,
-    /// Memory was refused, and something else came back, or the builder is another one.
+    /// An allocation failed, and something else came back, or the builder is another one.
     Changed,
 }
 
@@ -187,8 +187,7 @@ pub fn in_a_box<T: Drop>(alloc: Global, value: T) -> Result<Box<T>, BuildFault> 
     }
 }
 
-/// The builder that these steps make where no memory is refused, in a box: what is dropped is then a
-/// pointer.
+/// The builder that these steps make where no allocation fails, in a box: what is dropped is then a pointer.
 pub fn build_once(
     alloc: Global,
     steps: &[Step],

@@ -1,4 +1,5 @@
-//! The laws of the libraries that a user relies on, each called as a user would: a call proves its law.
+//! The theorems of the libraries that a user relies on, each called as a user would: a call proves its
+//! theorem.
 use hir_source_map::laws as of_source_maps;
 use hir_store::laws as of_stores;
 

@@ -1,4 +1,5 @@
-//! Values that take no memory until they are written to, and what that leaves of the sizes of builders and stores.
+//! Values that take no memory until they are written to, and what that leaves of the sizes of builders and
+//! stores.
 use hir_base::{ExactEq, Seq, TryClone};
 use hir_rare::LazyBox;
 use hir_source_map::SourceMapBuilder;
@@ -18,7 +19,7 @@ fn read(list: &List) -> Option<&[u32]> {
     }
 }
 
-/// Adds a number behind the others.
+/// Adds a number after the others.
 fn add(list: &mut List, number: u32) -> Result<(), AllocError> {
     list.get_or_alloc()?.push(number)?;
     Ok(())

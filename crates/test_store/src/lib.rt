@@ -1,10 +1,12 @@
-//! What rows of text can't ask of `hir_store`: builders that come back or are compared, an arena that is replaced, a long chain, sets of
-//! nodes, values that take no memory, and texts of faults. What stores answer is in the rows of `hir_golden`. A test in which a growth is
-//! refused ends with that error.
+//! What golden cases can't ask of `hir_store`: builders that come back or are compared, an arena that is
+//! replaced, a long chain, sets of nodes, values that take no memory, and texts of faults. What stores answer
+//! is in the golden cases of `hir_golden`. A test in which an allocation fails ends with that error.
 #![tactic(auto)]
 
 #[cfg(test)]
 mod accepted_stores;
+#[cfg(test)]
+mod ancestors;
 #[cfg(test)]
 mod bounds;
 #[cfg(test)]

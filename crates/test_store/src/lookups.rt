@@ -19,7 +19,8 @@ const ITEMS: &[Step] = &[
     Step::Static,
 ];
 
-/// Which arenas have an item of this number: those of expressions, patterns, bindings, labels, types, lifetimes.
+/// Which arenas have an item of this number: those of expressions, patterns, bindings, labels, types,
+/// lifetimes.
 fn have(store: &ExpressionStore, number: u32) -> [bool; 6] {
     let expr: ExprId = Idx::from_raw(number);
     let pat: PatId = Idx::from_raw(number);
@@ -37,7 +38,8 @@ fn have(store: &ExpressionStore, number: u32) -> [bool; 6] {
     ]
 }
 
-/// Whether the expression is a path, and nothing qualifies it. By the laws the path may be asked: it has one list for each segment.
+/// Whether the expression is a path, and nothing qualifies it. By the theorems the path may be asked: it has
+/// one list for each segment.
 fn is_unqualified_path(
     alloc: Global,
     store: &ExpressionStore,

@@ -1,5 +1,5 @@
-//! The nodes of the tests, each made of what a step says of it. No builder is lent to what stands here.
-//! Nodes are named by their numbers: the first expression is 0, and so is the first pattern.
+//! The nodes of the tests, each made of what a step says of it. No builder is lent to what is here. Nodes are
+//! named by their numbers: the first expression is 0, and so is the first pattern.
 use crate::build::BuildFault;
 use hir_base::{
     BinaryOp, ExternAbi, HygieneId, Idx, LogicOp, ModPath, Name, PathKind, Seq, ShortList,
@@ -52,7 +52,7 @@ pub enum ExprStep {
 pub enum PatStep {
     /// `_`
     Wild,
-    /// The pattern that brings this binding into scope.
+    /// The pattern that binds this binding.
     Bind(u32),
     /// The tuple of these patterns.
     Tuple(&'static [u32]),
@@ -87,7 +87,7 @@ pub fn zip_ok<T: Drop, U: Drop>(
     }
 }
 
-/// The list with the item behind it, if both could be made.
+/// The list with the item after it, if both could be made.
 fn with<T: Drop>(
     list: Result<Seq<T>, AllocError>,
     item: Result<T, AllocError>,

@@ -20,7 +20,7 @@ fn in_boxes<T: Drop, E: Drop>(
     }
 }
 
-/// What the builder that was handed back makes, or its refusal.
+/// What the builder that was given back makes, or its refusal.
 fn finished_again(
     alloc: Global,
     refused: Box<Refused>,
@@ -30,7 +30,7 @@ fn finished_again(
 }
 
 /// What the builder of these steps makes, or its refusal. A builder that is refused has what the steps make,
-/// and is finished again: it has its fault again, and where memory was refused it is accepted.
+/// and is finished again: it has its fault again, and where an allocation fails it is accepted.
 fn finish_steps(
     alloc: Global,
     steps: &[Step],
@@ -78,7 +78,7 @@ fn zip_ok<T: Drop, U: Drop>(
 }
 
 /// Whether the builder of these steps is refused by this fault, and comes back as it was: as another one of
-/// the same steps. Where memory is refused, that is the error, and no wrong fault.
+/// the same steps. Where an allocation fails, that is the error, and no other fault.
 pub fn is_refused(alloc: Global, steps: &[Step], fault: FinishFault) -> Result<bool, BuildFault> {
     match zip_ok(build::build_once(alloc, steps), finish_steps(alloc, steps)) {
         Ok((wanted, outcome)) => match outcome {

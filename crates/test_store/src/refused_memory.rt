@@ -1,6 +1,6 @@
-//! Builders of which memory is refused to one call after another, by `scripts/refused-growths`: each call to
-//! which it is refused hands its value back, leaves the builder as it was, and is made again, so that the
-//! store is that of a builder that was refused nothing.
+//! Builders of which one call after another fails to allocate, by `scripts/refused-growths`: each call that
+//! fails gives its value back, leaves the builder as it was, and is made again, so that the store is that of
+//! a builder of which no call failed.
 use crate::build::{NEVER, PATH, Step, push_entries};
 use crate::nodes::{ExprStep, PatStep, Written};
 use crate::outcomes;
@@ -68,7 +68,7 @@ fn push_others(steps: &mut Vec<Step>, root: u32, number: u32) -> Result<(), Allo
     push_entries(steps, number)
 }
 
-/// The steps of a tree of so many expressions, and behind them the other calls of a builder, each so often
+/// The steps of a tree of so many expressions, and after them the other calls of a builder, each so often
 /// that what it adds to grows.
 fn with_other_calls(alloc: Global, tree: &[Step], exprs: u32) -> Result<Vec<Step>, AllocError> {
     let mut steps = Vec::with_capacity(alloc, 256)?;
@@ -79,8 +79,8 @@ fn with_other_calls(alloc: Global, tree: &[Step], exprs: u32) -> Result<Vec<Step
     Ok(steps)
 }
 
-/// Whether the store and the source map of a tree, with the other calls, are the same twice: a growth is
-/// refused once.
+/// Whether the store and the source map of a tree, with the other calls, are the same twice: an allocation
+/// fails once.
 fn is_made_again(alloc: Global, tree: &[Step], exprs: u32) -> Result<bool, Fail> {
     let steps = with_other_calls(alloc, tree, exprs)?;
     let first = outcomes::accept_steps(alloc, &steps)?;

@@ -1,6 +1,6 @@
-//! Builders that are refused: each by its first fault, and the builder handed back has what a second one has
-//! that was built by the same calls. The faults of other nodes are in rows; arenas that are replaced stand
-//! here alone.
+//! Builders that are refused: each by its first fault, and the builder given back has what a second one has
+//! that was built by the same calls. The faults of other nodes are in golden cases; arenas that are replaced
+//! are tested here alone.
 use crate::build::{NEVER, PATH, Step, push_entries};
 use crate::nodes::{ExprStep, TypeStep, Written};
 use crate::outcomes;
@@ -12,7 +12,7 @@ use std::test::Fail;
 /// A path without a list of roots.
 const NO_ROOTS: &[Step] = &[PATH];
 
-/// A tuple of expression 5, which isn't there.
+/// A tuple of expression 5, which doesn't exist.
 const OUT_OF_RANGE: &[Step] = &[Step::Begin, Step::Expr(ExprStep::Tuple(&[5]))];
 
 /// The type `!`, and one with a bound by it, which names what is no path.
@@ -33,7 +33,7 @@ const NO_SELF_ARGUMENT_DEEP_DOWN: &[Step] = &[
     Step::Expr(ExprStep::Path(Written::Nested(100, false))),
 ];
 
-/// The same, with the self type.
+/// A path whose list has its self type 100 bindings deep.
 const SELF_ARGUMENT_DEEP_DOWN: &[Step] = &[
     Step::Begin,
     NEVER,
@@ -104,7 +104,7 @@ enum Fault {
     RootOutOfRange(usize),
 }
 
-/// The fault as `finish` answers it.
+/// The fault as `finish` returns it.
 fn as_answered(fault: &Fault) -> FinishFault {
     let expr = NodeId::Expr(Idx::from_raw(0));
     match *fault {

@@ -11,7 +11,8 @@ use hir_store::{ExpressionStore, NodeSet};
 use std::alloc::{AllocError, Global};
 use std::test::Fail;
 
-/// A `let` in a tuple. Under the `let`, expression 1, lie expression 0 and pattern 0; pattern 1 lies apart; expression 2 is the root.
+/// A `let` in a tuple. The descendants of the `let`, expression 1, are expression 0 and pattern 0; pattern 1
+/// is disjoint; expression 2 is the root.
 const LET_IN_TUPLE: &[Step] = &[
     WILD,
     WILD,
@@ -21,7 +22,7 @@ const LET_IN_TUPLE: &[Step] = &[
     Step::Root(2),
 ];
 
-/// The set of the `let` and of the pattern that lies apart.
+/// The set of the `let` and of the pattern that is disjoint.
 fn mark_nodes(alloc: Global, store: &ExpressionStore) -> Result<NodeSet, AllocError>
     ensures { IfOk result (λ set. set.sizes ≡ sizes_of store.now.nodes) }
 {
@@ -57,7 +58,8 @@ fn answer_of_set(store: &ExpressionStore, set: &NodeSet, number: u32) -> Answer
     (expr, pat)
 }
 
-/// What a set of no nodes and the set of the marked ones have of number 1, and the set of what lies under these of 0, 1 and 2.
+/// What a set of no nodes and the set of the marked ones have of number 1, and the set of the descendants of
+/// these of 0, 1 and 2.
 fn all_held(alloc: Global, store: &ExpressionStore) -> Result<[Answer; 5], AllocError> {
     let none = store.no_nodes(alloc)?;
     let in_none = answer_of_set(store, &none, 1);

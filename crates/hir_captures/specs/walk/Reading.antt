@@ -1,34 +1,35 @@
--- How the reading of a closure's code goes on. Only contracts within this crate cite it.
+-- The steps of the reading of a closure's code. Only contracts within this crate cite them.
 use Rattle.std.specs.FinMap as map
 use Rattle.std.specs.List.{flat_map}
-use Rattle.std.specs.Prelude.{◌≡◌, ℕ, ◌-◌, ◌<◌, List, Option, fold, filter_map, length}
+use Rattle.std.specs.Prelude.{◌≡◌, ◌-◌, ◌<◌, List, Option, fold, filter_map, length}
+use Rattle.hir_path.specs.NodeIds.{ExprId, BindingId}
 use Rattle.hir_scope.specs.{Frames.Chain, Paths.chain, Scopes.Scopes}
 use Rattle.hir_captures.specs.{Captures.resolve_outside, Captures.with_new, Uses.Use, Uses.spot_uses}
 use Rattle.hir_captures.specs.declared.{code.Code.Code, tasks.Task.Task}
 use Rattle.hir_captures.specs.walk.Pending.{AreInRange, code_of}
 
--- the chain that the scopes have of an expression
-abbrev pub chain_in : Scopes → ℕ → Chain
+-- the chain that the scopes give an expression
+abbrev pub chain_in : Scopes → ExprId → Chain
 chain_in scopes expr = chain scopes.scopes (map.get scopes.scope_by_expr expr)
 
--- what a use captures, by the scopes
-abbrev pub captured_binding_in : Code → Use → Option ℕ
+-- the binding that a use captures, by the scopes
+abbrev pub captured_binding_in : Code → Use → Option BindingId
 captured_binding_in code use_ =
     let at = chain_in code.scopes.now use_.expr in
     resolve_outside (length at - code.outermost) at use_.name use_.hygiene
 
--- the captures of uses are added to what was found, each once
-abbrev pub with_uses : Code → List ℕ → List Use → List ℕ
+-- what was found, with the captures of uses, each once
+abbrev pub with_uses : Code → List BindingId → List Use → List BindingId
 with_uses code found uses = fold with_new found (filter_map (captured_binding_in code) uses)
 
--- and those of what is still to be read
-abbrev pub with_code : Code → List ℕ → List Task → List ℕ
+-- what was found, with the captures of what is still to be read, each once
+abbrev pub with_code : Code → List BindingId → List Task → List BindingId
 with_code code found tasks =
     with_uses code found (flat_map (spot_uses code.store.now) (code_of code.store.now.nodes tasks))
 
--- one task was done: all that is to be found stays the same
-pub record ReadsTask (code : Code) (before : List ℕ) (old : List Task) (after : List ℕ) (new : List Task)
-    : Type 0 where
+-- what holds before and after one task: all that is to be found stays the same
+pub record ReadsTask (code : Code) (before : List BindingId) (old : List Task)
+    (after : List BindingId) (new : List Task) : Type 0 where
   pub in_range : AreInRange code.store.now.nodes new
   pub finds : with_code code before old ≡ with_code code after new
   pub shorter : length (code_of code.store.now.nodes new) < length (code_of code.store.now.nodes old)

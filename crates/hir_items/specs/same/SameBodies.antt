@@ -1,10 +1,12 @@
--- That `==` of bodies decides whether they are the same, part by part, and that of their source maps whether what is compared is.
-use Rattle.std.specs.Prelude.{◌≡◌, ◌&&◌, ℕ, Option}
+-- Proofs that `==` of bodies decides whether they are the same, part by part, and that `==` of their source
+-- maps does whether the compared parts are.
+use Rattle.std.specs.Prelude.{◌≡◌, ◌&&◌, Option}
 use Rattle.std.specs.Bool.{Decides}
 use Rattle.std.specs.Cmp.Lexicographic.{pointwise_decides}
 use Rattle.std.specs.Option.{option_eq}
 use Rattle.hir_base.specs.Exact.{exact, options_decide}
 use Rattle.hir_base.specs.contracts.idx.IdxPartialEq.TheImpl as id
+use Rattle.hir_path.specs.NodeIds.{PatId, BindingId}
 use Rattle.hir_path.specs.same.Fields.{and_decides, both}
 use Rattle.hir_path.specs.contracts.ids.PatKind as pat
 use Rattle.hir_path.specs.contracts.ids.BindingKind as binding
@@ -17,15 +19,15 @@ use Rattle.hir_items.specs.contracts.body.BodyPartialEq.TheImpl as body
 use Rattle.hir_items.specs.contracts.body_source_map.BodySourceMapPartialEq.TheImpl as body_maps
 use Rattle.hir_items.specs.Bodies.{BodyContents}
 
-params_decide : (x y : Param ℕ) → Decides ((id.ghosts pat.the_row).eq x.formal y.formal
+params_decide : (x y : Param PatId) → Decides ((id.ghosts pat.the_row).eq x.formal y.formal
     && (id.ghosts pat.the_row).eq x.user_written y.user_written) (x ≡ y)
 params_decide x y = search exact
 
-self_decides : (x y : Param ℕ) → Decides ((id.ghosts binding.the_row).eq x.formal y.formal
+self_decides : (x y : Param BindingId) → Decides ((id.ghosts binding.the_row).eq x.formal y.formal
     && (id.ghosts binding.the_row).eq x.user_written y.user_written) (x ≡ y)
 self_decides x y = search exact
 
-selves_decide : (x y : Option (Param ℕ)) → Decides
+selves_decide : (x y : Option (Param BindingId)) → Decides
     (option_eq (λ x y. (id.ghosts binding.the_row).eq x.formal y.formal
     && (id.ghosts binding.the_row).eq x.user_written y.user_written) x y) (x ≡ y)
 selves_decide x y = search (exact, self_decides)

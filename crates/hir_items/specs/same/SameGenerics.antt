@@ -1,4 +1,4 @@
--- That `==` of generic parameters decides whether they are the same.
+-- Proof that `==` of generic parameters decides whether they are the same.
 use Rattle.std.specs.Prelude.{◌≡◌, List}
 use Rattle.std.specs.Bool.{Decides}
 use Rattle.std.specs.Cmp.{unsigned_Decides}
@@ -27,7 +27,7 @@ lifetimes_decide = pointwise_decides lifetimes_law.lawful.eq_decides
 predicates_decide : (xs ys : List WherePredicate) → Decides (pointwise predicates.ghosts.eq xs ys) (xs ≡ ys)
 predicates_decide = pointwise_decides predicates_law.lawful.eq_decides
 
--- the count, which `==` reads too, is that of the lifetimes
+-- `==` also reads the count of early bound lifetimes, which the lists give
 pub generics_decide : (x y : Generics) → Decides (generics.ghosts.eq x y) (x ≡ y)
 generics_decide x y =
     and_decides _ _ (params_decide x.type_or_consts y.type_or_consts)

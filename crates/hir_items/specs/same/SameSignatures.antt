@@ -1,4 +1,5 @@
--- That `==` of signatures, of fields and of what these are made of decides whether they are the same, field by field.
+-- Proofs that `==` of signatures, of fields and of their parts decides whether they are the same, field by
+-- field.
 use Rattle.std.specs.Prelude.{◌≡◌, ℕ, List, Option, Bool, eqb}
 use Rattle.std.specs.Bool.{Decides}
 use Rattle.std.specs.Option.{option_eq}

@@ -1,4 +1,5 @@
--- That `==` of generic arguments decides whether they are the same: by induction, since they lead back to themselves.
+-- That `==` of generic arguments decides whether they are the same: by induction, since they lead back to
+-- themselves.
 use Rattle.std.specs.Prelude.{◌≡◌, ℕ, List, [], ◌∷◌, Bool, Option, Some, None, map, eqb}
 use Rattle.std.proofs.Common.{refl, ap, sym, ◌∙◌, subst}
 use Rattle.std.specs.Bool.{Decides}

@@ -1,4 +1,5 @@
--- That `==` of scopes decides whether they are the same: their kinds, entries and parents, and the scope of each expression.
+-- Proof that `==` of scopes decides whether they are the same: their kinds, entries and parents, and the
+-- scope of each expression.
 use Rattle.std.specs.Bool.{Decides}
 use Rattle.std.specs.Cmp.{IsEquivalence, IsPartialEquivalence, decided, partial_equiv_from_equiv, nat_cmp_total, unsigned_Decides}
 use Rattle.std.specs.{Cmp.Lexicographic.pointwise, Cmp.Lexicographic.pointwise_decides, Option.option_eq}

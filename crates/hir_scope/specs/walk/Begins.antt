@@ -1,7 +1,9 @@
--- Where the walk over a body or a signature begins: its first scopes, and what it has to do. Only contracts within this crate cite it.
+-- The first state of the walk over a body or a signature: its scopes and its tasks. Only contracts within
+-- this crate cite it.
 use Rattle.std.specs.FinMap as map
 use Rattle.std.specs.List.{flat_map}
 use Rattle.std.specs.Prelude.{◌≡◌, ℕ, ◌<◌, suc, List, [], ◌∷◌, ◌++◌, Some, None, Contains, IfSome, length, option_map, slice_get, replicate}
+use Rattle.hir_path.specs.NodeIds.{ExprId, PatId}
 use Rattle.hir_node.specs.ChildCalls.{e, p, opt}
 use Rattle.hir_node.specs.declared.{node_id.NodeId.NodeId, pat.Pat.Pat}
 use Rattle.hir_forest.specs.Faults.{root_nodes}
@@ -17,14 +19,14 @@ use Rattle.hir_scope.specs.declared.scope.{ScopeEntry.ScopeEntry, ScopeKind.Scop
 use Rattle.hir_scope.specs.declared.tasks.{CurrentScopes.CurrentScopes, Task.Task}
 use Rattle.hir_scope.specs.walk.{WalkState.WalkState, Pending.tasks_of}
 
--- 1. What the laws say of what has no fault, where a walk over it needs it
+-- 1. What theorems say of nodes without a fault, where a walk over them needs it
 
 pub record IsSound (s : Nodes) : Type 0 where
   pub fall : RankDecreases s
   pub under : (n : NodeId) → nodes_under s n ≡ n ∷ flat_map (nodes_under s) (children_of s n)
-  pub bindings : (id : ℕ) → id < length s.pats
+  pub bindings : (id : PatId) → id < length s.pats
       → bindings_in s id ≡ bindings_at s id ++ flat_map (bindings_in s) (child_pats_of s id)
-  pub pats : (id : ℕ) (x : Pat) → slice_get s.pats id ≡ Some x → IsSoundNode s (tested_pat x)
+  pub pats : (id : PatId) (x : Pat) → slice_get s.pats id ≡ Some x → IsSoundNode s (tested_pat x)
 
 pub record IsSoundStore (c : Contents) : Type 0 where
   pub nodes : IsSound c.nodes
@@ -35,17 +37,17 @@ pub record IsSoundBody (b : BodyContents) : Type 0 where
   pub in_range : (n : NodeId) → Contains (entry_nodes b) n → Has b.store.nodes n
   pub self_in_range : IfSome b.self_param (AreBelow (length b.store.nodes.bindings))
 
--- 2. The state at first
+-- 2. The first state
 
 -- the first scope is current, also for constants
 abbrev pub at_first : CurrentScopes
 at_first = record { scope = 0; const_scope = 0 }
 
--- scopes that no expression has yet
+-- scopes of which no expression has one yet
 abbrev pub for_none : List Scope → Scopes
 for_none scopes = record { scopes = scopes; scope_by_expr = map.empty }
 
--- what the root scope of a body brings in
+-- the entries that the root scope of a body binds
 abbrev pub root_entries : BodyContents → List ScopeEntry
 root_entries b =
     (root_frame b.store.nodes (option_map (λ p. p.formal) b.self_param) (formals_of b.params)).entries
@@ -53,10 +55,10 @@ root_entries b =
 abbrev pub body_root : BodyContents → Scope
 body_root b = record { parent = None; kind = ScopeKind.None; entries = root_entries b }
 
-abbrev pub formal_tasks : List ℕ → List Task
+abbrev pub formal_tasks : List PatId → List Task
 formal_tasks formals = tasks_of (flat_map p formals)
 
--- a body's: the root scope, then the formals and the last root
+-- the first state over a body: the root scope, then the formals and the last root as tasks
 abbrev pub body_begins : BodyContents → WalkState
 body_begins b = record {
   scopes = for_none (body_root b ∷ []);
@@ -64,7 +66,7 @@ body_begins b = record {
   tasks = tasks_of (flat_map p (formals_of b.params) ++ opt e (last_root b.store));
 }
 
--- the root scope of a signature, and that of a root in it
+-- the root scope of a signature, and the scope of a root in it
 abbrev pub signature_root : Scope
 signature_root = record { parent = None; kind = ScopeKind.None; entries = [] }
 
@@ -75,14 +77,14 @@ scope_in_root = record { parent = Some 0; kind = ScopeKind.None; entries = [] }
 abbrev pub scopes_in_root : ℕ → List Scope
 scopes_in_root n = signature_root ∷ replicate n scope_in_root
 
--- each root in a scope of its own: the last in the first of these
-abbrev pub root_tasks : List ℕ → List Task
+-- the tasks of roots, each in a scope of its own: the last root in the first of these scopes
+abbrev pub root_tasks : List ExprId → List Task
 root_tasks [] = []
 root_tasks (root ∷ roots) =
     Task.Leave (suc (length roots)) (suc (length roots)) ∷ Task.Expr root ∷ root_tasks roots
 
--- a signature's, where these of its roots are to be met
-abbrev pub roots_begin : List ℕ → WalkState
+-- the first state over a signature, of which these are the roots to visit
+abbrev pub roots_begin : List ExprId → WalkState
 roots_begin roots = record {
   scopes = for_none (scopes_in_root (length roots));
   current = at_first;

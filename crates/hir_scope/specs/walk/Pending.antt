@@ -1,11 +1,14 @@
--- What a walk has still to do: the tasks of each scoping form, and the expressions that tasks will meet, each in its place.
+-- The work that a walk has still to do: the tasks of each scoping form, and the expressions that tasks will
+-- visit, each in its context.
 use Rattle.std.specs.List.{flat_map}
-use Rattle.std.specs.Prelude.{ℕ, List, [], ◌∷◌, ◌++◌, map, Option, Some, None}
+use Rattle.std.specs.Prelude.{List, [], ◌∷◌, ◌++◌, map, Option, Some, None}
+use Rattle.hir_path.specs.NodeIds.{ExprId, PatId}
 use Rattle.hir_node.specs.ChildCalls.{Call, OnExpr, OnAnonConst, OnPat, OnType, OnLifetime, e, t, opt, children}
 use Rattle.hir_node.specs.declared.expr_types.{Item.Item, MatchArm.MatchArm, Statement.Statement}
 use Rattle.hir_node.specs.declared.node_id.NodeId.{NodeId}
 use Rattle.hir_validate.specs.Nodes.{Nodes}
 use Rattle.hir_stack.specs.Stacks.{StackItems, Defers}
+use Rattle.hir_scope.specs.Scopes.{ScopeId}
 use Rattle.hir_scope.specs.{Chains.InContext, Chains.child_in_context, ScopingForms.ScopingForm}
 use Rattle.hir_scope.specs.ScopingForms as form
 use Rattle.hir_scope.specs.Frames.{Frame, Chain, frame, of_kind, empty}
@@ -40,7 +43,7 @@ statement_tasks (Statement.Expr expr has_semi) = tasks_of (e expr)
 statement_tasks (Statement.Item item) = item_tasks item
 
 -- the task of an arm
-abbrev pub guarded_task : ℕ → ℕ → Option ℕ → Task
+abbrev pub guarded_task : PatId → ExprId → Option ExprId → Task
 guarded_task pat expr None = Task.Arm pat expr
 guarded_task pat expr (Some guard) = Task.GuardedArm pat guard expr
 
@@ -50,7 +53,7 @@ arm_task arm = guarded_task arm.pat arm.expr arm.guard
 abbrev pub one_arm : MatchArm → List Task
 one_arm arm = arm_task arm ∷ []
 
-abbrev pub arm_with : ℕ → ℕ → Option ℕ → MatchArm
+abbrev pub arm_with : PatId → ExprId → Option ExprId → MatchArm
 arm_with pat expr guard = record { pat = pat; guard = guard; expr = expr }
 
 abbrev pub leave : CurrentScopes → Task
@@ -71,7 +74,7 @@ form_tasks current (form.Assignment target value) = Task.Pat target ∷ leave cu
 form_tasks current (form.PatternType type pat) = Task.TypeRef type ∷ Task.Bound pat ∷ leave current ∷ []
 form_tasks current (form.InTurn calls) = tasks_of calls
 
--- the frames that are opened as a node is met, around what is inside it
+-- the frames that are opened as a node is entered, around what is inside it
 abbrev pub opened_frames : Nodes → ScopingForm → Chain
 opened_frames s (form.If condition then_branch else_branch) = empty ∷ []
 opened_frames s (form.Block id label statements tail) = own_frame id label ∷ []
@@ -80,17 +83,19 @@ opened_frames s (form.Closure arg_types ret_type args body) = frame s args ∷ [
 opened_frames s (form.Assignment target value) = frame s (target ∷ []) ∷ []
 opened_frames s x = []
 
--- and around its constants
+-- the frames that are opened as a node is entered, around the constants in it
 abbrev pub opened_const_frames : ScopingForm → Chain
 opened_const_frames (form.Block id label statements tail) = block_const_frames id
 opened_const_frames x = []
 
--- the places of what an arm has in it
+-- the contexts of what is in an arm
 abbrev pub contexts_of_arm : Nodes → Chain → Chain → MatchArm → List InContext
-contexts_of_arm s scope const_scope arm = map (child_in_context scope const_scope) (arm_child_contexts s [] arm)
+contexts_of_arm s scope const_scope arm = map (child_in_context scope const_scope)
+    (arm_child_contexts s [] arm)
 
--- the expressions that tasks will meet, each in its place: `scope` and `const_scope` are the chains now, and `chain` that of each scope
-unfoldable pub future : Nodes → (ℕ → Chain) → Chain → Chain → List Task → List InContext
+-- the expressions that tasks will visit, each in its context: `scope` and `const_scope` are the chains now,
+-- and `chain` is that of each scope
+unfoldable pub future : Nodes → (ScopeId → Chain) → Chain → Chain → List Task → List InContext
 future s chain scope const_scope [] = []
 future s chain scope const_scope (Task.Expr id ∷ rest) =
     exprs_at s (NodeId.Expr id) scope const_scope
@@ -98,7 +103,8 @@ future s chain scope const_scope (Task.Expr id ∷ rest) =
 future s chain scope const_scope (Task.Constant id ∷ rest) =
     exprs_at s (NodeId.Expr id) const_scope const_scope ++ future s chain scope const_scope rest
 future s chain scope const_scope (Task.Pat id ∷ rest) =
-    exprs_at s (NodeId.Pat id) scope const_scope ++ future s chain (open_frames s (NodeId.Pat id) ++ scope) const_scope rest
+    exprs_at s (NodeId.Pat id) scope const_scope
+    ++ future s chain (open_frames s (NodeId.Pat id) ++ scope) const_scope rest
 future s chain scope const_scope (Task.TypeRef id ∷ rest) =
     exprs_at s (NodeId.TypeRef id) const_scope const_scope ++ future s chain scope const_scope rest
 future s chain scope const_scope (Task.Bound id ∷ rest) =
@@ -111,11 +117,12 @@ future s chain scope const_scope (Task.GuardedArm pat guard expr ∷ rest) =
     exprs_under s (contexts_of_arm s scope const_scope (arm_with pat expr (Some guard)))
     ++ future s chain scope const_scope rest
 future s chain scope const_scope (Task.MacroDef id ∷ rest) =
-    future s chain (of_kind (ScopeKind.MacroDef id) ∷ scope) (of_kind (ScopeKind.MacroDef id) ∷ const_scope) rest
+    future s chain (of_kind (ScopeKind.MacroDef id) ∷ scope)
+    (of_kind (ScopeKind.MacroDef id) ∷ const_scope) rest
 future s chain scope const_scope (Task.Leave outer outer_const ∷ rest) =
     future s chain (chain outer) (chain outer_const) rest
 
--- the nodes that a task is about
+-- the nodes of a task
 abbrev pub task_children : Task → List NodeId
 task_children (Task.Expr id) = NodeId.Expr id ∷ []
 task_children (Task.Constant id) = NodeId.Expr id ∷ []

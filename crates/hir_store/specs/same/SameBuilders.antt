@@ -1,4 +1,4 @@
--- Only a proof: that `==` of builders decides whether they have the same, part by part.
+-- Proof that `==` of builders decides whether they have the same, part by part.
 use Rattle.std.specs.Prelude.{◌≡◌, true}
 use Rattle.std.specs.Bool.{Decides}
 use Rattle.std.specs.Cmp.Lexicographic.{nat_list_cmp_total, pointwise_decides}
@@ -19,7 +19,7 @@ use Rattle.hir_store.specs.declared.builder.ExpressionStoreBuilder.{ExpressionSt
 use Rattle.hir_store.specs.contracts.builder.ExpressionStoreBuilderPartialEq.TheImpl as builders
 use Rattle.hir_store.specs.Building.{HasTheSame}
 
--- two handles to the memory are never told apart
+-- two handles to the memory are always equal
 handles_decide : Decides true (true ≡ true)
 handles_decide = (λ h. refl, λ e. refl)
 

@@ -1,4 +1,4 @@
--- Only a proof: that `==` of lists of roots decides whether they are the same.
+-- Proof that `==` of lists of roots decides whether they are the same.
 use Rattle.std.specs.Prelude.{◌≡◌, List}
 use Rattle.std.specs.Bool.{Decides}
 use Rattle.std.specs.Cmp.Lexicographic.{pointwise, pointwise_decides}

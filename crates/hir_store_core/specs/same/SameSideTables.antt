@@ -1,4 +1,4 @@
--- Only a proof: that `==` of what is said of nodes besides decides whether it is the same.
+-- Proof that `==` of side tables decides whether they are the same.
 use Rattle.std.specs.Prelude.{◌≡◌}
 use Rattle.std.specs.Bool.{Decides}
 use Rattle.std.specs.Cmp.Lexicographic.{nat_list_cmp_total, pointwise_decides}

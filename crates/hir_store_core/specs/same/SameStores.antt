@@ -1,4 +1,4 @@
--- What `==` of stores tests, part by part, and that it decides whether they are the same.
+-- What `==` of stores tests, part by part, and the proof that it decides whether they are the same.
 use Rattle.std.specs.Prelude.{◌≡◌, Bool, ◌&&◌}
 use Rattle.std.specs.Bool.{Decides}
 use Rattle.std.specs.Cmp.{IsEquivalence, IsPartialEquivalence, decided, partial_equiv_from_equiv}
@@ -22,7 +22,7 @@ use Rattle.hir_store_core.specs.same.SameRoots.{root_lists_decide}
 use Rattle.hir_store_core.specs.same.SameSideTables.{side_tables_decide}
 use Rattle.hir_store_core.specs.contracts.side_tables.SideTablesPartialEq.TheImpl as side_tables
 
--- all parts but the parents, which the nodes give
+-- all parts are the same, but the parents, which the nodes give
 abbrev pub same_stores : Contents → Contents → Bool
 same_stores x y =
     pointwise expr.ghosts.eq x.nodes.exprs y.nodes.exprs
@@ -70,7 +70,7 @@ stores_decide x y =
       ),
     ))
 
--- so it is an equality
+-- `==` of stores is an equivalence
 pub stores_equiv : IsEquivalence same_stores
 stores_equiv = decided same_stores stores_decide
 

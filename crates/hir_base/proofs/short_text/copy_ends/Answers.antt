@@ -4,7 +4,7 @@ use Rattle.std.proofs.lemmas.Slice.{take-put_mid}
 use borrow.Rule.Slice.PartMut.{put_mid}
 use Rattle.hir_base.proofs.short_text.copy_ends.Goals as goal
 
--- the first bytes of the front and, behind them, the last bytes are the text
+-- a prefix of the text, and after it the last bytes, are the text
 ends : (n : ℕ) (text old : List ℕ) → n ≤ length text → length text ≤ n + n →
     let rest : ℕ = length text - n in
     take (length text) (put_mid rest (length text - rest) (take n text ++ old) (drop rest text)) ≡ text

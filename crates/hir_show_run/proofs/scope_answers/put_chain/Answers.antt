@@ -14,7 +14,7 @@ pub loop-around-preserved : goal.loop-around-preserved
 loop-around-preserved g c =
     rw (along_more c.args.scopes.now.scopes c.loop-around.yielded c.in-Some.around) (put_then g.W.Sink c.args.output.now c.loop-around.output c.put_scope.new.output (names_along c.args.scopes.now.scopes c.loop-around.yielded) (names_text (entries_of (frame_at c.args.scopes.now.scopes c.in-Some.around))) c.loop-around.invariant c.put_scope.ensures)
 
--- a scope that the chain gives is there
+-- a scope that the chain gives is in range
 pub put_scope-requires : goal.put_scope-requires
 put_scope-requires g c =
     let around : List ℕ = path c.args.scopes.now.scopes (Some c.args.scope) in

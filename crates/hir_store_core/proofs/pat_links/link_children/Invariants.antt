@@ -4,7 +4,7 @@ use Rattle.hir_node.specs.ChildCalls.{child_pats}
 use Rattle.hir_store_core.specs.PatLinks.{link_children}
 use Rattle.hir_store_core.proofs.pat_links.link_children.Given as goal
 
--- the links of this child and of those behind it are still to be set
+-- the links of this child and of those after it are still to be set
 abbrev pub invariant-loop-next : goal.invariant-loop-next
 invariant-loop-next l = record {
   next : goal.iterator-loop-next.can_next l.next-iterator;

@@ -1,0 +1,14 @@
+-- Abbreviates the numbers of ids of definitions, so that a definition says which id it takes.
+use Rattle.std.specs.Prelude.{ℕ}
+
+-- the id of a block expression that holds items
+abbrev pub BlockId : Type 0
+BlockId = ℕ
+
+-- the id of a macro definition
+abbrev pub MacroDefId : Type 0
+MacroDefId = ℕ
+
+-- the id of a macro call
+abbrev pub MacroCallId : Type 0
+MacroCallId = ℕ
