@@ -20,8 +20,8 @@ put_scope-requires g c =
     let around : List ℕ = path c.args.scopes.now.scopes (Some c.args.scope) in
     let same : c.into_iter-around-iterator.result ≡ around = grind (arith, c.into_iter-around-iterator.ensures.into_iter_gives, c.scope_chain-around-items.ensures.is) in
     let turn = YieldsList-turn (YieldsList-from_first (λ x. x) (λ rest. rest) {s = c.into_iter-around-iterator.result} around same) c.loop-around.yielded c.loop-around.around-iterator c.loop-around.yielded_by c.next.result c.next.new.self c.in-Some.around c.in-Some.is c.next.ensures.steps in
-    let there : All (λ (a : ℕ). a < length c.args.scopes.now.scopes) around = rw c.scope_chain-around-items.ensures.is at c.scope_chain-around-items.ensures.there in
-    subst (λ (a : ℕ). a < length c.args.scopes.now.scopes) (sym turn.1) (All-get_or (λ (a : ℕ). a < length c.args.scopes.now.scopes) around (length c.loop-around.yielded) c.in-Some.around turn.0 there)
+    let in_range : All (λ (a : ℕ). a < length c.args.scopes.now.scopes) around = rw c.scope_chain-around-items.ensures.is at c.scope_chain-around-items.ensures.in_range in
+    subst (λ (a : ℕ). a < length c.args.scopes.now.scopes) (sym turn.1) (All-get_or (λ (a : ℕ). a < length c.args.scopes.now.scopes) around (length c.loop-around.yielded) c.in-Some.around turn.0 in_range)
 
 pub returns : goal.returns
 returns g c =
