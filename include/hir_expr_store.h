@@ -44,13 +44,13 @@ typedef struct {
  * Where report->length exceeds buffer_length, the same call with a buffer of report->length bytes gets all of them.
  *
  * Proved: no byte past the buffer is written, and there are answers of which the buffer has a front, and report the length. Tested: which
- * answers these are, the status and the line. Each question on scopes (chain, frames, resolve, captures) makes the scopes of its body anew, in
- * time linear in its nodes.
+ * answers these are, the status and the line. The scopes of a body are made at the first question on scopes or captures
+ * (chain, frames, resolve, captures), and kept for the others of the text.
  *
  * The caller owes: text, buffer and report aren't NULL, also where a length is 0; they lie in memory that is the caller's for the time of
  * the call, of which buffer and report are written by nobody else, and don't overlap each other or text; a length is below 2^63.
  * Nothing is kept between two calls and nothing is global, so any thread may call at any time, but no signal handler. All memory is given
- * back, but where the text has the line "run": the program that it runs leaves what it made, as a process does at its end.
+ * back.
  */
 uint32_t hir_expr_store_answer(const uint8_t *text, size_t text_length, uint8_t *buffer, size_t buffer_length,
                                hir_expr_store_report *report);

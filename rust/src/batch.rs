@@ -17,6 +17,8 @@ use std::fmt;
 pub struct Question<T> {
     index: usize,
     read: fn(&str) -> Option<T>,
+    /// Reads a refusal that is itself what the question asks for, as why there is no rename.
+    read_refusal: fn(&str) -> Option<T>,
 }
 
 impl<T> Clone for Question<T> {
@@ -149,10 +151,24 @@ impl<'a> Batch<'a> {
         self.questions.is_empty()
     }
 
-    fn push<T>(&mut self, line: String, read: fn(&str) -> Option<T>) -> Question<T> {
+    pub(crate) fn push<T>(&mut self, line: String, read: fn(&str) -> Option<T>) -> Question<T> {
+        self.push_or(line, read, |_| None)
+    }
+
+    /// The same, of a question that some refusals are an answer to.
+    pub(crate) fn push_or<T>(
+        &mut self,
+        line: String,
+        read: fn(&str) -> Option<T>,
+        read_refusal: fn(&str) -> Option<T>,
+    ) -> Question<T> {
         let index = self.questions.len();
         self.questions.push(line);
-        Question { index, read }
+        Question {
+            index,
+            read,
+            read_refusal,
+        }
     }
 
     /// The child expressions of an expression: those of its patterns too.
@@ -321,7 +337,10 @@ impl Answers {
     /// The answer to a question of the batch.
     pub fn get<T>(&self, question: Question<T>) -> Result<T, Refusal> {
         match self.answers.get(question.index) {
-            Some(answer) if answer.is_refusal => Err(Refusal::from_text(&answer.text)),
+            Some(answer) if answer.is_refusal => match (question.read_refusal)(&answer.text) {
+                Some(value) => Ok(value),
+                None => Err(Refusal::from_text(&answer.text)),
+            },
             Some(answer) => match (question.read)(&answer.text) {
                 Some(value) => Ok(value),
                 None => Err(Refusal::BadAnswer(answer.text.clone())),
@@ -331,13 +350,13 @@ impl Answers {
     }
 }
 
-fn read_id<I: Id>(text: &str) -> Option<I> {
+pub(crate) fn read_id<I: Id>(text: &str) -> Option<I> {
     let mut words = Words::new(text);
     let id = words.next_id()?;
     words.is_end().then_some(id)
 }
 
-fn read_opt_id<I: Id>(text: &str) -> Option<Option<I>> {
+pub(crate) fn read_opt_id<I: Id>(text: &str) -> Option<Option<I>> {
     match text {
         "none" => Some(None),
         _ => Some(Some(read_id(text)?)),
@@ -345,7 +364,10 @@ fn read_opt_id<I: Id>(text: &str) -> Option<Option<I>> {
 }
 
 /// Each of these words, to the end.
-fn read_words<'a, T>(text: &'a str, read: fn(&mut Words<'a>) -> Option<T>) -> Option<Vec<T>> {
+pub(crate) fn read_words<'a, T>(
+    text: &'a str,
+    read: fn(&mut Words<'a>) -> Option<T>,
+) -> Option<Vec<T>> {
     let mut words = Words::new(text);
     let mut items = Vec::new();
     while !words.is_end() {
@@ -355,7 +377,7 @@ fn read_words<'a, T>(text: &'a str, read: fn(&mut Words<'a>) -> Option<T>) -> Op
     Some(items)
 }
 
-fn read_ids<I: Id>(text: &str) -> Option<Vec<I>> {
+pub(crate) fn read_ids<I: Id>(text: &str) -> Option<Vec<I>> {
     read_words(text, Words::id)
 }
 
@@ -380,7 +402,7 @@ fn read_children(text: &str) -> Option<Vec<Child>> {
     read_words(text, read_child)
 }
 
-fn read_entry(words: &mut Words<'_>) -> Option<ScopeEntry> {
+pub(crate) fn read_entry(words: &mut Words<'_>) -> Option<ScopeEntry> {
     let name = words.name()?;
     words.expect("=")?;
     let binding = words.id()?;

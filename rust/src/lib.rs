@@ -58,6 +58,7 @@ pub mod hir;
 pub mod lines;
 pub mod notation;
 
+mod ancestors;
 mod arena;
 mod batch;
 mod body;
@@ -69,6 +70,7 @@ mod ids;
 mod name;
 mod store;
 mod tables;
+mod uses;
 
 pub use arena::Arena;
 pub use batch::{Answers, Batch, Child, Edition, Frame, Question, ScopeEntry};
@@ -88,3 +90,4 @@ pub use ids::{
 pub use name::{HygieneId, Name};
 pub use store::{ExprOrPatId, ExpressionStore, ExpressionStoreBuilder, Refused};
 pub use tables::Tables;
+pub use uses::{RenameFault, Usage};

@@ -20,6 +20,16 @@ pub enum ExprOrPatId {
     PatId(PatId),
 }
 
+/// The id, as `ExprId(3)`.
+impl fmt::Display for ExprOrPatId {
+    fn fmt(&self, f: &mut fmt::Formatter<'_>) -> fmt::Result {
+        match self {
+            ExprOrPatId::ExprId(id) => fmt::Display::fmt(id, f),
+            ExprOrPatId::PatId(id) => fmt::Display::fmt(id, f),
+        }
+    }
+}
+
 /// The nodes and roots of a builder and of a store.
 #[derive(Clone, PartialEq, Eq, Debug, Default)]
 struct Parts {

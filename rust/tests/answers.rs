@@ -1,45 +1,21 @@
 //! Typed questions and answers on bodies that are built here, and the faults of builders and bodies.
 
+#[path = "common/nodes.rs"]
+mod nodes;
+
 use hir_expr_store::hir::{
     Array, Binding, CaptureBy, ClosureKind, Expr, GenericArg, GenericArgs, Label, Literal,
     LoopSource, MatchArm, ModPath, Mutability, NormalPath, Pat, Path, PathId, PathKind, Rawness,
-    Statement, TraitBoundModifier, TypeBound, TypeRef, Unsafe,
+    Statement, TraitBoundModifier, TypeBound, TypeRef,
 };
 use hir_expr_store::{
-    Batch, BindingId, Body, BodyError, BodyFault, Child, DefWithBodyId, Edition, ExprId,
-    ExprOrPatId, ExpressionStoreBuilder, FinishError, FinishFault, Frame, FunctionId, HygieneId,
-    Missing, Name, NamedDef, NodeId, Param, PatId, Refusal, ScopeEntry, StructId, Tables,
-    TypeRefId,
+    Batch, BindingId, Body, BodyError, BodyFault, Child, Edition, ExprId, ExprOrPatId,
+    ExpressionStoreBuilder, FinishError, FinishFault, Frame, FunctionId, HygieneId, Missing, Name,
+    NamedDef, NodeId, Param, Refusal, ScopeEntry, StructId, Tables, TypeRefId,
 };
+use nodes::{bind, block, f, local};
 
 type Outcome = Result<(), Box<dyn std::error::Error>>;
-
-fn f() -> DefWithBodyId {
-    FunctionId::from_raw(0).into()
-}
-
-fn local(builder: &mut ExpressionStoreBuilder, name: &str) -> ExprId {
-    builder.alloc_expr(Expr::Path(Path::from_name(Name::new(name))))
-}
-
-fn bind(builder: &mut ExpressionStoreBuilder, name: &str) -> (BindingId, PatId) {
-    let id = builder.alloc_binding(Binding::new(Name::new(name)));
-    (id, builder.alloc_pat(Pat::Bind { id, subpat: None }))
-}
-
-fn block(
-    builder: &mut ExpressionStoreBuilder,
-    statements: Vec<Statement>,
-    tail: Option<ExprId>,
-) -> ExprId {
-    builder.alloc_expr(Expr::Block {
-        id: None,
-        statements,
-        tail,
-        label: None,
-        unsafe_: Unsafe::No,
-    })
-}
 
 /// `fn f(a, b) { let c = |d| (a, d, a, ); c }`
 struct Closure {

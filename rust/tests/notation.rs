@@ -97,15 +97,18 @@ fn rewritten(line: &str) -> Option<Option<String>> {
     Some(written.map(|written| format!("{word} {written}")))
 }
 
-/// Whether the library makes the same node of two lines.
+/// Whether the library makes the same node of two lines: it writes one line for both.
 fn are_equal(line: &str, written: &str) -> bool {
     let arena = match line.split_once(' ') {
         Some(("bind", _)) => "binding",
         Some((word, _)) => word,
         None => return false,
     };
-    let text = format!("{line}\n{written}\nroots\nequal {arena}:0 {arena}:1\n");
-    answer(&text).answers == "= yes\n"
+    let text = format!("{line}\n{written}\nroots\nline {arena}:0\nline {arena}:1\n");
+    match answer(&text).split().as_slice() {
+        [first, second] => !first.is_refusal && first == second,
+        _ => false,
+    }
 }
 
 fn met(forms: &BTreeSet<String>, word: &str) -> Vec<String> {

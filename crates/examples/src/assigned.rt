@@ -1,8 +1,6 @@
 //! The variables that an assignment writes to.
 
-use hir_error::HirError;
-use hir_node::{Expr, PatId};
-use hir_store::ExpressionStore;
+use hir::{Expr, ExpressionStore, HirError, PatId};
 use std::alloc::Global;
 
 /// The patterns in the target of an assignment, of which each path is a variable that is assigned to; none of

@@ -1,9 +1,9 @@
 //! The bodies that the examples work on.
 
-use hir_error::HirError;
-use hir_items::Body;
-use hir_make::{assign, bind, block, body, closure, let_, local, statement, tuple};
-use hir_store::ExpressionStoreBuilder;
+use hir::{
+    Body, ExpressionStoreBuilder, HirError, assign, bind, block, body, closure, let_, local,
+    statement, tuple,
+};
 use std::alloc::Global;
 
 /// The body of `fn f(x) { let y = x; let z = w; v = y; y }`. Nothing has the name `w` or `v`, and `z` isn't

@@ -2,17 +2,14 @@
 
 ghost use Rattle.std.specs.Prelude.{◌↔◌, ℕ, IsSome};
 ghost use Rattle.std.specs.FinMap as map;
-ghost use Rattle.hir_node.specs.declared.node_id.NodeId.TheVariants as node;
-ghost use Rattle.hir_items.specs.Bodies.{BodyReaches};
-ghost use Rattle.hir_scope.specs.BodyScopes.{ChainsAreFrames, entry_nodes_of_body};
+ghost use Rattle.hir.specs.NodeId.TheVariants as node;
+ghost use Rattle.hir.specs.Bodies.{BodyReaches};
+ghost use Rattle.hir.specs.BodyScopes.{ChainsAreFrames, entry_nodes_of_body};
 
 use crate::bodies::closures;
-use hir_captures::{CapturesFault, captures};
-use hir_error::HirError;
-use hir_items::Body;
-use hir_node::{BindingId, ExprId};
-use hir_scope::ExprScopes;
-use hir_store::ExpressionStore;
+use hir::{
+    BindingId, Body, CapturesFault, ExprId, ExprScopes, ExpressionStore, HirError, captures,
+};
 use std::alloc::Global;
 
 /// A closure, and the bindings from outside that its code uses, in the order of their first use.
@@ -44,6 +41,12 @@ fn captures_by_closure(
     Ok(found)
 }
 
+/// What each closure of the body captures, with scopes made for it.
+fn captures_of_body(alloc: Global, body: &Body) -> Result<Vec<ClosureCaptures>, HirError> {
+    let scopes = ExprScopes::new_body(alloc, body)?;
+    captures_by_closure(alloc, body, &scopes)
+}
+
 /// Prints a closure, and the names of what it captures.
 fn print_one(
     rt: &impl Print,
@@ -62,8 +65,7 @@ fn print_one(
 /// Prints those of the body `closures`.
 pub fn print(rt: &impl Print, alloc: Global) -> anyhow::Result<()> {
     let body = closures(alloc)?;
-    let scopes = ExprScopes::new_body(alloc, &body)?;
-    for found in &captures_by_closure(alloc, &body, &scopes)? {
+    for found in &captures_of_body(alloc, &body)? {
         print_one(rt, body.store(), found)?;
     }
     Ok(())

@@ -1,10 +1,12 @@
-//! Examples, a module each: a tour of what a body is asked, and what the names of a body mean: the paths that
-//! resolve to nothing, the bindings that no path resolves to, and what closures capture.
+//! Examples, a module each: a tour of the store, the scopes and the text of a body; what the names of a body
+//! resolve to, with the paths that resolve to nothing, the bindings that no path resolves to, and what
+//! closures capture; and nodes and signatures that helpers make.
 #![tactic(auto)]
 
 mod assigned;
 mod bodies;
 mod captures;
+mod made;
 mod tour;
 mod unresolved;
 mod unused;
@@ -17,5 +19,7 @@ fn main(rt: HostRuntime) -> anyhow::Result<()> {
     println!(rt; "unused:")?;
     unused::print(&rt, rt.alloc())?;
     println!(rt; "captures:")?;
-    captures::print(&rt, rt.alloc())
+    captures::print(&rt, rt.alloc())?;
+    println!(rt; "made by helpers:")?;
+    made::print(&rt, rt.alloc())
 }

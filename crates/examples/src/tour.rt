@@ -2,18 +2,15 @@
 //! each expression.
 ghost use Rattle.std.specs.Prelude.{◌≡◌, ◌<◌, length, option_map};
 ghost use Rattle.std.specs.FinMap as map;
-ghost use Rattle.hir_store_core.specs.RootSearch.{root_for_expr};
-ghost use Rattle.hir_scope.specs.Paths.{chain};
-ghost use Rattle.hir_scope.specs.Resolution.{resolve};
+ghost use Rattle.hir.specs.RootSearch.{root_for_expr};
+ghost use Rattle.hir.specs.ScopePaths.{chain};
+ghost use Rattle.hir.specs.Resolution.{resolve};
 
-use hir_base::{DefWithBodyId, Edition, FunctionId, HygieneId, Name, NamedDef, Text};
-use hir_defs::{Body, Tables};
-use hir_error::HirError;
-use hir_make::{bind, block, let_, local, params};
-use hir_node::{BindingId, Expr, ExprId, Mutability, Rawness};
-use hir_pretty::print_body_hir;
-use hir_scope::ExprScopes;
-use hir_store::{ExpressionStore, ExpressionStoreBuilder};
+use hir::{
+    BindingId, Body, DefWithBodyId, Edition, Expr, ExprId, ExprScopes, ExpressionStore,
+    ExpressionStoreBuilder, FunctionId, HirError, HygieneId, Mutability, Name, NamedDef, Rawness,
+    Tables, Text, bind, block, let_, local, params, print_body_hir,
+};
 use std::alloc::Global;
 
 /// The body of `fn f(x) { let x = &x; x }`.
@@ -36,7 +33,7 @@ fn build(alloc: Global) -> Result<Body, HirError> {
 }
 
 /// The text of a function with this name and this body.
-fn text(alloc: Global, name: &str, body: &Body) -> Result<String, HirError> {
+pub fn text(alloc: Global, name: &str, body: &Body) -> Result<String, HirError> {
     let id = FunctionId::from_raw(0);
     let mut tables = Tables::new(alloc);
     tables.add_name(NamedDef::FunctionId(id), Some(Text::from_str(alloc, name)?))?;
@@ -64,8 +61,8 @@ fn root_of(store: &ExpressionStore, expr: ExprId) -> Option<ExprId>
     }
 }
 
-/// The binding that a name of this hygiene means at an expression, where it means one.
-fn meaning_at(
+/// The binding that a name of this hygiene resolves to at an expression, where it resolves to one.
+fn resolved_at(
     scopes: &ExprScopes,
     expr: ExprId,
     name: &Name,
@@ -87,15 +84,15 @@ fn print_children(rt: &impl Print, alloc: Global, body: &Body) -> anyhow::Result
     Ok(())
 }
 
-/// Prints the root that each expression is under, and the binding that `x` means there.
-fn print_meanings(rt: &impl Print, alloc: Global, body: &Body) -> anyhow::Result<()> {
+/// Prints the root that each expression belongs to, and the binding that `x` resolves to there.
+fn print_resolved(rt: &impl Print, alloc: Global, body: &Body) -> anyhow::Result<()> {
     let store = body.store();
-    let scopes = ExprScopes::new_body(alloc, body)?;
+    let scopes = ExprScopes::new_body(alloc, body).map_err(HirError::from)?;
     let x = Name::new(alloc, "x")?;
     for (id, _) in store.exprs() {
         if let (Some(root), Some(binding)) = (
             root_of(store, id),
-            meaning_at(&scopes, id, &x, HygieneId::ROOT),
+            resolved_at(&scopes, id, &x, HygieneId::ROOT),
         ) {
             println!(rt;
                 "expression {} is under root {}, and x is binding {} there",
@@ -108,10 +105,10 @@ fn print_meanings(rt: &impl Print, alloc: Global, body: &Body) -> anyhow::Result
     Ok(())
 }
 
-/// Prints the body as text, what is under its root, and what `x` means in it.
+/// Prints the body as text, the children of its root, and what `x` resolves to in it.
 pub fn print(rt: &impl Print, alloc: Global) -> anyhow::Result<()> {
     let body = build(alloc)?;
     println!(rt; "{}", text(alloc, "f", &body)?)?;
     print_children(rt, alloc, &body)?;
-    print_meanings(rt, alloc, &body)
+    print_resolved(rt, alloc, &body)
 }

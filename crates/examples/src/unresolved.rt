@@ -2,20 +2,14 @@
 
 use crate::assigned::targets;
 use crate::bodies::names;
-use hir_error::HirError;
-use hir_items::Body;
-use hir_node::{Expr, ExprOrPatId, Pat};
-use hir_scope::{ExprScopes, local_name};
+use hir::{Body, Expr, ExprOrPatId, ExprScopes, HirError, Pat, local_name};
 use std::alloc::Global;
 
-/// The paths that may mean a local variable and mean none: expressions, and variables that are assigned to.
-/// What is defined outside the body, as a function, is among them. An expression that the body doesn't reach
-/// has no scope, and nothing is asked there.
-fn unresolved(
-    alloc: Global,
-    body: &Body,
-    scopes: &ExprScopes,
-) -> Result<Vec<ExprOrPatId>, HirError> {
+/// The paths that may be a local variable's name and resolve to none: expressions, and variables that are
+/// assigned to. What is defined outside the body, as a function, is among them. An expression that the body
+/// doesn't reach has no scope, and no name is looked up there.
+fn unresolved(alloc: Global, body: &Body) -> Result<Vec<ExprOrPatId>, HirError> {
+    let scopes = ExprScopes::new_body(alloc, body)?;
     let store = body.store();
     let mut found = Vec::new(alloc);
     for (id, expr) in store.exprs() {
@@ -61,7 +55,6 @@ fn print_all(rt: &impl Print, found: &[ExprOrPatId]) -> anyhow::Result<()> {
 /// Prints those of the body `names`.
 pub fn print(rt: &impl Print, alloc: Global) -> anyhow::Result<()> {
     let body = names(alloc)?;
-    let scopes = ExprScopes::new_body(alloc, &body)?;
-    let found = unresolved(alloc, &body, &scopes)?;
+    let found = unresolved(alloc, &body)?;
     print_all(rt, &found)
 }

@@ -2,18 +2,13 @@
 
 use crate::assigned::targets;
 use crate::bodies::names;
-use hir_base::ArenaMap;
-use hir_error::HirError;
-use hir_items::Body;
-use hir_node::{BindingId, BindingKind};
-use hir_scope::ExprScopes;
-use hir_store::ExpressionStore;
+use hir::{ArenaMap, BindingId, BindingKind, Body, ExprScopes, ExpressionStore, HirError};
 use std::alloc::Global;
 
 /// A set of bindings.
 type Bindings = ArenaMap<BindingKind, ()>;
 
-/// The bindings that paths mean: expressions, and variables that are assigned to.
+/// The bindings that paths resolve to: expressions, and variables that are assigned to.
 fn used(alloc: Global, store: &ExpressionStore, scopes: &ExprScopes) -> Result<Bindings, HirError> {
     let mut used = ArenaMap::with_capacity(alloc, store.bindings().len())?;
     for (id, expr) in store.exprs() {
@@ -29,9 +24,11 @@ fn used(alloc: Global, store: &ExpressionStore, scopes: &ExprScopes) -> Result<B
     Ok(used)
 }
 
-/// The bindings that no path means. Those of `self` aren't among them, since a method has to take `self`.
-fn unused(alloc: Global, body: &Body, scopes: &ExprScopes) -> Result<Vec<BindingId>, HirError> {
-    let used = used(alloc, body.store(), scopes)?;
+/// The bindings that no path resolves to. Those of `self` aren't among them, since a method has to take
+/// `self`.
+fn unused(alloc: Global, body: &Body) -> Result<Vec<BindingId>, HirError> {
+    let scopes = ExprScopes::new_body(alloc, body)?;
+    let used = used(alloc, body.store(), &scopes)?;
     let mut unused = Vec::new(alloc);
     for (id, _) in body.store().bindings() {
         if used.get(id).is_none() && !body.is_any_self_param(id) {
@@ -54,7 +51,6 @@ fn print_all(rt: &impl Print, store: &ExpressionStore, found: &[BindingId]) -> a
 /// Prints those of the body `names`.
 pub fn print(rt: &impl Print, alloc: Global) -> anyhow::Result<()> {
     let body = names(alloc)?;
-    let scopes = ExprScopes::new_body(alloc, &body)?;
-    let found = unused(alloc, &body, &scopes)?;
+    let found = unused(alloc, &body)?;
     print_all(rt, body.store(), &found)
 }

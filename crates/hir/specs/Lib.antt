@@ -132,6 +132,15 @@ pub use Rattle.hir_scope.specs.declared.macros.Expansion
 -- captures
 pub use Rattle.hir_captures.specs.Captures
 pub use Rattle.hir_captures.specs.Uses
+-- uses, visible names and renames
+pub use Rattle.hir_usages.specs.Visits
+pub use Rattle.hir_usages.specs.Usages
+pub use Rattle.hir_usages.specs.Visible
+pub use Rattle.hir_usages.specs.Renamed
+pub use Rattle.hir_usages.specs.Renames
+pub use Rattle.hir_usages.specs.Kept
+pub use Rattle.hir_usages.specs.declared.usage.Usage
+pub use Rattle.hir_usages.specs.declared.rename_fault.RenameFault
 -- what nodes are printed as
 pub use Rattle.hir_pretty_nodes.specs.Prelude
 -- what bodies and signatures are printed as
@@ -141,8 +150,12 @@ pub use Rattle.hir_pretty.specs.Owners
 pub use Rattle.hir_pretty.specs.Signatures as PrintedSignatures
 pub use Rattle.hir_pretty.specs.Variants
 -- errors
+pub use Rattle.hir_error.specs.NamedIds
 pub use Rattle.hir_error.specs.OutOfMemory
+pub use Rattle.hir_error.specs.StoreErrors
+pub use Rattle.hir_error.specs.Texts as ErrorTexts
 pub use Rattle.hir_error.specs.declared.error.HirError
+pub use Rattle.hir_error.specs.declared.named_id.NamedId
 -- helpers
 pub use Rattle.hir_make.specs.Adding
 pub use Rattle.hir_make.specs.Parts

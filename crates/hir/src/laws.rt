@@ -10,3 +10,4 @@ pub use hir_scope::{laws as scope, macro_laws as macros};
 pub use hir_source_map::laws as source;
 pub use hir_store::laws as builder;
 pub use hir_store_core::laws as store;
+pub use hir_usages::laws as usages;

@@ -2,7 +2,7 @@
 //! below it.
 //!
 //! Nodes and what they are made of; the builder and the accepted store; bodies, signatures and tables of
-//! definitions; scopes; captures; printing; one error for every refusal, and helpers that build nodes by
+//! definitions; scopes; captures; uses and renames; printing; one error for every refusal, and helpers that build nodes by
 //! hand. `laws` has the theorems that contracts rest on, by crate.
 #![tactic(auto)]
 
@@ -112,6 +112,7 @@ pub use hir_defs::StoreOf;
 pub use hir_defs::Tables;
 pub use hir_defs::TablesOf;
 pub use hir_error::HirError;
+pub use hir_error::NamedId;
 pub use hir_items::Bodies;
 pub use hir_items::Body;
 pub use hir_items::BodyEntry;
@@ -145,27 +146,64 @@ pub use hir_items::TypeParamProvenance;
 pub use hir_items::VariantFields;
 pub use hir_items::VariantParts;
 pub use hir_items::WherePredicate;
+pub use hir_make::arm;
+pub use hir_make::arm_if;
+pub use hir_make::array;
 pub use hir_make::assign;
+pub use hir_make::binary;
 pub use hir_make::bind;
+pub use hir_make::bind_as;
 pub use hir_make::block;
+pub use hir_make::block_without_tail;
 pub use hir_make::body;
+pub use hir_make::bool_;
+pub use hir_make::break_;
 pub use hir_make::call;
+pub use hir_make::char_;
 pub use hir_make::closure;
+pub use hir_make::continue_;
 pub use hir_make::field;
+pub use hir_make::float;
+pub use hir_make::fn_;
 pub use hir_make::if_;
+pub use hir_make::index;
 pub use hir_make::int;
+pub use hir_make::label;
 pub use hir_make::let_;
 pub use hir_make::let_else;
+pub use hir_make::let_expr;
+pub use hir_make::let_typed;
+pub use hir_make::lit_field;
+pub use hir_make::lit_pat;
 pub use hir_make::local;
+pub use hir_make::loop_;
+pub use hir_make::match_;
 pub use hir_make::method_call;
+pub use hir_make::or_pat;
 pub use hir_make::params;
+pub use hir_make::pat_field;
+pub use hir_make::path_pat;
 pub use hir_make::path_type;
+pub use hir_make::path_with_args;
+pub use hir_make::pub_field;
+pub use hir_make::record_lit;
+pub use hir_make::record_pat;
+pub use hir_make::ref_type;
 pub use hir_make::reference;
+pub use hir_make::return_;
 pub use hir_make::statement;
+pub use hir_make::string;
+pub use hir_make::struct_;
 pub use hir_make::tuple;
 pub use hir_make::tuple_pat;
 pub use hir_make::tuple_struct;
+pub use hir_make::typed_int;
+pub use hir_make::typed_uint;
+pub use hir_make::unary;
+pub use hir_make::variant_fields;
 pub use hir_make::where_bound;
+pub use hir_make::while_;
+pub use hir_make::wild;
 pub use hir_node::Array;
 pub use hir_node::ArrayType;
 pub use hir_node::AssociatedTypeBinding;
@@ -270,4 +308,10 @@ pub use hir_store_core::ExpressionStore;
 pub use hir_store_core::Missing;
 pub use hir_store_core::NodeSet;
 pub use hir_store_core::TypeBoundExt;
+pub use hir_usages::RenameFault;
+pub use hir_usages::Usage;
+pub use hir_usages::Usages;
+pub use hir_usages::rename;
+pub use hir_usages::renamed;
+pub use hir_usages::visible_names;
 pub use hir_validate::FinishFault;

@@ -1,3 +1,12 @@
+-- which errors say that an allocation failed
 pub mod OutOfMemory
+-- the ids that a node names, and the first that doesn't exist
+pub mod NamedIds
+-- the error that a refused builder turns into
+pub mod StoreErrors
+-- the sentence of each error
 pub mod Texts
+-- private clauses alone: what a visitor leaves
+pub mod Finding
+-- proofs alone, of equality
 pub mod same

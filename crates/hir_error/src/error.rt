@@ -4,18 +4,23 @@ ghost use Rattle.std.specs.Prelude.{◌↔◌, IsTrue};
 ghost use Rattle.hir_error.specs.OutOfMemory.{IsOutOfMemory};
 
 use crate::missing_text::MissingText;
+use crate::named_id::NamedId;
+use crate::sentences::{BodyText, RenameText, SignatureText, StoreText};
 use hir_base::{ArenaFault, ExactEq};
 use hir_captures::CapturesFault;
 use hir_items::{BodyFault, SignatureFault};
+use hir_node::NodeId;
 use hir_pretty::PrintFault;
 use hir_scope::ScopesFault;
 use hir_store::FinishFault;
 use hir_store_core::Missing;
+use hir_usages::RenameFault;
 use std::fmt::{self, Display};
 
-/// The refusal of a call of the crates of the store, of definitions, scopes, captures and printing (not of
-/// `hir_show_io`, `hir_show_grammar` and `hir_show_run`). Its text is that of the refusal; of a definition
-/// that is missing it says what is missing, as `no signature of FunctionId(7)`.
+/// The refusal of a call of the crates of the store, of definitions, scopes, captures, uses and printing (not
+/// of `hir_show_io`, `hir_show_grammar` and `hir_show_run`). Its text is a sentence that says what was refused
+/// and why, as `ExprId(1) names ExprId(99), which doesn't exist`, and of a definition that is missing what is
+/// missing, as `no signature of FunctionId(7)`. The text of a fault alone is its name.
 ///
 /// A refusal that gives something back (a builder, the parts of a body, an element) drops it when it turns
 /// into this error.
@@ -25,6 +30,9 @@ pub enum HirError {
     Arena(ArenaFault),
     /// The builder isn't a well-formed store.
     Store(FinishFault),
+    /// The builder isn't a well-formed store, since this node names this id, which doesn't exist. The fault
+    /// is `IdOutOfRange`, and the builder that came back with it says which id that is.
+    IdOutOfRange { node: NodeId, named: NamedId },
     /// The parts aren't a body.
     Body(BodyFault),
     /// The parts aren't a signature.
@@ -37,24 +45,47 @@ pub enum HirError {
     Print(PrintFault),
     /// A closure's captures weren't found.
     Captures(CapturesFault),
+    /// A binding wasn't renamed.
+    Rename(RenameFault),
+    /// A path with this many segments was to be made with another number of lists of generic arguments.
+    ArgumentLists { segments: usize, lists: usize },
 }
 
 impl Display for HirError {
+    ghost use Rattle.std.specs.Prelude.{Some};
     ghost use Rattle.hir_error.specs.Texts.{error_text};
 
-    ghost output = { error_text };
+    ghost output = { λ error. Some (error_text error) };
 
     fn fmt<W: fmt::Write>(&self, f: &mut fmt::Formatter<W>) -> fmt::Result {
         match self {
-            HirError::Arena(fault) => write!(f, "{fault}"),
-            HirError::Store(fault) => write!(f, "{fault}"),
-            HirError::Body(fault) => write!(f, "{fault}"),
-            HirError::Signature(fault) => write!(f, "{fault}"),
+            HirError::Arena(ArenaFault::Memory) => f.write_str("out of memory"),
+            HirError::Arena(ArenaFault::Full) => f.write_str("an arena is full"),
+            HirError::Store(fault) => StoreText(*fault).fmt(f),
+            HirError::IdOutOfRange { node, named } => {
+                write!(f, "{node} names {named}, which doesn't exist")
+            }
+            HirError::Body(fault) => BodyText(*fault).fmt(f),
+            HirError::Signature(fault) => SignatureText(*fault).fmt(f),
             HirError::Missing(missing) => MissingText(*missing).fmt(f),
-            HirError::Scopes(fault) => write!(f, "{fault}"),
+            HirError::Scopes(ScopesFault::Missing) => {
+                f.write_str("the tables lack the body, signature or fields of the definition")
+            }
+            HirError::Scopes(ScopesFault::Full) => {
+                f.write_str("there are too many scopes or entries of scopes")
+            }
+            HirError::Scopes(ScopesFault::Memory) => f.write_str("out of memory"),
             HirError::Print(PrintFault::Missing(missing)) => MissingText(*missing).fmt(f),
-            HirError::Print(PrintFault::Memory) => f.write_str("Memory"),
-            HirError::Captures(fault) => write!(f, "{fault}"),
+            HirError::Print(PrintFault::Memory) => f.write_str("out of memory"),
+            HirError::Captures(CapturesFault::NotAClosure) => {
+                f.write_str("the expression isn't a closure that the body reaches")
+            }
+            HirError::Captures(CapturesFault::Memory) => f.write_str("out of memory"),
+            HirError::Rename(fault) => RenameText(*fault).fmt(f),
+            HirError::ArgumentLists { segments, lists } => write!(
+                f,
+                "a path needs one list of arguments for each segment (segments: {segments}, lists: {lists})"
+            ),
         }
     }
 }
@@ -69,12 +100,18 @@ impl HirError {
         match self {
             HirError::Arena(fault) => fault.is_same(&ArenaFault::Memory),
             HirError::Store(fault) => fault.is_same(&FinishFault::Memory),
+            HirError::IdOutOfRange { node: _, named: _ } => false,
             HirError::Body(fault) => fault.is_same(&BodyFault::Memory),
             HirError::Signature(fault) => fault.is_same(&SignatureFault::Memory),
             HirError::Missing(_) => false,
             HirError::Scopes(fault) => fault.is_same(&ScopesFault::Memory),
             HirError::Print(fault) => fault.is_same(&PrintFault::Memory),
             HirError::Captures(fault) => fault.is_same(&CapturesFault::Memory),
+            HirError::Rename(fault) => fault.is_same(&RenameFault::Memory),
+            HirError::ArgumentLists {
+                segments: _,
+                lists: _,
+            } => false,
         }
     }
 }

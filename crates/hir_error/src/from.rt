@@ -5,6 +5,7 @@ ghost use Rattle.hir_base.specs.declared.arena.ArenaFault.TheVariants.{Memory};
 ghost use Rattle.hir_error.specs.declared.error.HirError.TheVariants as error;
 
 use crate::HirError;
+use crate::missing_ids::missing_id;
 use hir_base::ArenaFault;
 use hir_captures::CapturesFault;
 use hir_items::{BodyFault, RefusedBody, RefusedSignature, SignatureFault};
@@ -12,6 +13,7 @@ use hir_pretty::PrintFault;
 use hir_scope::ScopesFault;
 use hir_store::{FinishFault, Refused};
 use hir_store_core::Missing;
+use hir_usages::RenameFault;
 use std::alloc::{AllocError, AllocFailed};
 
 impl From<ArenaFault> for HirError {
@@ -78,6 +80,14 @@ impl From<CapturesFault> for HirError {
     }
 }
 
+impl From<RenameFault> for HirError {
+    ghost from_gives = { λ fault made. made ≡ error.Rename fault };
+
+    fn from(fault: RenameFault) -> HirError {
+        HirError::Rename(fault)
+    }
+}
+
 impl From<AllocError> for HirError {
     ghost from_gives = { λ _ made. made ≡ error.Arena Memory };
 
@@ -104,12 +114,33 @@ impl<T: Drop> From<(ArenaFault, T)> for HirError {
     }
 }
 
-/// The builder that is given back is dropped.
+/// The builder that is given back says which id a node names that doesn't exist, and is dropped.
 impl From<Refused> for HirError {
-    ghost from_gives = { λ refused made. made ≡ error.Store refused.fault };
+    ghost use Rattle.hir_store.specs.Building.{nodes_of};
+    ghost use Rattle.hir_error.specs.StoreErrors.{store_error};
+
+    ghost from_gives = { λ refused made. made ≡ store_error (nodes_of refused.builder) refused.fault };
 
     fn from(refused: Refused) -> HirError {
-        HirError::Store(refused.fault)
+        let Refused { fault, builder } = refused;
+        match fault {
+            FinishFault::IdOutOfRange(node) => match missing_id(&builder, &node) {
+                Some(named) => HirError::IdOutOfRange { node, named },
+                None => HirError::Store(FinishFault::IdOutOfRange(node)),
+            },
+            FinishFault::NoRoots
+            | FinishFault::NotAPath(_)
+            | FinishFault::NoReturnType(_)
+            | FinishFault::NoSelfArgument(_)
+            | FinishFault::ArgumentLists(_)
+            | FinishFault::SharedChild(_)
+            | FinishFault::Cycle(_)
+            | FinishFault::RootOutOfRange(_)
+            | FinishFault::RootRepeated(_)
+            | FinishFault::RootUnderRoot(_)
+            | FinishFault::RootEnds(_)
+            | FinishFault::Memory => HirError::Store(fault),
+        }
     }
 }
 

@@ -4,6 +4,10 @@
 
 mod error;
 mod from;
+mod missing_ids;
 mod missing_text;
+mod named_id;
+mod sentences;
 
 pub use error::HirError;
+pub use named_id::NamedId;

@@ -1,12 +1,13 @@
-//! Compares the answers to the questions of a row with those that stand behind them.
+//! Compares the answers to the questions of a row with those that come after them.
 
 use crate::halt::Halt;
 use crate::report::Report;
 use crate::rows::Row;
-use hir_text::{Answers, Entry, TextFault, answer};
+use hir_golden_probes::answer;
+use hir_text::{Answers, Entry, TextFault};
 use std::alloc::{AllocError, Global};
 
-/// A line that makes or asks something, and the answer lines that stand behind it. The title is asked
+/// A line that makes or asks something, and the answer lines that come after it. The title is asked
 /// nothing.
 #[derive(Drop)]
 struct Question<'a> {
@@ -35,7 +36,7 @@ fn compared_lines(outcome: Result<(), TextFault>, entries: &[Entry]) -> usize {
     }
 }
 
-/// Compares what stands behind a line with its answer, which is the first of those left, if it has one.
+/// Compares what comes after a line with its answer, which is the first of those left, if it has one.
 fn compare<'a>(
     alloc: Global,
     row: &Row<'_>,

@@ -1,4 +1,4 @@
-//! The files of rows that the arguments name: each is read and compared, and the report is written behind
+//! The files of rows that the arguments name: each is read and compared, and the report is written after
 //! each.
 
 use crate::halt::Halt;

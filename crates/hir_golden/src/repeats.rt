@@ -3,7 +3,7 @@
 
 use std::alloc::AllocError;
 
-/// How often something stands there, and what, behind the mark of such a line.
+/// How often something stands there, and what, after the mark of such a line.
 fn counted(behind: Option<&str>) -> Option<(u32, &str)> {
     let (count, what) = behind?.split_once(' ')?;
     match count.parse::<u32>() {
@@ -12,14 +12,14 @@ fn counted(behind: Option<&str>) -> Option<(u32, &str)> {
     }
 }
 
-/// The number behind `@` with this digit behind its others, where it is one.
+/// The number after `@` with this digit after its others, where it is one.
 fn with_digit(number: Option<u32>, c: char) -> Option<u32> {
     let number = number?;
     let digit = c.to_digit(10)?;
     Some(number.wrapping_mul(10).wrapping_add(digit))
 }
 
-/// Puts the number behind `@`, where there is one, behind the text, raised by how many came before.
+/// Puts the number after `@`, where there is one, after the text, raised by how many came before.
 fn push_number(text: &mut String, number: Option<u32>, before: u32) -> Result<(), AllocError> {
     match number {
         Some(number) => {
@@ -30,7 +30,7 @@ fn push_number(text: &mut String, number: Option<u32>, before: u32) -> Result<()
     }
 }
 
-/// Puts a character behind the text, or to the number behind `@`, which is answered.
+/// Puts a character after the text, or to the number after `@`, which is returned.
 fn push_char(
     text: &mut String,
     c: char,
@@ -48,7 +48,7 @@ fn push_char(
     Ok(None)
 }
 
-/// Puts one of those behind the text before which so many came.
+/// Puts one of those after the text before which so many came.
 fn push_one(text: &mut String, what: &str, before: u32) -> Result<(), AllocError> {
     let mut number = None;
     for c in what.chars() {
@@ -57,7 +57,7 @@ fn push_one(text: &mut String, what: &str, before: u32) -> Result<(), AllocError
     push_number(text, number, before)
 }
 
-/// Puts so many lines behind the text.
+/// Puts so many lines after the text.
 fn push_lines(text: &mut String, count: u32, line: &str) -> Result<(), AllocError> {
     for before in 0..count {
         push_one(text, line, before)?;
@@ -75,7 +75,7 @@ fn push_texts(text: &mut String, count: u32, what: &str) -> Result<(), AllocErro
     text.push('\n')
 }
 
-/// Puts what a line stands for behind the text, of which each line has its end.
+/// Puts what a line stands for after the text, of which each line has its end.
 pub(crate) fn push_line(text: &mut String, line: &str) -> Result<(), AllocError> {
     if let Some((count, line)) = counted(line.strip_prefix("* ")) {
         return push_lines(text, count, line);

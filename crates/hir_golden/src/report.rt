@@ -68,7 +68,7 @@ impl Report {
         Ok(())
     }
 
-    /// A line whose answer isn't the one that stands behind it.
+    /// A line whose answer isn't the one that comes after it.
     pub(crate) fn differs(
         &mut self,
         place: Place<'_>,

@@ -70,7 +70,7 @@ fn compare_row(alloc: Global, row: &Row<'_>, report: &mut Report) -> Result<(), 
     }
 }
 
-/// Compares the rows of a file with this text. A row begins at a line that begins with `#` behind one that
+/// Compares the rows of a file with this text. A row begins at a line that begins with `#` after one that
 /// doesn't.
 pub(crate) fn compare_rows(
     alloc: Global,

@@ -37,6 +37,7 @@ pub fn params(alloc: Global, pats: &[PatId]) -> Result<Seq<Param<PatId>>, HirErr
 ///
 /// An error says that an allocation fails, or is the first fault of the builder with that root, or that of
 /// the body; the builder is dropped.
+#[tactic(auto, using(crate::proofs::RefusalLemmas::body_refused))]
 pub fn body(
     alloc: Global,
     mut builder: ExpressionStoreBuilder,

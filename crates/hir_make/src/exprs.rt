@@ -7,7 +7,7 @@ ghost use Rattle.hir_path.specs.Paths.{one_name};
 ghost use Rattle.hir_node.specs.declared.type_ref.Rawness.TheVariants as rawness;
 ghost use Rattle.hir_node.specs.declared.literal.Literal.TheVariants as literal;
 ghost use Rattle.hir_make.specs.Adding.{AddsExpr, RefusesExpr, with_pat, RefusesAssign};
-ghost use Rattle.hir_make.specs.Parts.{closure_of, block_of, no_types};
+ghost use Rattle.hir_make.specs.Parts.{closure_of, block_of, plain_block, no_types};
 
 use crate::adding::{add_expr, add_pat, path};
 use hir_base::{Name, Seq, ShortList};
@@ -232,14 +232,31 @@ pub fn block(
     ensures ok { IfOk result (λ id. AddsExpr builder.old (block_of statements.items tail) id builder.new) }
     ensures err { IfErr result (λ fault. RefusesExpr builder.old fault builder.new) }
 {
-    add_expr(
-        builder,
-        Expr::Block {
-            id: None,
-            statements: Seq::from_vec(statements),
-            tail: Some(tail),
-            label: None,
-            unsafe_: Unsafe::No,
-        },
-    )
+    add_expr(builder, plain_block(statements, Some(tail)))
+}
+
+/// Adds the block `{ statements }`, whose value is `()`; it has no label, isn't unsafe and holds no items.
+///
+/// An error, where an allocation fails or no id is left, leaves the builder as it was.
+pub fn block_without_tail(
+    builder: &mut ExpressionStoreBuilder,
+    statements: Vec<Statement>,
+) -> Result<ExprId, HirError>
+    ensures ok { IfOk result (λ id. AddsExpr builder.old (plain_block statements.items None) id builder.new) }
+    ensures err { IfErr result (λ fault. RefusesExpr builder.old fault builder.new) }
+{
+    add_expr(builder, plain_block(statements, None))
+}
+
+/// A block without a label, which isn't unsafe and holds no items.
+fn plain_block(statements: Vec<Statement>, tail: Option<ExprId>) -> Expr
+    ensures { result ≡ plain_block statements.items tail }
+{
+    Expr::Block {
+        id: None,
+        statements: Seq::from_vec(statements),
+        tail,
+        label: None,
+        unsafe_: Unsafe::No,
+    }
 }

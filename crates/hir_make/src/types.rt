@@ -3,11 +3,14 @@
 ghost use Rattle.std.specs.Prelude.{◌≡◌, None, IfOk, IfErr};
 ghost use Rattle.hir_path.specs.Paths.{one_name};
 ghost use Rattle.hir_make.specs.Adding.{AddsType, RefusesType};
+ghost use Rattle.hir_make.specs.Parts.{reference_to};
 
 use crate::adding::{add_type, path};
 use hir_error::HirError;
 use hir_generics::WherePredicate;
-use hir_node::{PathId, TraitBoundModifier, TypeBound, TypeRef, TypeRefId};
+use hir_node::{
+    Boxed, Mutability, PathId, RefType, TraitBoundModifier, TypeBound, TypeRef, TypeRefId,
+};
 use hir_store::ExpressionStoreBuilder;
 use std::alloc::Global;
 
@@ -24,6 +27,28 @@ pub fn path_type(
 {
     let path = path(alloc, name)?;
     add_type(builder, TypeRef::Path(path))
+}
+
+/// Adds the type `&target` or `&mut target`, without a lifetime, and returns its id.
+///
+/// An error, where an allocation fails or no id is left, leaves the builder as it was.
+pub fn ref_type(
+    alloc: Global,
+    builder: &mut ExpressionStoreBuilder,
+    target: TypeRefId,
+    mutability: Mutability,
+) -> Result<TypeRefId, HirError>
+    ensures ok { IfOk result (λ id.
+        AddsType builder.old (TypeRef.Reference (reference_to target mutability)) id builder.new) }
+    ensures err { IfErr result (λ fault. RefusesType builder.old fault builder.new) }
+{
+    let reference = RefType {
+        ty: target,
+        lifetime: None,
+        mutability,
+    };
+    let reference = Boxed::new(alloc, reference)?;
+    add_type(builder, TypeRef::Reference(reference))
 }
 
 /// `target: trait_`, of a type and of a type that is the path of a trait, as `path_type` makes it. A store or

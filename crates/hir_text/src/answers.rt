@@ -36,8 +36,8 @@ impl Entry {
         &self.answer
     }
 
-    /// Writes the answer as lines, each with its end: the first behind `= `, or `! ` where it is a refusal,
-    /// each further one behind `| `; of an empty line the mark alone.
+    /// Writes the answer as lines, each with its end: the first after `= `, or `! ` where it is a refusal,
+    /// each further one after `| `; of an empty line the mark alone.
     pub fn write_lines(&self, out: &mut String) -> Result<(), AllocError> {
         let mut mark = if self.answer.is_refusal() { '!' } else { '=' };
         for line in self.answer.as_str().split('\n') {
@@ -80,8 +80,8 @@ impl Answers {
         Ok(())
     }
 
-    /// Puts the answer to the question in this line behind the others.
-    pub(crate) fn push(&mut self, number: usize, answer: Answer) -> Result<(), AllocFailed<Entry>> {
+    /// Puts the answer to the question in this line after the others.
+    pub fn push(&mut self, number: usize, answer: Answer) -> Result<(), AllocFailed<Entry>> {
         self.entries.push(Entry { number, answer })
     }
 }

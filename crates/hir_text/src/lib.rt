@@ -2,13 +2,18 @@
 #![tactic(auto)]
 
 mod answers;
-mod faults;
+mod caches;
 mod nodes;
-mod program;
 mod questions;
+mod scope_cache;
 mod scopes;
 mod session;
+mod text;
 mod texts;
+mod usages;
 
 pub use answers::{Answers, Entry, TextFault};
-pub use session::answer;
+pub use hir_text_nodes::{Answer, TextError};
+pub use questions::Asked;
+pub use session::{Lines, Session, is_skipped};
+pub use text::{answer, answer_by};

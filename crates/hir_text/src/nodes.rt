@@ -42,7 +42,7 @@ impl Nodes {
         })
     }
 
-    /// Does what a line says that a builder takes; answers whether it is such a line.
+    /// Does what a line says that a builder takes; returns whether it is such a line.
     pub(crate) fn line(
         &mut self,
         alloc: Global,
@@ -52,6 +52,11 @@ impl Nodes {
         let is_taken = hir_text_store::make(alloc, &mut self.builder, word, words)?;
         self.has_lines = self.has_lines || is_taken;
         Ok(is_taken)
+    }
+
+    /// Returns whether lines have made something since the last store was finished or selected.
+    pub(crate) fn has_lines(&self) -> bool {
+        self.has_lines
     }
 
     /// Makes this store the one that questions ask, until lines make something.
@@ -80,11 +85,22 @@ impl Nodes {
         }
     }
 
+    /// Returns whether there is a store to ask. Where there is none, the answer says so.
+    fn has_subject(&self, answer: &mut Answer) -> Result<bool, TextError> {
+        match &self.subject {
+            Subject::None => {
+                answer_unknown(answer)?;
+                Ok(false)
+            }
+            Subject::Store(_) | Subject::Owner(_) => Ok(true),
+        }
+    }
+
     /// Whether there is a store to ask: the nodes are finished, where lines made some since the last time.
     /// Where that is refused, the answer says why.
     pub(crate) fn ready(&mut self, alloc: Global, answer: &mut Answer) -> Result<bool, TextError> {
         if !self.has_lines {
-            return Ok(true);
+            return self.has_subject(answer);
         }
         match self.finish(alloc, answer)? {
             Some(finished) => {

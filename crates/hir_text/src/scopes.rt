@@ -1,78 +1,41 @@
-//! Questions on scopes and captures.
+//! Questions on scopes, captures and uses.
 
 ghost use Rattle.std.specs.Prelude.{◌<◌, length};
 
-use hir_base::{
-    ExactEq, ExpressionStoreOwnerId, HygieneId, MacroDefId, Name, Steps, SyntaxContext,
-};
-use hir_captures::{CapturesFault, captures};
-use hir_defs::{Body, Tables};
-use hir_node::{BindingId, ExprId};
-use hir_scope::{Expansion, ExprScopes, ScopeEntry, ScopeId, ScopesFault};
-use hir_store::ExpressionStore;
-use hir_text_defs::asked_body;
-use hir_text_nodes::{Answer, TextError, Words, next_hygiene, next_owner, opt_hygiene};
-use hir_text_store::{answer_unknown, differs, refuse, write_same};
-use hir_text_words::value_of;
+use crate::usages::{self, NewName, read_rename, read_renamed};
+use hir_base::{HygieneId, MacroDefId, Name, SyntaxContext};
+use hir_node::ExprId;
+use hir_scope::{Expansion, ExprScopes, ScopeEntry, ScopeId};
+use hir_text_nodes::{Answer, TextError, Words, next_hygiene, opt_hygiene};
+use hir_usages::visible_names;
 use std::alloc::{AllocError, Global};
 use std::collections::HashMap;
 
-/// What the first word of a question asks of scopes and captures.
-#[derive(Clone, Copy)]
-enum Kind {
-    Chain,
-    Frames,
-    Counts,
-    Scoped,
-    Resolve,
-    ResolveThrough,
-    Captures,
-    Counted,
-    Same,
-}
-
-const KINDS: [(&str, Kind); 9] = [
-    ("chain", Kind::Chain),
-    ("frames", Kind::Frames),
-    ("scope-counts", Kind::Counts),
-    ("scoped", Kind::Scoped),
-    ("resolve", Kind::Resolve),
-    ("resolve-through", Kind::ResolveThrough),
-    ("captures", Kind::Captures),
-    ("counted-scopes", Kind::Counted),
-    ("same-scopes", Kind::Same),
-];
-
-/// What is asked of scopes that are made once.
+/// A question on scopes, captures or uses.
 #[derive(Drop)]
-enum OfScopes {
+pub(crate) enum Question {
     Chain(ExprId),
     Frames(ExprId),
     Counts,
     Scoped,
     Resolve(ExprId, Name, HygieneId),
     ResolveThrough(ExprId, Name, HygieneId, HashMap<HygieneId, Expansion>),
-}
-
-/// What is asked of scopes and captures.
-#[derive(Drop)]
-enum Question {
-    Scopes(OfScopes),
+    Visible(ExprId),
     Captures(ExprId),
-    Counted,
-    Same,
+    Usages(usages::Question),
+    Rename(NewName),
 }
 
-/// What stands behind the word `resolve`.
-fn read_resolve(alloc: Global, words: &mut Words<'_>) -> Result<OfScopes, TextError> {
+/// What comes after the word `resolve`.
+fn read_resolve(alloc: Global, words: &mut Words<'_>) -> Result<Question, TextError> {
     let expr = words.next_id()?;
     let name = words.next_name(alloc)?;
     let hygiene = opt_hygiene(words)?;
-    Ok(OfScopes::Resolve(expr, name, hygiene))
+    Ok(Question::Resolve(expr, name, hygiene))
 }
 
 /// An expansion: the hygiene of its names, the macro, and the hygiene that the names have in the macro's
-/// definition. The words stand behind `macro:`, as `5 1 root`.
+/// definition. The words come after `macro:`, as `5 1 root`.
 fn read_expansion(words: &mut Words<'_>) -> Result<(HygieneId, Expansion), TextError> {
     let macro_def = MacroDefId::from_raw(words.number()?);
     let hygiene = next_hygiene(words)?;
@@ -96,90 +59,51 @@ fn read_expansions(
     Ok(expansions)
 }
 
-/// What stands behind the word `resolve-through`.
-fn read_resolve_through(alloc: Global, words: &mut Words<'_>) -> Result<OfScopes, TextError> {
+/// What comes after the word `resolve-through`.
+fn read_resolve_through(alloc: Global, words: &mut Words<'_>) -> Result<Question, TextError> {
     let expr = words.next_id()?;
     let name = words.next_name(alloc)?;
     let hygiene = opt_hygiene(words)?;
     let expansions = read_expansions(alloc, words)?;
-    Ok(OfScopes::ResolveThrough(expr, name, hygiene, expansions))
+    Ok(Question::ResolveThrough(expr, name, hygiene, expansions))
 }
 
-/// What stands behind the first word.
-fn read(alloc: Global, kind: Kind, words: &mut Words<'_>) -> Result<Question, TextError> {
-    match kind {
-        Kind::Chain => Ok(Question::Scopes(OfScopes::Chain(words.next_id()?))),
-        Kind::Frames => Ok(Question::Scopes(OfScopes::Frames(words.next_id()?))),
-        Kind::Counts => Ok(Question::Scopes(OfScopes::Counts)),
-        Kind::Scoped => Ok(Question::Scopes(OfScopes::Scoped)),
-        Kind::Resolve => Ok(Question::Scopes(read_resolve(alloc, words)?)),
-        Kind::ResolveThrough => Ok(Question::Scopes(read_resolve_through(alloc, words)?)),
-        Kind::Captures => Ok(Question::Captures(words.next_id()?)),
-        Kind::Counted => Ok(Question::Counted),
-        Kind::Same => Ok(Question::Same),
-    }
-}
-
-/// The question of a line, where it is such a question.
-fn read_line(
+/// The question of this word, where it is one; the line may go on.
+fn read_front(
     alloc: Global,
     word: &[u8],
     words: &mut Words<'_>,
 ) -> Result<Option<Question>, TextError> {
-    let Some(kind) = value_of(&KINDS, word) else {
+    Ok(Some(match word {
+        b"chain" => Question::Chain(words.next_id()?),
+        b"frames" => Question::Frames(words.next_id()?),
+        b"scope-counts" => Question::Counts,
+        b"scoped" => Question::Scoped,
+        b"resolve" => read_resolve(alloc, words)?,
+        b"resolve-through" => read_resolve_through(alloc, words)?,
+        b"visible" => Question::Visible(words.next_id()?),
+        b"captures" => Question::Captures(words.next_id()?),
+        b"usages" => Question::Usages(usages::Question::All),
+        b"usages-of" => Question::Usages(usages::Question::Of(words.next_id()?)),
+        b"unresolved" => Question::Usages(usages::Question::Unresolved),
+        b"unused" => Question::Usages(usages::Question::Unused),
+        b"rename" => Question::Rename(read_rename(alloc, words)?),
+        b"print-renamed" => Question::Rename(read_renamed(alloc, words)?),
+        _ => return Ok(None),
+    }))
+}
+
+/// Reads the question of a line, where it is one on scopes, captures or uses.
+pub(crate) fn read(
+    alloc: Global,
+    word: &[u8],
+    words: &mut Words<'_>,
+) -> Result<Option<Question>, TextError> {
+    let Some(question) = read_front(alloc, word, words)? else {
         return Ok(None);
     };
-    let question = read(alloc, kind, words)?;
     words.end()?;
     Ok(Some(question))
-}
-
-/// The answer is why there are no scopes.
-fn refuse_scopes(alloc: Global, fault: ScopesFault, answer: &mut Answer) -> Result<(), TextError> {
-    match fault {
-        ScopesFault::Memory => Err(TextError::Memory),
-        ScopesFault::Missing | ScopesFault::Full => Ok(refuse(alloc, &fault, answer)?),
-    }
-}
-
-/// The scopes that were made. Where there are none, the answer says why.
-fn open_scopes(
-    alloc: Global,
-    outcome: Result<ExprScopes, ScopesFault>,
-    answer: &mut Answer,
-) -> Result<Option<Box<ExprScopes>>, TextError> {
-    match outcome {
-        Ok(scopes) => Ok(Some(Box::new(alloc, scopes)?)),
-        Err(fault) => {
-            refuse_scopes(alloc, fault, answer)?;
-            Ok(None)
-        }
-    }
-}
-
-/// The scopes of a body, or else of a store.
-fn make_scopes(
-    alloc: Global,
-    store: &ExpressionStore,
-    body: Option<&Body>,
-) -> Result<ExprScopes, ScopesFault> {
-    match body {
-        Some(body) => ExprScopes::new_body(alloc, body),
-        None => ExprScopes::new_store(alloc, store),
-    }
-}
-
-/// The scopes of an owner's store, by the call for its kind.
-fn made_by_kind(
-    alloc: Global,
-    tables: &Tables,
-    owner: ExpressionStoreOwnerId,
-) -> Result<ExprScopes, ScopesFault> {
-    match owner {
-        ExpressionStoreOwnerId::Signature(def) => ExprScopes::sig_expr_scopes(alloc, tables, def),
-        ExpressionStoreOwnerId::Body(def) => ExprScopes::body_expr_scopes(alloc, tables, def),
-        ExpressionStoreOwnerId::VariantFields(id) => ExprScopes::variant_scopes(alloc, tables, id),
-    }
 }
 
 /// The answer is that the expression has no scope.
@@ -221,6 +145,22 @@ fn write_entry(entry: &ScopeEntry, answer: &mut Answer) -> Result<(), AllocError
             answer.join_number(number)
         }
     }
+}
+
+/// Writes the entries that names at an expression may resolve to, innermost first.
+fn write_visible(
+    alloc: Global,
+    scopes: &ExprScopes,
+    expr: ExprId,
+    answer: &mut Answer,
+) -> Result<(), AllocError> {
+    let Some(scope) = scopes.scope_for(expr) else {
+        return answer_unreached(answer);
+    };
+    for entry in visible_names(alloc, scopes, scope)? {
+        write_entry(entry, answer)?;
+    }
+    Ok(())
 }
 
 /// Writes the kind of a scope and its entries; `.` where there is nothing.
@@ -323,249 +263,25 @@ fn write_scoped(scopes: &ExprScopes, answer: &mut Answer) -> Result<(), AllocErr
     Ok(())
 }
 
-/// Writes what is asked of the scopes.
-fn write(question: &OfScopes, scopes: &ExprScopes, answer: &mut Answer) -> Result<(), AllocError> {
+/// Writes what is asked of the scopes; nothing where captures or uses are asked.
+pub(crate) fn write_scopes(
+    alloc: Global,
+    question: &Question,
+    scopes: &ExprScopes,
+    answer: &mut Answer,
+) -> Result<(), AllocError> {
     match question {
-        OfScopes::Chain(expr) => write_chain(scopes, *expr, answer),
-        OfScopes::Frames(expr) => write_frames(scopes, *expr, answer),
-        OfScopes::Counts => write_counts(scopes, answer),
-        OfScopes::Scoped => write_scoped(scopes, answer),
-        OfScopes::Resolve(expr, name, hygiene) => {
+        Question::Chain(expr) => write_chain(scopes, *expr, answer),
+        Question::Frames(expr) => write_frames(scopes, *expr, answer),
+        Question::Counts => write_counts(scopes, answer),
+        Question::Scoped => write_scoped(scopes, answer),
+        Question::Resolve(expr, name, hygiene) => {
             write_meaning(scopes, *expr, name, *hygiene, answer)
         }
-        OfScopes::ResolveThrough(expr, name, hygiene, expansions) => {
+        Question::ResolveThrough(expr, name, hygiene, expansions) => {
             write_meaning_through(scopes, *expr, name, *hygiene, expansions, answer)
         }
+        Question::Visible(expr) => write_visible(alloc, scopes, *expr, answer),
+        Question::Captures(_) | Question::Usages(_) | Question::Rename(_) => Ok(()),
     }
-}
-
-/// An owner that is lent to the call for whatever converts into one: at an owner itself the prover's borrow
-/// checker can't build the proof of the call.
-#[derive(Clone, Copy)]
-struct OwnerRef<'a>(&'a ExpressionStoreOwnerId);
-
-impl From<OwnerRef<'_>> for ExpressionStoreOwnerId {
-    fn from(owner: OwnerRef<'_>) -> ExpressionStoreOwnerId {
-        *owner.0
-    }
-}
-
-/// The scopes of an owner's store, by the call for all kinds.
-fn made_of_owner(
-    alloc: Global,
-    tables: &Tables,
-    owner: &ExpressionStoreOwnerId,
-) -> Result<ExprScopes, ScopesFault> {
-    ExprScopes::of(alloc, tables, OwnerRef(owner))
-}
-
-/// Whether scopes that were made are the same as these. Where there are none, the answer says why.
-fn compared(
-    alloc: Global,
-    outcome: Result<ExprScopes, ScopesFault>,
-    scopes: &ExprScopes,
-    answer: &mut Answer,
-) -> Result<Option<bool>, TextError> {
-    match open_scopes(alloc, outcome, answer)? {
-        Some(others) => Ok(Some(*scopes == *others)),
-        None => Ok(None),
-    }
-}
-
-/// Writes how many scopes and entries there are, where others were the same. Where there were none, the
-/// answer says why.
-fn write_compared(
-    is_same: Option<bool>,
-    scopes: &ExprScopes,
-    answer: &mut Answer,
-) -> Result<(), AllocError> {
-    match is_same {
-        Some(true) => write_counts(scopes, answer),
-        Some(false) => differs(answer),
-        None => Ok(()),
-    }
-}
-
-/// Compares scopes with those that are made by a lookup of the owner, of which both calls find some or none.
-fn ask_looked_up(
-    alloc: Global,
-    tables: &Tables,
-    owner: &ExpressionStoreOwnerId,
-    scopes: &ExprScopes,
-    answer: &mut Answer,
-) -> Result<(), TextError> {
-    let by_kind = compared(alloc, made_by_kind(alloc, tables, *owner), scopes, answer)?;
-    let of_all = compared(alloc, made_of_owner(alloc, tables, owner), scopes, answer)?;
-    if by_kind != of_all {
-        return Ok(differs(answer)?);
-    }
-    Ok(write_compared(by_kind, scopes, answer)?)
-}
-
-/// `scopes-by-tables`: the same of the store that is asked, by its owner or by the one that is named.
-fn ask_by_tables(
-    alloc: Global,
-    tables: &Tables,
-    store: &ExpressionStore,
-    owner: Option<ExpressionStoreOwnerId>,
-    answer: &mut Answer,
-) -> Result<(), TextError> {
-    let Some(owner) = owner else {
-        return Ok(answer_unknown(answer)?);
-    };
-    let scopes = make_scopes(alloc, store, asked_body(tables, Some(owner)));
-    match open_scopes(alloc, scopes, answer)? {
-        Some(scopes) => ask_looked_up(alloc, tables, &owner, &scopes, answer),
-        None => Ok(()),
-    }
-}
-
-/// Answers a question on scopes that are looked up in the tables; answers whether it is such a question.
-pub(crate) fn ask_of_tables(
-    alloc: Global,
-    tables: &Tables,
-    store: &ExpressionStore,
-    owner: Option<ExpressionStoreOwnerId>,
-    word: &[u8],
-    words: &mut Words<'_>,
-    answer: &mut Answer,
-) -> Result<bool, TextError> {
-    if word != b"scopes-by-tables".as_slice() {
-        return Ok(false);
-    }
-    let owner = if words.is_end() {
-        owner
-    } else {
-        Some(next_owner(words)?)
-    };
-    words.end()?;
-    ask_by_tables(alloc, tables, store, owner, answer)?;
-    Ok(true)
-}
-
-/// Writes whether two scopes are equal.
-fn write_equal(
-    first: &ExprScopes,
-    second: &ExprScopes,
-    answer: &mut Answer,
-) -> Result<(), AllocError> {
-    write_same(*first == *second, first.is_same(second), answer)
-}
-
-/// `same-scopes`: whether the scopes of the store that is kept equal those of the one that is asked.
-fn ask_same(
-    alloc: Global,
-    kept: &ExpressionStore,
-    store: &ExpressionStore,
-    body: Option<&Body>,
-    answer: &mut Answer,
-) -> Result<(), TextError> {
-    let Some(first) = open_scopes(alloc, ExprScopes::new_store(alloc, kept), answer)? else {
-        return Ok(());
-    };
-    match open_scopes(alloc, make_scopes(alloc, store, body), answer)? {
-        Some(second) => Ok(write_equal(&first, &second, answer)?),
-        None => Ok(()),
-    }
-}
-
-/// `counted-scopes`: compares the scopes of a body with those that are counted.
-fn ask_counted(alloc: Global, body: &Body, answer: &mut Answer) -> Result<(), TextError> {
-    let mut steps = Steps::new();
-    let counted = ExprScopes::new_body_counted(alloc, body, &mut steps);
-    let Some(counted) = open_scopes(alloc, counted, answer)? else {
-        return Ok(());
-    };
-    let is_same = compared(alloc, ExprScopes::new_body(alloc, body), &counted, answer)?;
-    Ok(write_compared(is_same, &counted, answer)?)
-}
-
-/// Writes the bindings that were found to be captured.
-fn write_captures(
-    alloc: Global,
-    found: Result<Vec<BindingId>, CapturesFault>,
-    answer: &mut Answer,
-) -> Result<(), TextError> {
-    match found {
-        Ok(bindings) => {
-            for binding in bindings.as_slice() {
-                answer.id(*binding)?;
-            }
-            Ok(())
-        }
-        Err(CapturesFault::Memory) => Err(TextError::Memory),
-        Err(CapturesFault::NotAClosure) => {
-            Ok(refuse(alloc, &CapturesFault::NotAClosure, answer)?)
-        }
-    }
-}
-
-/// `captures E`
-fn ask_captures(
-    alloc: Global,
-    body: &Body,
-    closure: ExprId,
-    answer: &mut Answer,
-) -> Result<(), TextError> {
-    match ExprScopes::new_body(alloc, body) {
-        Ok(scopes) => write_captures(alloc, captures(alloc, body, &scopes, closure), answer),
-        Err(fault) => refuse_scopes(alloc, fault, answer),
-    }
-}
-
-/// Answers what is asked of scopes that are made once.
-fn ask_scopes(
-    alloc: Global,
-    store: &ExpressionStore,
-    body: Option<&Body>,
-    question: &OfScopes,
-    answer: &mut Answer,
-) -> Result<(), TextError> {
-    match open_scopes(alloc, make_scopes(alloc, store, body), answer)? {
-        Some(scopes) => Ok(write(question, &scopes, answer)?),
-        None => Ok(()),
-    }
-}
-
-/// Answers what is asked of scopes or captures.
-fn write_asked(
-    alloc: Global,
-    kept: Option<&ExpressionStore>,
-    store: &ExpressionStore,
-    body: Option<&Body>,
-    question: &Question,
-    answer: &mut Answer,
-) -> Result<(), TextError> {
-    match question {
-        Question::Scopes(question) => ask_scopes(alloc, store, body, question, answer),
-        Question::Captures(closure) => match body {
-            Some(body) => ask_captures(alloc, body, *closure, answer),
-            None => Ok(answer_unknown(answer)?),
-        },
-        Question::Counted => match body {
-            Some(body) => ask_counted(alloc, body, answer),
-            None => Ok(answer_unknown(answer)?),
-        },
-        Question::Same => match kept {
-            Some(kept) => ask_same(alloc, kept, store, body, answer),
-            None => Ok(answer_unknown(answer)?),
-        },
-    }
-}
-
-/// Answers a question on scopes or captures; answers whether it is such a question.
-pub(crate) fn ask(
-    alloc: Global,
-    kept: Option<&ExpressionStore>,
-    store: &ExpressionStore,
-    body: Option<&Body>,
-    word: &[u8],
-    words: &mut Words<'_>,
-    answer: &mut Answer,
-) -> Result<bool, TextError> {
-    let Some(question) = read_line(alloc, word, words)? else {
-        return Ok(false);
-    };
-    write_asked(alloc, kept, store, body, &question, answer)?;
-    Ok(true)
 }

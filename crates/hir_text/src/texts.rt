@@ -73,7 +73,7 @@ enum OfStore {
     Path(Path),
 }
 
-/// What stands behind the first word.
+/// What comes after the first word.
 fn read_of_store(
     alloc: Global,
     kind: StoreKind,
@@ -129,7 +129,7 @@ fn ask_store(
     words.end()
 }
 
-/// Answers a question on a text of the store that is asked; answers whether it is such a question.
+/// Answers a question on a text of the store that is asked; returns whether it is such a question.
 pub(crate) fn ask_of_store(
     alloc: Global,
     tables: &Tables,
@@ -169,7 +169,7 @@ enum Pretty {
     Pat(PatId, bool),
 }
 
-/// What stands behind the first word.
+/// What comes after the first word.
 fn read_pretty(kind: PrettyKind, words: &mut Words<'_>) -> Result<Pretty, TextError> {
     match kind {
         PrettyKind::Body => Ok(Pretty::Body(as_def_with_body(next_def(words)?)?)),
@@ -245,7 +245,7 @@ fn print_asked(
     }
 }
 
-/// Answers a question on a text of the body that is asked; answers whether it is such a question.
+/// Answers a question on a text of the body that is asked; returns whether it is such a question.
 pub(crate) fn ask_of_body(
     alloc: Global,
     tables: &Tables,
@@ -264,7 +264,7 @@ pub(crate) fn ask_of_body(
     Ok(true)
 }
 
-/// The number behind `as:`, or else this one.
+/// The number after `as:`, or else this one.
 fn opt_as<T>(id: Id<T>, words: &mut Words<'_>) -> Result<Id<T>, TextError> {
     if words.prefix(b"as:") {
         return Ok(Id::from_raw(words.number()?));
@@ -272,7 +272,7 @@ fn opt_as<T>(id: Id<T>, words: &mut Words<'_>) -> Result<Id<T>, TextError> {
     Ok(id)
 }
 
-/// The definition behind `as:`, or else this one.
+/// The definition after `as:`, or else this one.
 fn opt_as_def(def: DefWithBodyId, words: &mut Words<'_>) -> Result<DefWithBodyId, TextError> {
     if words.prefix(b"as:") {
         return as_def_with_body(read_def(words)?);
@@ -308,7 +308,7 @@ enum OfTables {
     Function(FunctionId, FunctionId),
 }
 
-/// What stands behind the first word.
+/// What comes after the first word.
 fn read_of_tables(kind: TablesKind, words: &mut Words<'_>) -> Result<OfTables, TextError> {
     match kind {
         TablesKind::Body => {
@@ -367,7 +367,7 @@ fn print_of_tables(
     }
 }
 
-/// Answers a question on a text of what is in the tables; answers whether it is such a question.
+/// Answers a question on a text of what is in the tables; returns whether it is such a question.
 pub(crate) fn ask_of_tables(
     alloc: Global,
     tables: &Tables,

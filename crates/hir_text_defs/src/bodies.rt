@@ -11,7 +11,7 @@ use hir_text_store::{answer_unknown, done_or_stop, refuse};
 use hir_text_words::value_of;
 use std::alloc::{AllocError, Global};
 
-/// Lets the parts of a body that was refused wait again. Answers its store.
+/// Lets the parts of a body that was refused wait again. Returns its store.
 fn take_back(
     alloc: Global,
     refused: RefusedBody,
@@ -32,7 +32,7 @@ fn take_back(
     Ok(store)
 }
 
-/// Makes a body of the store and of what waits for it, and adds it to the tables. Answers the store that
+/// Makes a body of the store and of what waits for it, and adds it to the tables. Returns the store that
 /// questions ask from then on.
 pub(crate) fn make<F: Drop, S: Drop, P: Drop, V: Drop, M: Drop>(
     alloc: Global,
@@ -137,7 +137,7 @@ fn write(body: Option<&Body>, question: Question, answer: &mut Answer) -> Result
     }
 }
 
-/// Answers a question on the body that is asked, where there is one; answers whether it is such a question.
+/// Answers a question on the body that is asked, where there is one; returns whether it is such a question.
 pub fn ask_of_body(
     body: Option<&Body>,
     word: &[u8],

@@ -47,7 +47,7 @@ const KINDS: [(&str, Kind); 5] = [
     ("variant", Kind::Variant),
 ];
 
-/// What stands behind the first word.
+/// What comes after the first word.
 fn read_kind(alloc: Global, kind: Kind, words: &mut Words<'_>) -> Result<Definition, TextError> {
     match kind {
         Kind::Body => Ok(Definition::Body(as_def_with_body(next_def(words)?)?)),
@@ -231,8 +231,8 @@ fn make_variant<F: Drop, S: Drop, P: Drop, B: Drop, N: Drop>(
     }
 }
 
-/// Makes the definition of the store and of what waits for it, and adds it to the tables. Answers the store
-/// that questions ask from then on: that of the definition, or what was handed back.
+/// Makes the definition of the store and of what waits for it, and adds it to the tables. Returns the store
+/// that questions ask from then on: that of the definition, or what was given back.
 pub fn make(
     alloc: Global,
     definition: Definition,

@@ -5,7 +5,7 @@ use hir_defs::{FieldData, FieldsShape, RawVisibility};
 use hir_text_nodes::{Answer, TextError, Words, join_mod_path, read_mod_path};
 use std::alloc::{AllocError, Global};
 
-/// The number behind `default:`, where it is there.
+/// The number after `default:`, where it is there.
 fn opt_default<K>(words: &mut Words<'_>) -> Result<Option<Idx<K>>, TextError> {
     if words.prefix(b"default:") {
         return Ok(Some(words.id()?));
@@ -26,7 +26,7 @@ fn read_limit(words: &mut Words<'_>, alloc: Global) -> Result<RawVisibility, Tex
     }
 }
 
-/// A visibility behind a space.
+/// A visibility after a space.
 fn next_visibility(words: &mut Words<'_>, alloc: Global) -> Result<RawVisibility, TextError> {
     words.expect(b" pub")?;
     if words.is_word_end() {
@@ -38,7 +38,7 @@ fn next_visibility(words: &mut Words<'_>, alloc: Global) -> Result<RawVisibility
     Ok(visibility)
 }
 
-/// What stands behind `field`.
+/// What comes after `field`.
 pub(crate) fn read_field(words: &mut Words<'_>, alloc: Global) -> Result<FieldData, TextError> {
     let name = words.next_name(alloc)?;
     let type_ref = words.next_id()?;
@@ -54,7 +54,7 @@ pub(crate) fn read_field(words: &mut Words<'_>, alloc: Global) -> Result<FieldDa
     })
 }
 
-/// How fields are written, behind a space.
+/// How fields are written, after a space.
 pub(crate) fn next_shape(words: &mut Words<'_>) -> Result<FieldsShape, TextError> {
     match words.next_keyword()? {
         b"record" => Ok(FieldsShape::Record),

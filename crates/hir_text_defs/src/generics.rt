@@ -39,7 +39,7 @@ pub(crate) enum Question {
     LifetimeIndex(LocalLifetimeParamId),
 }
 
-/// What stands in front of the definition.
+/// What comes before the definition.
 pub(crate) fn read(
     alloc: Global,
     kind: Kind,
@@ -60,7 +60,7 @@ pub(crate) fn read(
     }
 }
 
-/// Begins a line with a number, behind the lines before it.
+/// Begins a line with a number, after the lines before it.
 fn begin_line(is_first: bool, number: u32, answer: &mut Answer) -> Result<(), AllocError> {
     if !is_first {
         answer.line()?;
@@ -83,7 +83,7 @@ fn write_counts(params: &GenericParams, answer: &mut Answer) -> Result<(), Alloc
     write_count("predicates", params.where_predicates().len(), answer)
 }
 
-/// Writes types and constants, each in a line behind its number.
+/// Writes types and constants, each in a line after its number.
 fn write_params(params: &GenericParams, answer: &mut Answer) -> Result<(), AllocError> {
     let mut is_first = true;
     for (id, param) in params.iter_type_or_consts() {
@@ -94,7 +94,7 @@ fn write_params(params: &GenericParams, answer: &mut Answer) -> Result<(), Alloc
     Ok(())
 }
 
-/// Writes lifetimes, each in a line behind its number.
+/// Writes lifetimes, each in a line after its number.
 fn write_lifetimes(params: &GenericParams, answer: &mut Answer) -> Result<(), AllocError> {
     let mut is_first = true;
     for (id, lifetime) in params.iter_lt() {
@@ -127,7 +127,7 @@ fn write_late(params: &GenericParams, answer: &mut Answer) -> Result<(), AllocEr
     Ok(())
 }
 
-/// Writes predicates, each in a line behind its number.
+/// Writes predicates, each in a line after its number.
 fn write_predicates(params: &GenericParams, answer: &mut Answer) -> Result<(), AllocError> {
     let mut number: u32 = 0;
     for predicate in params.where_predicates() {

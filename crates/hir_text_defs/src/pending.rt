@@ -69,7 +69,7 @@ const KINDS: [(&str, Kind); 9] = [
     ("field", Kind::Field),
 ];
 
-/// Puts what was read behind the others.
+/// Puts what was read after the others.
 fn push<T: Drop>(list: &mut Seq<T>, item: Result<T, TextError>) -> Result<(), TextError> {
     Ok(list.push(item?)?)
 }
@@ -115,7 +115,7 @@ impl Pending {
         }
     }
 
-    /// Does what a line says that makes a part of what comes next; answers whether it is such a line.
+    /// Does what a line says that makes a part of what comes next; returns whether it is such a line.
     pub fn line(
         &mut self,
         alloc: Global,

@@ -10,9 +10,8 @@ use hir_base::{
 };
 use hir_defs::{
     Bodies, Body, BodySourceMap, FunctionSignature, GenericParams, PlainDef, PlainSignature,
-    Signatures, StructSignature, Tables, TablesOf, VariantFields,
+    StructSignature, Tables, TablesOf, VariantFields,
 };
-use hir_store::ExpressionStore;
 use hir_text_nodes::{
     Answer, TextError, Words, as_def_with_body, as_generic, as_named, as_variant, next_def,
     next_edition, syntax, write_source,
@@ -89,7 +88,7 @@ enum Question {
     Generics(generics::Question, GenericDefId),
 }
 
-/// A definition that has generic parameters, behind a space.
+/// A definition that has generic parameters, after a space.
 fn next_generic(words: &mut Words<'_>) -> Result<GenericDefId, TextError> {
     as_generic(next_def(words)?)
 }
@@ -107,7 +106,7 @@ fn read_generics(
     }
 }
 
-/// What stands behind the first word.
+/// What comes after the first word.
 fn read(alloc: Global, kind: Kind, words: &mut Words<'_>) -> Result<Question, TextError> {
     match kind {
         Kind::Name => Ok(Question::Name(as_named(next_def(words)?)?)),
@@ -272,48 +271,7 @@ fn write(tables: &Tables, question: &Question, answer: &mut Answer) -> Result<()
     }
 }
 
-/// Whether the parameters of a definition are these by each call that looks them up, and their store is this
-/// one.
-fn are_beside<T: Signatures>(
-    tables: &T,
-    def: &GenericDefId,
-    params: &GenericParams,
-    store: &ExpressionStore,
-) -> bool {
-    let Ok(alone) = GenericParams::of(tables, *def) else {
-        return false;
-    };
-    let Ok((beside, same_store)) = GenericParams::with_store(tables, *def) else {
-        return false;
-    };
-    *alone == *params && *beside == *params && *same_store == *store
-}
-
-/// `beside DEF QUESTION`: asks the store and the source map that are looked up with the generic parameters of
-/// a definition.
-fn ask_beside<T: Signatures>(
-    alloc: Global,
-    tables: &T,
-    words: &mut Words<'_>,
-    answer: &mut Answer,
-) -> Result<bool, TextError> {
-    let def = next_generic(words)?;
-    let word = words.next_keyword()?;
-    let (params, store, sources) = match GenericParams::with_source_map(tables, def) {
-        Ok(entry) => entry,
-        Err(missing) => {
-            refuse_missing(missing, answer)?;
-            return Ok(true);
-        }
-    };
-    if !are_beside(tables, &def, params, store) {
-        differs(answer)?;
-        return Ok(true);
-    }
-    hir_text_store::ask(alloc, store, sources, word, words, answer)
-}
-
-/// Answers a question on the tables; answers whether it is such a question.
+/// Answers a question on the tables; returns whether it is such a question.
 pub fn ask(
     alloc: Global,
     tables: &Tables,
@@ -321,9 +279,6 @@ pub fn ask(
     words: &mut Words<'_>,
     answer: &mut Answer,
 ) -> Result<bool, TextError> {
-    if word == b"beside".as_slice() {
-        return ask_beside(alloc, tables, words, answer);
-    }
     let Some(question) = read_line(alloc, word, words)? else {
         return Ok(false);
     };

@@ -1,40 +1,10 @@
 //! Signatures and the fields of variants, as their lines have them.
 
 use crate::fields::{write_field, write_shape};
-use hir_base::{FunctionId, Idx, StructId, VariantId};
+use hir_base::{FunctionId, StructId, VariantId};
 use hir_defs::{FunctionSignature, PlainDef, StructSignature, VariantFields};
-use hir_node::TypeRefId;
 use hir_text_nodes::{Answer, of_generic, of_variant, write_abi, write_def};
 use std::alloc::AllocError;
-
-/// Writes types as a line has them: joined by `,`, or `-`.
-fn write_types(types: &[TypeRefId], answer: &mut Answer) -> Result<(), AllocError> {
-    let Some((first, others)) = types.split_first() else {
-        return answer.word("-");
-    };
-    answer.id(*first)?;
-    for id in others {
-        answer.join(",")?;
-        answer.join_number(id.into_raw())?;
-    }
-    Ok(())
-}
-
-/// Writes the number of a node, or `-`.
-fn write_opt<K>(id: Option<Idx<K>>, answer: &mut Answer) -> Result<(), AllocError> {
-    match id {
-        Some(id) => answer.id(id),
-        None => answer.word("-"),
-    }
-}
-
-/// Writes a word that is there or is left out.
-fn write_flag(is_there: bool, word: &str, answer: &mut Answer) -> Result<(), AllocError> {
-    if is_there {
-        answer.word(word)?;
-    }
-    Ok(())
-}
 
 /// Writes the places of the arguments for constant parameters, where there are any.
 fn write_legacy(places: Option<&[u32]>, answer: &mut Answer) -> Result<(), AllocError> {
@@ -61,12 +31,12 @@ pub(crate) fn write_function(
     answer.word("function")?;
     answer.number(id.into_raw())?;
     answer.name(signature.name().as_str())?;
-    write_types(signature.params(), answer)?;
-    write_opt(signature.ret_type(), answer)?;
-    write_flag(signature.is_const(), "const", answer)?;
-    write_flag(signature.is_async(), "async", answer)?;
-    write_flag(signature.is_unsafe(), "unsafe", answer)?;
-    write_flag(signature.is_explicit_safe(), "safe", answer)?;
+    answer.ids(signature.params())?;
+    answer.id_or_dash(signature.ret_type())?;
+    answer.flag(signature.is_const(), "const")?;
+    answer.flag(signature.is_async(), "async")?;
+    answer.flag(signature.is_unsafe(), "unsafe")?;
+    answer.flag(signature.is_explicit_safe(), "safe")?;
     write_abi(signature.abi(), answer)?;
     write_legacy(signature.legacy_const_indices(), answer)
 }
@@ -80,7 +50,7 @@ pub(crate) fn write_struct(
     answer.number(id.into_raw())?;
     answer.name(signature.name().as_str())?;
     write_shape(signature.shape(), answer)?;
-    write_flag(signature.is_fundamental(), "fundamental", answer)
+    answer.flag(signature.is_fundamental(), "fundamental")
 }
 
 pub(crate) fn write_plain(def: PlainDef, answer: &mut Answer) -> Result<(), AllocError> {
@@ -88,7 +58,7 @@ pub(crate) fn write_plain(def: PlainDef, answer: &mut Answer) -> Result<(), Allo
     write_def(of_generic(def.generic_def()), answer)
 }
 
-/// Writes the line of a variant, and behind it those of its fields.
+/// Writes the line of a variant, and after it those of its fields.
 pub(crate) fn write_variant(
     id: VariantId,
     variant: &VariantFields,

@@ -30,7 +30,7 @@ pub struct StructLine {
     is_fundamental: bool,
 }
 
-/// The types of parameters, behind a space.
+/// The types of parameters, after a space.
 fn next_types(words: &mut Words<'_>, alloc: Global) -> Result<Seq<TypeRefId>, TextError> {
     let ids = words.next_ids(alloc)?;
     let mut types = Seq::new(alloc);
@@ -56,7 +56,7 @@ fn read_numbers(words: &mut Words<'_>, alloc: Global) -> Result<Seq<u32>, TextEr
     Ok(numbers)
 }
 
-/// The numbers behind `legacy:`, where they are there.
+/// The numbers after `legacy:`, where they are there.
 fn opt_legacy(words: &mut Words<'_>, alloc: Global) -> Result<Option<Seq<u32>>, TextError> {
     if words.prefix(b"legacy:") {
         return Ok(Some(read_numbers(words, alloc)?));
@@ -64,7 +64,7 @@ fn opt_legacy(words: &mut Words<'_>, alloc: Global) -> Result<Option<Seq<u32>>, 
     Ok(None)
 }
 
-/// What stands behind the number of a function.
+/// What comes after the number of a function.
 pub(crate) fn read_function(
     words: &mut Words<'_>,
     alloc: Global,
@@ -91,7 +91,7 @@ pub(crate) fn read_function(
     })
 }
 
-/// What stands behind the number of a struct.
+/// What comes after the number of a struct.
 pub(crate) fn read_struct(words: &mut Words<'_>, alloc: Global) -> Result<StructLine, TextError> {
     let name = words.next_name(alloc)?;
     let shape = next_shape(words)?;

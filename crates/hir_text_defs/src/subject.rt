@@ -11,7 +11,7 @@ pub type Finished = Box<(ExpressionStore, ExpressionStoreSourceMap)>;
 /// The store that questions ask.
 #[derive(Drop)]
 pub enum Subject {
-    /// The one that is kept, where there is one.
+    /// None.
     None,
     /// The one that was finished last.
     Store(Finished),

@@ -35,7 +35,7 @@ enum Entry {
     RawWords(Edition, Seq<Text>),
 }
 
-/// A name or `-`, behind a space.
+/// A name or `-`, after a space.
 fn next_opt_text(words: &mut Words<'_>, alloc: Global) -> Result<Option<Text>, TextError> {
     words.expect(b" ")?;
     if words.eat(b"-") {
@@ -44,7 +44,7 @@ fn next_opt_text(words: &mut Words<'_>, alloc: Global) -> Result<Option<Text>, T
     Ok(Some(Text::from_string(words.string(alloc)?)))
 }
 
-/// Names joined by `,`, or `-`, behind a space.
+/// Names joined by `,`, or `-`, after a space.
 fn next_texts(words: &mut Words<'_>, alloc: Global) -> Result<Seq<Text>, TextError> {
     words.expect(b" ")?;
     let mut texts = Seq::new(alloc);
@@ -61,7 +61,7 @@ fn next_texts(words: &mut Words<'_>, alloc: Global) -> Result<Seq<Text>, TextErr
     Ok(texts)
 }
 
-/// A number of 64 bits behind the start of a word, where the word is there.
+/// A number of 64 bits after the start of a word, where the word is there.
 fn opt_long(start: &[u8], words: &mut Words<'_>) -> Result<Option<u64>, TextError> {
     if words.prefix(start) {
         return Ok(Some(words.long()?));
@@ -76,7 +76,7 @@ fn read_repr(words: &mut Words<'_>) -> Result<Repr, TextError> {
     Ok(Repr { c, align, pack })
 }
 
-/// What stands behind the first word.
+/// What comes after the first word.
 fn read(alloc: Global, kind: Kind, words: &mut Words<'_>) -> Result<Entry, TextError> {
     match kind {
         Kind::Name => {
@@ -130,7 +130,7 @@ fn read_line(
     Ok(Some(entry))
 }
 
-/// Does what a line says that adds an entry to the tables; answers whether it is such a line.
+/// Does what a line says that adds an entry to the tables; returns whether it is such a line.
 pub fn line(
     alloc: Global,
     tables: &mut Tables,

@@ -42,7 +42,7 @@ pub(crate) fn next_letter(words: &Words<'_>) -> Option<u8> {
     letter_of(ahead.bare_name())
 }
 
-/// The number behind a letter.
+/// The number after a letter.
 pub(crate) fn lettered_id<K>(words: &mut Words<'_>) -> Result<Idx<K>, TextError> {
     let _ = words.take(1);
     words.id()
@@ -137,7 +137,7 @@ fn opt_args(
     Ok(Some(read_within(words, alloc, depth - 1)?))
 }
 
-/// The binding of an associated type: its arguments, bounds behind `:`, and a type behind `=`.
+/// The binding of an associated type: its arguments, bounds after `:`, and a type after `=`.
 #[cycle(read_within)]
 fn read_binding(
     words: &mut Words<'_>,
@@ -186,7 +186,7 @@ fn opt_bindings(
     Ok(Seq::new(alloc))
 }
 
-/// What stands behind `::<`, to the end `>`. In it others may be nested as deep as `depth`.
+/// What comes after `::<`, to the end `>`. In it others may be nested as deep as `depth`.
 #[cycle(read_within)]
 fn read_within(words: &mut Words<'_>, alloc: Global, depth: u8) -> Result<GenericArgs, TextError> {
     let has_self_type = words.eat(b"self;");
@@ -211,7 +211,7 @@ pub(crate) fn read_args(words: &mut Words<'_>, alloc: Global) -> Result<GenericA
     read_within(words, alloc, DEEPEST)
 }
 
-/// The same behind a space.
+/// The same after a space.
 pub fn next_args(words: &mut Words<'_>, alloc: Global) -> Result<GenericArgs, TextError> {
     words.expect(b" ")?;
     read_args(words, alloc)

@@ -1,7 +1,7 @@
-//! Bindings with their hygiene, labels and lifetimes, as the lines behind `bind`, `label` and `lifetime` have
+//! Bindings with their hygiene, labels and lifetimes, as the lines after `bind`, `label` and `lifetime` have
 //! them.
 
-use crate::definitions::next_lifetime_param;
+use crate::definitions::{next_lifetime_param, of_generic, write_def};
 use crate::reading::zip_ok;
 use hir_base::{HygieneId, SyntaxContext};
 use hir_node::{Binding, BindingAnnotation, BindingProblems, Label, LifetimeRef};
@@ -16,7 +16,7 @@ fn read_hygiene(words: &mut Words<'_>) -> Result<HygieneId, TextError> {
     Ok(HygieneId::new(SyntaxContext::Expansion(words.number()?)))
 }
 
-/// A hygiene behind a space.
+/// A hygiene after a space.
 pub fn next_hygiene(words: &mut Words<'_>) -> Result<HygieneId, TextError> {
     words.expect(b" ")?;
     read_hygiene(words)
@@ -61,7 +61,7 @@ fn opt_problem(words: &mut Words<'_>) -> Option<BindingProblems> {
     }
 }
 
-/// A binding, behind the word `bind`.
+/// A binding, after the word `bind`.
 pub fn read_binding(words: &mut Words<'_>, alloc: Global) -> Result<Binding, TextError> {
     let name = words.next_name(alloc);
     let mode = words.flag_in(&MODES);
@@ -74,7 +74,7 @@ pub fn read_binding(words: &mut Words<'_>, alloc: Global) -> Result<Binding, Tex
     })
 }
 
-/// A label, behind the word `label`.
+/// A label, after the word `label`.
 pub fn read_label(words: &mut Words<'_>, alloc: Global) -> Result<Label, TextError> {
     Ok(Label {
         name: words.next_name(alloc)?,
@@ -99,7 +99,7 @@ const FORMS: [(&str, Form); 5] = [
     ("error", Form::Error),
 ];
 
-/// A lifetime, behind the word `lifetime`.
+/// A lifetime, after the word `lifetime`.
 pub fn read_lifetime(words: &mut Words<'_>, alloc: Global) -> Result<LifetimeRef, TextError> {
     match words.next_in(&FORMS)? {
         Form::Named => Ok(LifetimeRef::Named(words.next_name(alloc)?)),
@@ -107,5 +107,64 @@ pub fn read_lifetime(words: &mut Words<'_>, alloc: Global) -> Result<LifetimeRef
         Form::Placeholder => Ok(LifetimeRef::Placeholder),
         Form::Param => Ok(LifetimeRef::Param(next_lifetime_param(words)?)),
         Form::Error => Ok(LifetimeRef::Error),
+    }
+}
+
+fn mode_text(mode: BindingAnnotation) -> Option<&'static str> {
+    match mode {
+        BindingAnnotation::Unannotated => None,
+        BindingAnnotation::Mutable => Some("mut"),
+        BindingAnnotation::Ref => Some("ref"),
+        BindingAnnotation::RefMut => Some("refmut"),
+    }
+}
+
+fn problem_text(problem: &BindingProblems) -> &'static str {
+    match problem {
+        BindingProblems::BoundMoreThanOnce => "BoundMoreThanOnce",
+        BindingProblems::BoundInconsistently => "BoundInconsistently",
+        BindingProblems::NotBoundAcrossAll => "NotBoundAcrossAll",
+    }
+}
+
+/// Writes the line of a binding.
+pub fn write_binding(binding: &Binding, answer: &mut Answer) -> Result<(), AllocError> {
+    answer.word("bind")?;
+    answer.name(binding.name.as_str())?;
+    if let Some(mode) = mode_text(binding.mode) {
+        answer.word(mode)?;
+    }
+    match binding.hygiene.syntax_context() {
+        SyntaxContext::Root(_) => {}
+        SyntaxContext::Expansion(number) => answer.number(number)?,
+    }
+    match &binding.problems {
+        Some(problem) => answer.word(problem_text(problem)),
+        None => Ok(()),
+    }
+}
+
+/// Writes the line of a label.
+pub fn write_label(label: &Label, answer: &mut Answer) -> Result<(), AllocError> {
+    answer.word("label")?;
+    answer.name(label.name.as_str())
+}
+
+/// Writes the line of a lifetime.
+pub fn write_lifetime(lifetime: &LifetimeRef, answer: &mut Answer) -> Result<(), AllocError> {
+    answer.word("lifetime")?;
+    match lifetime {
+        LifetimeRef::Named(name) => {
+            answer.word("named")?;
+            answer.name(name.as_str())
+        }
+        LifetimeRef::Static => answer.word("static"),
+        LifetimeRef::Placeholder => answer.word("placeholder"),
+        LifetimeRef::Param(id) => {
+            answer.word("param")?;
+            write_def(of_generic(id.parent), answer)?;
+            answer.id(id.local_id)
+        }
+        LifetimeRef::Error => answer.word("error"),
     }
 }

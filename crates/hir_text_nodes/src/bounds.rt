@@ -34,7 +34,7 @@ fn read_trait(words: &mut Words<'_>) -> Result<PathId, TextError> {
     read_path_id(words)
 }
 
-/// The same behind its letter.
+/// The same after its letter.
 fn read_path_id(words: &mut Words<'_>) -> Result<PathId, TextError> {
     Ok(PathId::from_type_ref_unchecked(words.id()?))
 }
@@ -59,7 +59,7 @@ fn read_uses(words: &mut Words<'_>, alloc: Global) -> Result<Seq<UseArgRef>, Tex
     Ok(uses)
 }
 
-/// The names behind `for<`, to the end `>`.
+/// The names after `for<`, to the end `>`.
 fn read_binder(words: &mut Words<'_>, alloc: Global) -> Result<Seq<Name>, TextError> {
     let names = joined_or_none(words, alloc, b",")?;
     words.expect(b">")?;
@@ -77,12 +77,12 @@ pub(crate) fn opt_binder(
     Ok(None)
 }
 
-/// A trait, behind its letter.
+/// A trait, after its letter.
 fn path_bound(words: &mut Words<'_>, modifier: TraitBoundModifier) -> Result<TypeBound, TextError> {
     Ok(TypeBound::Path(read_path_id(words)?, modifier))
 }
 
-/// A trait behind `for<`.
+/// A trait after `for<`.
 fn read_for(words: &mut Words<'_>, alloc: Global) -> Result<TypeBound, TextError> {
     let (names, path) = zip_ok(read_binder(words, alloc), read_trait(words))?;
     Ok(TypeBound::ForLifetime(names, path))
@@ -101,13 +101,13 @@ impl Read for TypeBound {
     }
 }
 
-/// A bound behind a space.
+/// A bound after a space.
 pub fn next_bound(words: &mut Words<'_>, alloc: Global) -> Result<TypeBound, TextError> {
     words.expect(b" ")?;
     TypeBound::read(words, alloc)
 }
 
-/// Bounds joined by `+`, or `-`, behind a space.
+/// Bounds joined by `+`, or `-`, after a space.
 pub(crate) fn next_bounds(
     words: &mut Words<'_>,
     alloc: Global,

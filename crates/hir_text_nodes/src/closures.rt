@@ -104,7 +104,7 @@ fn closure_kind(words: &mut Words<'_>) -> Result<ClosureKind, TextError> {
     }
 }
 
-/// A coroutine, where its source stands behind a colon; else a closure that makes coroutines.
+/// A coroutine, where its source comes after a colon; else a closure that makes coroutines.
 fn coroutine(words: &mut Words<'_>, kind: CoroutineKind) -> Result<ClosureKind, TextError> {
     if !words.eat(b":") {
         return Ok(ClosureKind::CoroutineClosure(kind));

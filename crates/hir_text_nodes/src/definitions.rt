@@ -79,7 +79,7 @@ pub fn read_def(words: &mut Words<'_>) -> Result<Def, TextError> {
     Ok(Def { kind, number })
 }
 
-/// The same behind a space.
+/// The same after a space.
 pub fn next_def(words: &mut Words<'_>) -> Result<Def, TextError> {
     words.expect(b" ")?;
     read_def(words)
@@ -275,7 +275,7 @@ pub(crate) fn of_lang(def: LangItemTarget) -> Def {
     }
 }
 
-/// Writes a definition behind the last word without a space.
+/// Writes a definition after the last word without a space.
 pub fn join_def(def: Def, answer: &mut Answer) -> Result<(), AllocError> {
     answer.join(def.kind.text())?;
     answer.join_around("(", def.number, ")")
@@ -301,7 +301,7 @@ const OWNERS: [(&str, Owner); 3] = [
     ("fields", Owner::Fields),
 ];
 
-/// Whose store it is: `body`, `signature` or `fields`, and the definition, behind a space.
+/// Whose store it is: `body`, `signature` or `fields`, and the definition, after a space.
 pub fn next_owner(words: &mut Words<'_>) -> Result<ExpressionStoreOwnerId, TextError> {
     let owner = words.next_in(&OWNERS)?;
     let def = next_def(words)?;
@@ -312,18 +312,18 @@ pub fn next_owner(words: &mut Words<'_>) -> Result<ExpressionStoreOwnerId, TextE
     }
 }
 
-/// A definition that may have generic parameters, behind a space.
+/// A definition that may have generic parameters, after a space.
 fn next_generic(words: &mut Words<'_>) -> Result<GenericDefId, TextError> {
     as_generic(next_def(words)?)
 }
 
-/// A type parameter of a definition: the definition and a number, each behind a space.
+/// A type parameter of a definition: the definition and a number, each after a space.
 pub(crate) fn next_type_param(words: &mut Words<'_>) -> Result<TypeParamId, TextError> {
     let (parent, local_id) = zip_ok(next_generic(words), words.next_id())?;
     Ok(TypeParamId::from_unchecked(TypeOrConstParamId { parent, local_id }))
 }
 
-/// A lifetime parameter of a definition: the definition and a number, each behind a space.
+/// A lifetime parameter of a definition: the definition and a number, each after a space.
 pub(crate) fn next_lifetime_param(words: &mut Words<'_>) -> Result<LifetimeParamId, TextError> {
     let (parent, local_id) = zip_ok(next_generic(words), words.next_id())?;
     Ok(LifetimeParamId { parent, local_id })

@@ -1,4 +1,4 @@
-//! Diagnostics of lowering, as the line behind `diagnostic` has them: the kind, the source, and what the kind
+//! Diagnostics of lowering, as the line after `diagnostic` has them: the kind, the source, and what the kind
 //! has.
 
 use crate::path_text::write_mod_path;
@@ -58,7 +58,7 @@ const KINDS: [(&str, Kind); 8] = [
     ("MissingBody", Kind::MissingBody),
 ];
 
-/// A diagnostic, behind the word `diagnostic`.
+/// A diagnostic, after the word `diagnostic`.
 pub fn read_diagnostic(
     words: &mut Words<'_>,
     alloc: Global,
@@ -118,7 +118,7 @@ fn write_front(
     write_source(source, answer)
 }
 
-/// Writes a diagnostic, as its line has it behind the word `diagnostic`.
+/// Writes a diagnostic, as its line has it after the word `diagnostic`.
 pub fn write_diagnostic(
     diagnostic: &ExpressionStoreDiagnostics,
     answer: &mut Answer,

@@ -10,7 +10,7 @@ const EDITIONS: [(&str, Edition); 4] = [
     ("2024", Edition::Edition2024),
 ];
 
-/// An edition behind a space.
+/// An edition after a space.
 pub fn next_edition(words: &mut Words<'_>) -> Result<Edition, TextError> {
     words.next_in(&EDITIONS)
 }

@@ -113,7 +113,7 @@ const FORMS: [(&str, Form); 40] = [
     ("float", Form::Literal(LiteralForm::Float)),
 ];
 
-/// The expression of the words behind `expr`.
+/// The expression of the words after `expr`.
 pub fn read_expr(words: &mut Words<'_>, alloc: Global) -> Result<Expr, TextError> {
     match words.next_in(&FORMS)? {
         Form::Simple(form) => simple_expr(form, words),
@@ -237,7 +237,7 @@ fn compound_expr(form: Compound, words: &mut Words<'_>, alloc: Global) -> Result
     }
 }
 
-/// Names behind a space: joined by `,`, or `-`.
+/// Names after a space: joined by `,`, or `-`.
 fn next_names(words: &mut Words<'_>, alloc: Global) -> Result<Seq<Name>, TextError> {
     words.expect(b" ")?;
     joined_or_none(words, alloc, b",")

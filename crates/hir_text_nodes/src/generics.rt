@@ -1,4 +1,4 @@
-//! Generic parameters and the predicates of `where` clauses: read behind the first word of their line, and
+//! Generic parameters and the predicates of `where` clauses: read after the first word of their line, and
 //! written as their line has them.
 
 use crate::bounds::{next_bound, opt_binder};
@@ -13,7 +13,7 @@ use hir_path::ConstRef;
 use hir_text_words::{Answer, TextError, Words};
 use std::alloc::{AllocError, Global};
 
-/// What a parameter is if no argument is given, behind `default:`.
+/// What a parameter is if no argument is given, after `default:`.
 fn opt_default<K>(words: &mut Words<'_>) -> Result<Option<Idx<K>>, TextError> {
     words.prefixed_id(b"default:")
 }
@@ -24,7 +24,7 @@ const PROVENANCES: [(&str, TypeParamProvenance); 2] = [
     ("impl", TypeParamProvenance::ArgumentImplTrait),
 ];
 
-/// A type parameter, behind the word `type-param`.
+/// A type parameter, after the word `type-param`.
 pub fn read_type_param(
     words: &mut Words<'_>,
     alloc: Global,
@@ -38,7 +38,7 @@ pub fn read_type_param(
     }))
 }
 
-/// A constant parameter, behind the word `const-param`.
+/// A constant parameter, after the word `const-param`.
 pub fn read_const_param(
     words: &mut Words<'_>,
     alloc: Global,
@@ -56,7 +56,7 @@ fn opt_const(words: &mut Words<'_>) -> Result<Option<ConstRef>, TextError> {
     }
 }
 
-/// A lifetime parameter, behind the word `lifetime-param`.
+/// A lifetime parameter, after the word `lifetime-param`.
 pub fn read_lifetime_param(
     words: &mut Words<'_>,
     alloc: Global,
@@ -75,7 +75,7 @@ fn bound_type(words: &mut Words<'_>) -> LifetimeBoundType {
     }
 }
 
-/// The predicate that a type meets a bound, behind the word `where`.
+/// The predicate that a type meets a bound, after the word `where`.
 pub fn read_where(words: &mut Words<'_>, alloc: Global) -> Result<WherePredicate, TextError> {
     let target = words.next_id();
     let bound = next_bound(words, alloc);
@@ -87,7 +87,7 @@ pub fn read_where(words: &mut Words<'_>, alloc: Global) -> Result<WherePredicate
     })
 }
 
-/// The predicate that a lifetime outlives another, behind the word `where-lifetime`.
+/// The predicate that a lifetime outlives another, after the word `where-lifetime`.
 pub fn read_where_lifetime(words: &mut Words<'_>) -> Result<WherePredicate, TextError> {
     let (target, bound) = zip_ok(words.next_id(), words.next_id())?;
     Ok(WherePredicate::Lifetime { target, bound })

@@ -1,4 +1,4 @@
-//! Literals: read behind their keyword, and written as their line has them.
+//! Literals: read after their keyword, and written as their line has them.
 
 use crate::variants::{Word, of_word};
 use hir_base::{BuiltinFloat, BuiltinInt, BuiltinUint, Text};

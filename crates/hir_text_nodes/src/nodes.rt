@@ -49,7 +49,7 @@ fn node_of(arena: Arena, number: u32) -> Node {
     }
 }
 
-/// A node behind a space.
+/// A node after a space.
 pub fn next_node(words: &mut Words<'_>) -> Result<Node, TextError> {
     let (arena, number) = zip_ok(words.next_in(&ARENAS), words.part_number(b":"))?;
     Ok(node_of(arena, number))

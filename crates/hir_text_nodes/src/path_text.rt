@@ -11,7 +11,7 @@ use hir_path::{
 use hir_text_words::Answer;
 use std::alloc::AllocError;
 
-/// Writes a name behind the last word: in quotes too where it reads like something else in its place.
+/// Writes a name after the last word: in quotes too where it reads like something else in its place.
 fn join_name(name: &Name, is_taken: bool, answer: &mut Answer) -> Result<(), AllocError> {
     if is_taken {
         answer.join_quoted(name.as_str())
@@ -20,7 +20,7 @@ fn join_name(name: &Name, is_taken: bool, answer: &mut Answer) -> Result<(), All
     }
 }
 
-/// Writes names joined by `,`, or `-`, behind the last word.
+/// Writes names joined by `,`, or `-`, after the last word.
 pub(crate) fn join_names(names: &[Name], answer: &mut Answer) -> Result<(), AllocError> {
     if names.is_empty() {
         return answer.join("-");
@@ -66,7 +66,7 @@ fn join_uses(uses: &[UseArgRef], answer: &mut Answer) -> Result<(), AllocError> 
     answer.join(">")
 }
 
-/// Writes a bound behind the last word without a space.
+/// Writes a bound after the last word without a space.
 fn join_bound(bound: &TypeBound, answer: &mut Answer) -> Result<(), AllocError> {
     match bound {
         TypeBound::Path(path, modifier) => {
@@ -94,7 +94,13 @@ pub(crate) fn write_bound(bound: &TypeBound, answer: &mut Answer) -> Result<(), 
     join_bound(bound, answer)
 }
 
-/// Writes bounds joined by `+`, or `-`, behind the last word without a space.
+/// Writes bounds joined by `+`, or `-`.
+pub(crate) fn write_bounds(bounds: &[TypeBound], answer: &mut Answer) -> Result<(), AllocError> {
+    answer.word("")?;
+    join_bounds(bounds, answer)
+}
+
+/// Writes bounds joined by `+`, or `-`, after the last word without a space.
 fn join_bounds(bounds: &[TypeBound], answer: &mut Answer) -> Result<(), AllocError> {
     if bounds.is_empty() {
         return answer.join("-");
@@ -128,7 +134,7 @@ fn join_list(args: &[GenericArg], answer: &mut Answer) -> Result<(), AllocError>
     Ok(())
 }
 
-/// Writes what stands before the bindings of generic arguments.
+/// Writes what comes before the bindings of generic arguments.
 fn join_front(args: &GenericArgs, answer: &mut Answer) -> Result<(), AllocError> {
     answer.join("::<")?;
     if args.has_self_type {
@@ -142,7 +148,7 @@ fn join_front(args: &GenericArgs, answer: &mut Answer) -> Result<(), AllocError>
     Ok(())
 }
 
-/// Writes generic arguments behind the last word without a space, from `::<` on.
+/// Writes generic arguments after the last word without a space, from `::<` on.
 #[cycle(join_args)]
 pub fn join_args(args: &GenericArgs, answer: &mut Answer) -> Result<(), AllocError> {
     join_front(args, answer)?;
@@ -221,7 +227,7 @@ fn join_segment(name: &Name, answer: &mut Answer) -> Result<(), AllocError> {
     join_name(name, is_kind(name.as_str().as_bytes()), answer)
 }
 
-/// Writes a path without arguments, behind the last word without a space.
+/// Writes a path without arguments, after the last word without a space.
 pub fn join_mod_path(path: &ModPath, answer: &mut Answer) -> Result<(), AllocError> {
     join_kind(path.kind(), !path.segments().is_empty(), answer)?;
     for (at, name) in path.segments().iter().enumerate() {
@@ -301,7 +307,7 @@ fn join_normal(
     answer.join_size(places)
 }
 
-/// Writes a lang item, with the name behind it.
+/// Writes a lang item, with the name after it.
 fn join_lang(
     target: LangItemTarget,
     name: Option<&Boxed<Name>>,

@@ -29,7 +29,7 @@ fn read_super(words: &mut Words<'_>) -> Result<u8, TextError> {
     Ok(count)
 }
 
-/// The crate behind `$crate(`.
+/// The crate after `$crate(`.
 fn read_crate(words: &mut Words<'_>) -> Result<PathKind, TextError> {
     let krate = words.number()?;
     words.expect(b")")?;
@@ -106,7 +106,7 @@ pub fn read_mod_path(words: &mut Words<'_>, alloc: Global) -> Result<ModPath, Te
     mod_path(alloc, kind, names)
 }
 
-/// The same behind a space.
+/// The same after a space.
 pub(crate) fn next_mod_path(words: &mut Words<'_>, alloc: Global) -> Result<ModPath, TextError> {
     words.expect(b" ")?;
     read_mod_path(words, alloc)
@@ -127,7 +127,7 @@ fn opt_args(words: &mut Words<'_>, alloc: Global) -> Result<Option<GenericArgs>,
     Ok(None)
 }
 
-/// The next segment, which is put behind the others.
+/// The next segment, which is put after the others.
 fn push_segment(
     words: &mut Words<'_>,
     alloc: Global,
@@ -169,7 +169,7 @@ fn opt_anchor(words: &mut Words<'_>) -> Result<Option<TypeRefId>, TextError> {
     Ok(Some(anchor))
 }
 
-/// The kind of a path behind its anchor, if it has one, and whether a segment comes next.
+/// The kind of a path after its anchor, if it has one, and whether a segment comes next.
 fn kind_behind(words: &mut Words<'_>, has_anchor: bool) -> Result<(PathKind, bool), TextError> {
     if has_anchor && !words.eat(b"::") {
         return Ok((PathKind::Plain, false));
@@ -187,7 +187,7 @@ pub(crate) fn has_args(places: &[Option<GenericArgs>]) -> bool {
     false
 }
 
-/// The places of a path, as many as stand behind `/`: no arguments may be lost.
+/// The places of a path, as many as come after `/`: no arguments may be lost.
 fn read_places(
     words: &mut Words<'_>,
     places: Seq<Option<GenericArgs>>,
@@ -215,7 +215,7 @@ fn resize(
     Ok(Seq::from_vec(places))
 }
 
-/// The name behind a lang item, where there is one.
+/// The name after a lang item, where there is one.
 fn opt_lang_name(words: &mut Words<'_>, alloc: Global) -> Result<Option<Boxed<Name>>, TextError> {
     if words.eat(b"::") {
         return Ok(Some(in_box(alloc, read_segment(words, alloc))?));
@@ -223,7 +223,7 @@ fn opt_lang_name(words: &mut Words<'_>, alloc: Global) -> Result<Option<Boxed<Na
     Ok(None)
 }
 
-/// The definition behind `lang(`, and its name.
+/// The definition after `lang(`, and its name.
 fn read_lang(words: &mut Words<'_>, alloc: Global) -> Result<Path, TextError> {
     let def = read_def(words)?;
     words.expect(b")")?;
@@ -278,7 +278,7 @@ pub fn read_path(words: &mut Words<'_>, alloc: Global) -> Result<Path, TextError
     Ok(Path::BarePath(mod_path(alloc, kind, names)?))
 }
 
-/// A path behind a space.
+/// A path after a space.
 pub fn next_path(words: &mut Words<'_>, alloc: Global) -> Result<Path, TextError> {
     words.expect(b" ")?;
     read_path(words, alloc)

@@ -61,7 +61,7 @@ const FORMS: [(&str, Form); 17] = [
     ("tstruct", Form::Compound(Compound::TupleStruct)),
 ];
 
-/// The pattern of the words behind `pat`.
+/// The pattern of the words after `pat`.
 pub fn read_pat(words: &mut Words<'_>, alloc: Global) -> Result<Pat, TextError> {
     match words.next_in(&FORMS)? {
         Form::Simple(form) => simple_pat(form, words),

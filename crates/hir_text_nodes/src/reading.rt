@@ -17,7 +17,7 @@ impl Read for Name {
     }
 }
 
-/// Puts an item behind the others, where it could be read.
+/// Puts an item after the others, where it could be read.
 pub(crate) fn push<T: Drop>(
     items: &mut Seq<T>,
     item: Result<T, TextError>,
@@ -61,7 +61,7 @@ pub(crate) fn joined_or_none<T: Read>(
     one_or_more(words, alloc, between)
 }
 
-/// Each that stands behind a space, to the line's end or to a word that begins with `..`.
+/// Each that comes after a space, to the line's end or to a word that begins with `..`.
 pub(crate) fn behind_spaces<T: Read>(
     words: &mut Words<'_>,
     alloc: Global,

@@ -11,7 +11,7 @@ fn read_range(words: &mut Words<'_>) -> Result<TextRange, TextError> {
     Ok(TextRange { start, end })
 }
 
-/// A kind of syntax behind a colon, and behind another its range.
+/// A kind of syntax after a colon, and after another its range.
 fn read_pointer(words: &mut Words<'_>) -> Result<SyntaxNodePtr, TextError> {
     words.expect(b":")?;
     let kind = words.short();
@@ -20,7 +20,7 @@ fn read_pointer(words: &mut Words<'_>) -> Result<SyntaxNodePtr, TextError> {
     Ok(SyntaxNodePtr { kind, range })
 }
 
-/// A source behind a space.
+/// A source after a space.
 pub fn next_source(words: &mut Words<'_>) -> Result<InFile<SyntaxNodePtr>, TextError> {
     let (file_id, value) = zip_ok(words.next_def(), read_pointer(words))?;
     Ok(InFile { file_id, value })
@@ -42,7 +42,7 @@ pub fn syntax<K>(source: InFile<AstPtr<K>>) -> InFile<SyntaxNodePtr> {
     }
 }
 
-/// Writes a source behind the last word without a space.
+/// Writes a source after the last word without a space.
 fn join_source(source: InFile<SyntaxNodePtr>, answer: &mut Answer) -> Result<(), AllocError> {
     answer.join_number(source.file_id.into_raw())?;
     answer.join_around(":", u32::from(source.value.kind), ":")?;

@@ -1,4 +1,4 @@
-//! Types, as the line behind `type` has them, and the calling conventions of functions.
+//! Types, as the line after `type` has them, and the calling conventions of functions.
 
 use crate::bounds::{next_bounds, opt_binder};
 use crate::definitions::next_type_param;
@@ -37,7 +37,7 @@ fn abi_of(known: KnownAbi) -> ExternAbi {
     }
 }
 
-/// A calling convention, behind `extern:`: a word that is known, or any text in quotes.
+/// A calling convention, after `extern:`: a word that is known, or any text in quotes.
 fn read_abi(words: &mut Words<'_>, alloc: Global) -> Result<ExternAbi, TextError> {
     if words.is_at(b"\"") {
         return Ok(ExternAbi::Named(Text::from_string(words.string(alloc)?)));
@@ -56,7 +56,7 @@ pub fn opt_abi(words: &mut Words<'_>, alloc: Global) -> Result<ExternAbi, TextEr
     read_abi(words, alloc)
 }
 
-/// Writes a calling convention behind `extern:`, and nothing for that of Rust.
+/// Writes a calling convention after `extern:`, and nothing for that of Rust.
 pub fn write_abi(abi: &ExternAbi, answer: &mut Answer) -> Result<(), AllocError> {
     match abi {
         ExternAbi::Rust => Ok(()),
@@ -85,7 +85,7 @@ fn opt_param_name(words: &mut Words<'_>, alloc: Global) -> Result<Option<Name>, 
     Ok(Some(name))
 }
 
-/// A parameter of a function pointer: its type, perhaps behind a name.
+/// A parameter of a function pointer: its type, perhaps after a name.
 impl Read for (Option<Name>, TypeRefId) {
     fn read(words: &mut Words<'_>, alloc: Global) -> Result<(Option<Name>, TypeRefId), TextError> {
         zip_ok(opt_param_name(words, alloc), words.id())
@@ -176,7 +176,7 @@ const FORMS: [(&str, Form); 14] = [
     ("dyn", Form::Compound(Compound::Dyn)),
 ];
 
-/// A type, behind the word `type`.
+/// A type, after the word `type`.
 pub fn read_type(words: &mut Words<'_>, alloc: Global) -> Result<TypeRef, TextError> {
     match words.next_in(&FORMS)? {
         Form::Simple(form) => simple_type(form, words),

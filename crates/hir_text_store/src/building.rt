@@ -20,7 +20,7 @@ pub(crate) enum Arena {
 
 /// A node that a line makes.
 trait NodeKind: Sized + Drop {
-    /// What stands behind the first word of the line.
+    /// What comes after the first word of the line.
     fn read(alloc: Global, words: &mut Words<'_>) -> Result<Self, TextError>;
 
     fn add(self, builder: &mut ExpressionStoreBuilder) -> Result<(), TextError>;
@@ -97,7 +97,7 @@ where
     }
 }
 
-/// Makes the node that stands behind the first word of a line.
+/// Makes the node that comes after the first word of a line.
 fn make_one<T: NodeKind>(
     alloc: Global,
     builder: &mut ExpressionStoreBuilder,

@@ -76,7 +76,7 @@ fn of_part<T: Part>(
     Ok(write_same(&first, &second, answer)?)
 }
 
-/// Visits the children of a node, by the store and by the node alone; answers whether the node is there. A
+/// Visits the children of a node, by the store and by the node alone; returns whether the node is there. A
 /// binding, a label and a lifetime have no children.
 fn visit(
     store: &ExpressionStore,

@@ -1,4 +1,4 @@
-//! What stands at the end of a line.
+//! What comes at the end of a line.
 
 use hir_base::{Idx, InFile, SyntaxNodePtr};
 use hir_node::ExprOrPatId;
@@ -25,7 +25,7 @@ pub(crate) fn last_node(words: &mut Words<'_>) -> Result<Node, TextError> {
     Ok(node)
 }
 
-/// An expression or a pattern behind a space.
+/// An expression or a pattern after a space.
 pub(crate) fn next_either(words: &mut Words<'_>) -> Result<ExprOrPatId, TextError> {
     match next_node(words)? {
         Node::Expr(id) => Ok(ExprOrPatId::ExprId(id)),

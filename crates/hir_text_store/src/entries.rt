@@ -29,7 +29,7 @@ enum Entry {
     Definition(BindingId, PatId),
 }
 
-/// What stands behind the first word.
+/// What comes after the first word.
 fn read(kind: Kind, words: &mut Words<'_>) -> Result<Entry, TextError> {
     match kind {
         Kind::Roots => Ok(Entry::Roots),

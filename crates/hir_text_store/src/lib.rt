@@ -2,12 +2,11 @@
 #![tactic(auto)]
 
 mod ancestors;
-mod blocks;
 mod building;
 mod calls;
 mod ends;
 mod entries;
-mod equality;
+mod lines;
 mod making;
 mod mapping;
 mod missing;
@@ -17,13 +16,13 @@ mod paths;
 mod places;
 mod questions;
 mod recorder;
+mod saved;
 mod searches;
 mod sources;
-mod try_walks;
 mod walks;
 
 pub use building::done_or_stop;
-pub use equality::{ask_kept, write_same};
 pub use making::make;
 pub use missing::{answer_unknown, differs, refuse, refuse_missing};
+pub use nodes::has_node;
 pub use questions::ask;

@@ -67,7 +67,7 @@ fn add(
     }
 }
 
-/// Adds to the builder what a line says; answers whether it is such a line.
+/// Adds to the builder what a line says; returns whether it is such a line.
 pub fn make(
     alloc: Global,
     builder: &mut ExpressionStoreBuilder,

@@ -6,7 +6,7 @@ use hir_text_nodes::{Answer, Def, join_def, of_def_with_body, of_generic, of_nam
 use std::alloc::{AllocError, Global};
 use std::fmt::Display;
 
-/// Writes a kind, and behind it a definition in parentheses.
+/// Writes a kind, and after it a definition in parentheses.
 fn write_kind(kind: &str, def: Def, answer: &mut Answer) -> Result<(), AllocError> {
     answer.join(kind)?;
     answer.join("(")?;
@@ -14,7 +14,7 @@ fn write_kind(kind: &str, def: Def, answer: &mut Answer) -> Result<(), AllocErro
     answer.join(")")
 }
 
-/// Writes a kind, and behind it a number in parentheses.
+/// Writes a kind, and after it a number in parentheses.
 fn write_number(kind: &str, number: u32, answer: &mut Answer) -> Result<(), AllocError> {
     answer.join(kind)?;
     answer.join("(")?;
@@ -22,7 +22,7 @@ fn write_number(kind: &str, number: u32, answer: &mut Answer) -> Result<(), Allo
     answer.join(")")
 }
 
-/// Writes a kind, and behind it a parameter of a definition in parentheses.
+/// Writes a kind, and after it a parameter of a definition in parentheses.
 fn write_param(
     kind: &str,
     parent: Def,

@@ -30,7 +30,7 @@ enum Question {
     Owner(BindingId),
 }
 
-/// What stands behind the first word.
+/// What comes after the first word.
 fn read(kind: Kind, words: &mut Words<'_>) -> Result<Question, TextError> {
     match kind {
         Kind::Counts => Ok(Question::Counts),
@@ -53,7 +53,7 @@ fn count_labels(store: &ExpressionStore) -> usize {
     count
 }
 
-/// Writes counts, each behind its name.
+/// Writes counts, each after its name.
 fn write_counts(counts: &[(&str, usize)], answer: &mut Answer) -> Result<(), AllocError> {
     for (name, count) in counts {
         answer.word(name)?;
@@ -83,8 +83,8 @@ fn write_roots(roots: ExprRoots<'_>, answer: &mut Answer) -> Result<(), AllocErr
     Ok(())
 }
 
-/// Whether the store has a node.
-pub(crate) fn has_node(store: &ExpressionStore, node: Node) -> bool {
+/// Returns whether the store has a node.
+pub fn has_node(store: &ExpressionStore, node: Node) -> bool {
     match node {
         Node::Expr(id) => store.has_expr(id),
         Node::Pat(id) => store.has_pat(id),

@@ -1,26 +1,17 @@
-//! Questions that no store is asked: on precedences, and on the numbers of closures and coroutines.
+//! Questions on the numbers of closures and coroutines, which no store is asked.
 
 use crate::ends::last_id;
 use crate::missing::answer_unknown;
 use hir_node::ExprId;
 use hir_store::ExpressionStore;
-use hir_text_nodes::{Answer, TextError, Words, next_precedence};
+use hir_text_nodes::{Answer, TextError, Words};
 use std::alloc::AllocError;
 
 /// What is asked.
 #[derive(Clone, Copy)]
 pub(crate) enum Question {
-    Parens,
     CoroutineForClosure,
     ClosureForCoroutine,
-}
-
-/// `parens PRECEDENCE PRECEDENCE`
-fn parens(words: &mut Words<'_>, answer: &mut Answer) -> Result<(), TextError> {
-    let child = next_precedence(words)?;
-    let parent = next_precedence(words)?;
-    words.end()?;
-    Ok(answer.yes_or_no(child.needs_parentheses_in(parent))?)
 }
 
 /// `coroutine-for-closure E`: the first expression has none before it.
@@ -31,7 +22,7 @@ fn coroutine_for_closure(id: ExprId, answer: &mut Answer) -> Result<(), AllocErr
     answer.id(ExpressionStore::coroutine_for_closure(id))
 }
 
-/// `closure-for-coroutine E`: the last number has none behind it.
+/// `closure-for-coroutine E`: the last number has none after it.
 fn closure_for_coroutine(id: ExprId, answer: &mut Answer) -> Result<(), AllocError> {
     if id.into_raw() == u32::MAX {
         return answer_unknown(answer);
@@ -46,7 +37,6 @@ pub(crate) fn ask(
     answer: &mut Answer,
 ) -> Result<(), TextError> {
     match question {
-        Question::Parens => parens(words, answer),
         Question::CoroutineForClosure => Ok(coroutine_for_closure(last_id(words)?, answer)?),
         Question::ClosureForCoroutine => Ok(closure_for_coroutine(last_id(words)?, answer)?),
     }

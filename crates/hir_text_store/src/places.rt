@@ -152,3 +152,19 @@ pub(crate) fn ask_expansions(
         Ok(differs(answer)?)
     }
 }
+
+/// Writes what macro calls expanded to as lines, in the order of their sources.
+pub(crate) fn write_expansion_lines(
+    alloc: Global,
+    sources: &ExpressionStoreSourceMap,
+    answer: &mut Answer,
+) -> Result<(), AllocError> {
+    let places = expansions(alloc, sources)?;
+    for (place, expansion) in places.iter() {
+        answer.next_line()?;
+        answer.word("expansion")?;
+        write_source(place.source(), answer)?;
+        answer.number(*expansion)?;
+    }
+    Ok(())
+}

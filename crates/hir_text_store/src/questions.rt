@@ -1,10 +1,9 @@
 //! All questions that a store and its source map answer.
 
-use crate::try_walks::TryWalk;
+use crate::ends::last_node;
 use crate::walks::Walk;
 use crate::{
-    ancestors, blocks, calls, equality, nodes, numbers, paths, places, searches, sources,
-    try_walks, walks,
+    ancestors, calls, lines, nodes, numbers, paths, places, saved, searches, sources, walks,
 };
 use hir_store::{ExpressionStore, ExpressionStoreSourceMap};
 use hir_text_nodes::{Answer, TextError, Words};
@@ -19,10 +18,10 @@ enum Question {
     Hygiene,
     Numbers(numbers::Question),
     Root,
-    CountedRoot,
     Around(ancestors::Question),
-    Equal,
-    Copies,
+    Line,
+    Lines,
+    StoreLines,
     OfStore(OfStore),
     OfSources(OfSources),
 }
@@ -30,12 +29,9 @@ enum Question {
 /// What a store is asked that takes memory.
 #[derive(Clone, Copy)]
 enum OfStore {
-    Blocks,
     Calls,
     Walk(Walk),
-    TryWalk(TryWalk),
     ChildPats,
-    Path,
     Sound,
     BoundPath,
 }
@@ -51,7 +47,7 @@ enum OfSources {
 }
 
 /// The first words of questions.
-const QUESTIONS: [(&str, Question); 53] = [
+const QUESTIONS: [(&str, Question); 45] = [
     ("nodes", Question::Nodes(nodes::Kind::Counts)),
     ("list-roots", Question::Nodes(nodes::Kind::Roots)),
     ("has", Question::Has),
@@ -59,7 +55,6 @@ const QUESTIONS: [(&str, Question); 53] = [
     ("negate", Question::Nodes(nodes::Kind::Negate)),
     ("owner-of", Question::Nodes(nodes::Kind::Owner)),
     ("hygiene-of", Question::Hygiene),
-    ("parens", Question::Numbers(numbers::Question::Parens)),
     (
         "coroutine-for-closure",
         Question::Numbers(numbers::Question::CoroutineForClosure),
@@ -69,7 +64,6 @@ const QUESTIONS: [(&str, Question); 53] = [
         Question::Numbers(numbers::Question::ClosureForCoroutine),
     ),
     ("root-of", Question::Root),
-    ("counted-root-of", Question::CountedRoot),
     ("node-parent", Question::Around(ancestors::Question::Parent)),
     (
         "ancestors",
@@ -87,9 +81,9 @@ const QUESTIONS: [(&str, Question); 53] = [
         "jump-target",
         Question::Around(ancestors::Question::JumpTarget),
     ),
-    ("equal", Question::Equal),
-    ("copies", Question::Copies),
-    ("blocks", Question::OfStore(OfStore::Blocks)),
+    ("line", Question::Line),
+    ("lines", Question::Lines),
+    ("store-lines", Question::StoreLines),
     ("calls", Question::OfStore(OfStore::Calls)),
     ("children", Question::OfStore(OfStore::Walk(Walk::Children))),
     (
@@ -106,28 +100,7 @@ const QUESTIONS: [(&str, Question); 53] = [
         Question::OfStore(OfStore::Walk(Walk::Bindings)),
     ),
     ("exprs-in", Question::OfStore(OfStore::Walk(Walk::Exprs))),
-    (
-        "try-children",
-        Question::OfStore(OfStore::TryWalk(TryWalk::Children)),
-    ),
-    (
-        "try-children-without-pats",
-        Question::OfStore(OfStore::TryWalk(TryWalk::ChildrenWithoutPats)),
-    ),
-    (
-        "try-walk-pats",
-        Question::OfStore(OfStore::TryWalk(TryWalk::Pats)),
-    ),
-    (
-        "try-bindings-in",
-        Question::OfStore(OfStore::TryWalk(TryWalk::Bindings)),
-    ),
-    (
-        "try-exprs-in",
-        Question::OfStore(OfStore::TryWalk(TryWalk::Exprs)),
-    ),
     ("child-pats", Question::OfStore(OfStore::ChildPats)),
-    ("path", Question::OfStore(OfStore::Path)),
     ("sound", Question::OfStore(OfStore::Sound)),
     ("bound-path", Question::OfStore(OfStore::BoundPath)),
     ("syntax", Question::OfSources(OfSources::Syntax)),
@@ -200,12 +173,9 @@ fn ask_store(
     answer: &mut Answer,
 ) -> Result<(), TextError> {
     match question {
-        OfStore::Blocks => blocks::ask(alloc, store, words, answer),
         OfStore::Calls => calls::ask(alloc, store, words, answer),
         OfStore::Walk(walk) => walks::ask(alloc, store, walk, words, answer),
-        OfStore::TryWalk(walk) => try_walks::ask(alloc, store, walk, words, answer),
         OfStore::ChildPats => walks::ask_child_pats(alloc, store, words, answer),
-        OfStore::Path => paths::ask(alloc, words, answer),
         OfStore::Sound => paths::ask_sound(alloc, store, words, answer),
         OfStore::BoundPath => paths::ask_bound_path(alloc, store, words, answer),
     }
@@ -242,17 +212,20 @@ fn answer_question(
         Question::Has => nodes::ask_has(store, words, answer),
         Question::Hygiene => nodes::ask_hygiene(store, words, answer),
         Question::Numbers(question) => numbers::ask(question, words, answer),
-        Question::Root => searches::ask(store, false, words, answer),
-        Question::CountedRoot => searches::ask(store, true, words, answer),
+        Question::Root => searches::ask(store, words, answer),
         Question::Around(question) => ancestors::ask(store, question, words, answer),
-        Question::Equal => equality::equal(store, words, answer),
-        Question::Copies => equality::copies(store, words, answer),
+        Question::Line => lines::ask_line(store, last_node(words)?, answer),
+        Question::Lines => lines::ask_lines(store, words, answer),
+        Question::StoreLines => {
+            words.end()?;
+            saved::ask(alloc, store, sources, answer)
+        }
         Question::OfStore(question) => ask_store(alloc, store, question, words, answer),
         Question::OfSources(question) => ask_sources(alloc, sources, question, words, answer),
     }
 }
 
-/// Answers a question on a store and its source map; answers whether it is such a question.
+/// Answers a question on a store and its source map; returns whether it is such a question.
 pub fn ask(
     alloc: Global,
     store: &ExpressionStore,

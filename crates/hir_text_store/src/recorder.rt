@@ -7,15 +7,6 @@ use hir_node::{ExprId, LifetimeRefId, PatId, StoreVisitor, TypeRefId};
 use hir_text_nodes::Answer;
 use std::alloc::{AllocError, Global};
 
-/// Why a walk stopped.
-#[derive(Clone, Copy, Drop)]
-pub(crate) enum Halt {
-    /// It came to the end that was asked for.
-    Here,
-    /// Out of memory.
-    Memory,
-}
-
 /// What a visitor is called with, in the order of the calls, or what a walk meets.
 #[derive(Drop)]
 pub(crate) struct Recorder {
@@ -50,20 +41,7 @@ impl Recorder {
         }
     }
 
-    /// Notes an id, and refuses to go on behind this one.
-    pub(crate) fn meet_up_to<K>(&mut self, id: Idx<K>, end: u32) -> Result<(), Halt> {
-        let number = id.into_raw();
-        let noted: Idx<K> = Idx::from_raw(number);
-        if self.text.id(noted).is_err() {
-            return Err(Halt::Memory);
-        }
-        if number == end {
-            return Err(Halt::Here);
-        }
-        Ok(())
-    }
-
-    /// What was noted, or that memory was refused.
+    /// What was noted, or that an allocation failed.
     pub(crate) fn as_str(&self) -> Result<&str, AllocError> {
         match &self.outcome {
             Ok(()) => Ok(self.text.as_str()),

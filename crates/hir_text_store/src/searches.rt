@@ -1,7 +1,6 @@
 //! Questions on the root that a node was made for.
 
 use crate::ends::last_node;
-use hir_base::Steps;
 use hir_node::{BindingId, ExprId, PatId};
 use hir_store::ExpressionStore;
 use hir_text_nodes::{Answer, Node, TextError, Words};
@@ -34,35 +33,12 @@ fn root_of(store: &ExpressionStore, node: Rooted) -> Option<ExprId> {
     }
 }
 
-/// The same, by the searches that count their steps.
-fn counted_root_of(store: &ExpressionStore, node: Rooted) -> Option<ExprId> {
-    let mut steps = Steps::new();
-    match node {
-        Rooted::Expr(id) if store.covers_expr(id) => {
-            Some(store.find_root_for_expr_counted(id, &mut steps))
-        }
-        Rooted::Pat(id) if store.covers_pat(id) => {
-            Some(store.find_root_for_pat_counted(id, &mut steps))
-        }
-        Rooted::Binding(id) if store.covers_binding(id) => {
-            Some(store.find_root_for_binding_counted(id, &mut steps))
-        }
-        Rooted::Expr(_) | Rooted::Pat(_) | Rooted::Binding(_) => None,
-    }
-}
-
-/// `root-of NODE`, `counted-root-of NODE`
+/// `root-of NODE`
 pub(crate) fn ask(
     store: &ExpressionStore,
-    is_counted: bool,
     words: &mut Words<'_>,
     answer: &mut Answer,
 ) -> Result<(), TextError> {
     let node = last_rooted(words)?;
-    let root = if is_counted {
-        counted_root_of(store, node)
-    } else {
-        root_of(store, node)
-    };
-    Ok(answer.opt_id(root)?)
+    Ok(answer.opt_id(root_of(store, node))?)
 }

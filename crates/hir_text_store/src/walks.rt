@@ -20,7 +20,7 @@ pub(crate) enum Walk {
     Exprs,
 }
 
-/// Walks over the child expressions of an expression; answers whether it is there.
+/// Walks over the child expressions of an expression; returns whether it is there.
 fn walk_expr(store: &ExpressionStore, id: ExprId, with_pats: bool, found: &mut Recorder) -> bool {
     if !store.has_expr(id) {
         return false;
@@ -33,7 +33,7 @@ fn walk_expr(store: &ExpressionStore, id: ExprId, with_pats: bool, found: &mut R
     true
 }
 
-/// Walks over patterns from a pattern; answers whether it is there.
+/// Walks over patterns from a pattern; returns whether it is there.
 fn walk_pat(store: &ExpressionStore, id: PatId, is_deep: bool, found: &mut Recorder) -> bool {
     if !store.has_pat(id) {
         return false;
@@ -46,7 +46,7 @@ fn walk_pat(store: &ExpressionStore, id: PatId, is_deep: bool, found: &mut Recor
     true
 }
 
-/// Walks over the bindings or the expressions in a pattern; answers whether it is there.
+/// Walks over the bindings or the expressions in a pattern; returns whether it is there.
 fn walk_in_pat(store: &ExpressionStore, id: PatId, over_exprs: bool, found: &mut Recorder) -> bool {
     if !store.has_pat(id) {
         return false;
@@ -59,7 +59,7 @@ fn walk_in_pat(store: &ExpressionStore, id: PatId, over_exprs: bool, found: &mut
     true
 }
 
-/// Takes the child patterns of a pattern, by the iterator and by the walk; answers whether it is there.
+/// Takes the child patterns of a pattern, by the iterator and by the walk; returns whether it is there.
 fn take_child_pats(
     store: &ExpressionStore,
     id: PatId,
@@ -85,7 +85,7 @@ fn write_found(is_there: bool, found: &Recorder, answer: &mut Answer) -> Result<
     answer.join(found.as_str()?)
 }
 
-/// Does a walk from the node of this number; answers whether it is there.
+/// Does a walk from the node of this number; returns whether it is there.
 fn walk_from(store: &ExpressionStore, walk: Walk, number: u32, found: &mut Recorder) -> bool {
     match walk {
         Walk::Children => walk_expr(store, Idx::from_raw(number), true, found),

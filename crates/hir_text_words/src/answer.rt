@@ -9,7 +9,7 @@ use std::alloc::{AllocError, Global};
 #[derive(Drop)]
 pub struct Answer {
     text: String,
-    /// Whether a word stands before what comes next, in its line.
+    /// Whether a word comes before what comes next, in its line.
     is_behind: bool,
     is_refusal: bool,
 }
@@ -41,7 +41,7 @@ impl Answer {
         self.is_refusal = true;
     }
 
-    /// Begins a word: with a space, where one stands before it.
+    /// Begins a word: with a space, where one comes before it.
     fn begin(&mut self) -> Result<(), AllocError> {
         if self.is_behind {
             self.text.push(' ')?;
@@ -56,18 +56,18 @@ impl Answer {
         self.text.push_str(word)
     }
 
-    /// What comes behind the last word without a space.
+    /// What comes after the last word without a space.
     pub fn join(&mut self, part: &str) -> Result<(), AllocError> {
         self.is_behind = true;
         self.text.push_str(part)
     }
 
-    /// A number behind the last word without a space.
+    /// A number after the last word without a space.
     pub fn join_number(&mut self, number: u32) -> Result<(), AllocError> {
         self.join(Buffer::new().format(number))
     }
 
-    /// A number between these, behind the last word without a space.
+    /// A number between these, after the last word without a space.
     pub fn join_around(
         &mut self,
         before: &str,
@@ -89,12 +89,12 @@ impl Answer {
         self.word(Buffer::new().format(number))
     }
 
-    /// The size of something, behind the last word without a space.
+    /// The size of something, after the last word without a space.
     pub fn join_size(&mut self, number: usize) -> Result<(), AllocError> {
         self.join(Buffer::new().format(number))
     }
 
-    /// A number of 64 bits, behind the last word without a space.
+    /// A number of 64 bits, after the last word without a space.
     pub fn join_long(&mut self, number: u64) -> Result<(), AllocError> {
         self.join(Buffer::new().format(number))
     }
@@ -122,6 +122,56 @@ impl Answer {
         }
     }
 
+    /// The number of a node, or `-`.
+    pub fn id_or_dash<K>(&mut self, id: Option<Idx<K>>) -> Result<(), AllocError> {
+        self.begin()?;
+        self.join_id_or_dash(id)
+    }
+
+    /// The number of a node, or `-`, after the last word without a space.
+    pub fn join_id_or_dash<K>(&mut self, id: Option<Idx<K>>) -> Result<(), AllocError> {
+        match id {
+            Some(id) => self.join_number(id.into_raw()),
+            None => self.join("-"),
+        }
+    }
+
+    /// The numbers of nodes, joined by `,`, or `-`.
+    pub fn ids<K>(&mut self, ids: &[Idx<K>]) -> Result<(), AllocError> {
+        self.begin()?;
+        if ids.is_empty() {
+            return self.join("-");
+        }
+        let mut before = "";
+        for id in ids {
+            // (an id of a kind that isn't known is no `Copy` to the borrow checker)
+            let id = id.clone()?;
+            self.join(before)?;
+            self.join_number(id.into_raw())?;
+            before = ",";
+        }
+        Ok(())
+    }
+
+    /// A word and the number of a node that it is joined to, where there is one.
+    pub fn prefixed_id<K>(&mut self, start: &str, id: Option<Idx<K>>) -> Result<(), AllocError> {
+        match id {
+            Some(id) => {
+                self.word(start)?;
+                self.join_number(id.into_raw())
+            }
+            None => Ok(()),
+        }
+    }
+
+    /// A word, where this says so.
+    pub fn flag(&mut self, is_set: bool, word: &str) -> Result<(), AllocError> {
+        if is_set {
+            self.word(word)?;
+        }
+        Ok(())
+    }
+
     /// `yes` or `no`.
     pub fn yes_or_no(&mut self, is_so: bool) -> Result<(), AllocError> {
         self.word(if is_so { "yes" } else { "no" })
@@ -133,7 +183,7 @@ impl Answer {
         self.join_name(name)
     }
 
-    /// A name behind the last word without a space.
+    /// A name after the last word without a space.
     pub fn join_name(&mut self, name: &str) -> Result<(), AllocError> {
         self.is_behind = true;
         if names::is_bare(name.as_bytes()) {
@@ -149,7 +199,7 @@ impl Answer {
         quotes::write_quoted(text, &mut self.text)
     }
 
-    /// A text in quotes behind the last word without a space.
+    /// A text in quotes after the last word without a space.
     pub fn join_quoted(&mut self, text: &str) -> Result<(), AllocError> {
         self.is_behind = true;
         quotes::write_quoted(text, &mut self.text)
@@ -165,5 +215,13 @@ impl Answer {
     pub fn line(&mut self) -> Result<(), AllocError> {
         self.is_behind = false;
         self.text.push('\n')
+    }
+
+    /// Ends the line before what comes next, where something was written.
+    pub fn next_line(&mut self) -> Result<(), AllocError> {
+        if self.text.is_empty() {
+            return Ok(());
+        }
+        self.line()
     }
 }

@@ -53,19 +53,19 @@ impl<'a> Words<'a> {
         Ok(Name::new(alloc, text.as_str())?)
     }
 
-    /// The same behind a space.
+    /// The same after a space.
     pub fn next_name(&mut self, alloc: Global) -> Result<Name, TextError> {
         self.expect(b" ")?;
         self.name(alloc)
     }
 
-    /// A text in quotes, behind a space.
+    /// A text in quotes, after a space.
     pub fn next_text(&mut self, alloc: Global) -> Result<Text, TextError> {
         self.expect(b" ")?;
         Ok(Text::from_string(quotes::read_string(self, alloc)?))
     }
 
-    /// A name or `-`, behind a space.
+    /// A name or `-`, after a space.
     pub fn next_opt_name(&mut self, alloc: Global) -> Result<Option<Name>, TextError> {
         self.expect(b" ")?;
         if self.eat(b"-") {
@@ -79,7 +79,7 @@ impl<'a> Words<'a> {
         Ok(Seq::from_vec(quotes::read_bytes(self, alloc)?))
     }
 
-    /// The same behind a space.
+    /// The same after a space.
     pub fn next_bytes(&mut self, alloc: Global) -> Result<Seq<u8>, TextError> {
         self.expect(b" ")?;
         self.bytes(alloc)

@@ -20,7 +20,7 @@ pub(crate) fn number_of(digits: &[u8], base: u32) -> Option<u128>
     Some(number)
 }
 
-/// The number that has this digit behind the others.
+/// The number that has this digit after the others.
 fn with_digit(number: u128, digit: u32, base: u32) -> Option<u128> {
     number
         .checked_mul(u128::from(base))?
@@ -73,18 +73,18 @@ impl<'a> Words<'a> {
         Ok(u8::try_from(self.big()?)?)
     }
 
-    /// The number behind a space.
+    /// The number after a space.
     pub fn next_number(&mut self) -> Result<u32, TextError> {
         self.part_number(b" ")
     }
 
-    /// The number behind this.
+    /// The number after this.
     pub fn part_number(&mut self, before: &[u8]) -> Result<u32, TextError> {
         self.expect(before)?;
         self.number()
     }
 
-    /// A number or `-`, behind a space.
+    /// A number or `-`, after a space.
     pub fn next_opt_number(&mut self) -> Result<Option<u32>, TextError> {
         self.expect(b" ")?;
         if self.eat(b"-") {
@@ -98,13 +98,13 @@ impl<'a> Words<'a> {
         Ok(Idx::from_raw(self.number()?))
     }
 
-    /// The same behind a space.
+    /// The same after a space.
     pub fn next_id<K>(&mut self) -> Result<Idx<K>, TextError> {
         self.expect(b" ")?;
         self.id()
     }
 
-    /// The same behind a colon.
+    /// The same after a colon.
     pub fn part_id<K>(&mut self) -> Result<Idx<K>, TextError> {
         self.expect(b":")?;
         self.id()
@@ -118,13 +118,13 @@ impl<'a> Words<'a> {
         Ok(Some(self.id()?))
     }
 
-    /// The same behind a space.
+    /// The same after a space.
     pub fn next_opt_id<K>(&mut self) -> Result<Option<Idx<K>>, TextError> {
         self.expect(b" ")?;
         self.opt_id()
     }
 
-    /// The same behind a colon.
+    /// The same after a colon.
     pub fn part_opt_id<K>(&mut self) -> Result<Option<Idx<K>>, TextError> {
         self.expect(b":")?;
         self.opt_id()
@@ -138,12 +138,12 @@ impl<'a> Words<'a> {
         Ok(None)
     }
 
-    /// The number of a definition behind a space.
+    /// The number of a definition after a space.
     pub fn next_def<T>(&mut self) -> Result<Id<T>, TextError> {
         Ok(Id::from_raw(self.next_number()?))
     }
 
-    /// A list of nodes behind a space: joined by `,`, or `-`.
+    /// A list of nodes after a space: joined by `,`, or `-`.
     pub fn next_ids<K>(&mut self, alloc: Global) -> Result<ShortList<Idx<K>>, TextError> {
         self.expect(b" ")?;
         let mut ids = ShortList::new();

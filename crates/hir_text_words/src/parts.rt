@@ -1,4 +1,4 @@
-//! What stands together in a line, by its bytes.
+//! What belongs together in a line, by its bytes.
 
 /// What a part of a line is of.
 #[derive(Clone, Copy)]

@@ -5,7 +5,7 @@ use crate::text_error::TextError;
 use crate::words::Words;
 use std::alloc::{AllocError, Global};
 
-/// The letters behind a backslash, each with the byte that it stands for.
+/// The letters after a backslash, each with the byte that it stands for.
 const ESCAPES: [(u8, u8); 6] = [
     (b'n', b'\n'),
     (b'r', b'\r'),
@@ -56,7 +56,7 @@ fn read_char(words: &mut Words<'_>) -> Result<char, TextError> {
     char::from_u32(u32::try_from(number)?).ok_or(TextError::Syntax)
 }
 
-/// What is left behind a backslash: the bytes that it stands for are put behind the others.
+/// What is left after a backslash: the bytes that it stands for are put after the others.
 fn read_escape(words: &mut Words<'_>, bytes: &mut Vec<u8>) -> Result<(), TextError> {
     if words.eat(b"u") {
         let c = read_char(words)?;
@@ -68,7 +68,7 @@ fn read_escape(words: &mut Words<'_>, bytes: &mut Vec<u8>) -> Result<(), TextErr
     }
 }
 
-/// The next byte or escape, which is put behind the others: false at the closing quote.
+/// The next byte or escape, which is put after the others: false at the closing quote.
 fn read_next(
     words: &mut Words<'_>,
     bytes: &mut Vec<u8>,

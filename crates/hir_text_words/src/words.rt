@@ -80,13 +80,13 @@ impl<'a> Words<'a> {
         self.part(Part::Keyword)
     }
 
-    /// The keyword behind a space.
+    /// The keyword after a space.
     pub fn next_keyword(&mut self) -> Result<&'a [u8], TextError> {
         self.expect(b" ")?;
         Ok(self.keyword())
     }
 
-    /// The word behind a space: all up to the next space, or to the line's end.
+    /// The word after a space: all up to the next space, or to the line's end.
     pub fn next_word(&mut self) -> Result<&'a [u8], TextError> {
         self.expect(b" ")?;
         Ok(self.part(Part::Word))
@@ -98,7 +98,7 @@ impl<'a> Words<'a> {
         value_of(table, word).ok_or(TextError::Syntax)
     }
 
-    /// The same behind a space.
+    /// The same after a space.
     pub fn next_in<T: Copy>(&mut self, table: &[(&str, T)]) -> Result<T, TextError> {
         self.expect(b" ")?;
         self.keyword_in(table)

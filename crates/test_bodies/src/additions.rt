@@ -1,6 +1,6 @@
-//! Additions to tables: what isn't taken, for want of memory, comes back as it was given, and may be added
-//! again. What tables keep makes no difference to that, so these are tables of numbers, where nothing large
-//! is laid out.
+//! Additions to tables: what isn't taken, where an allocation fails, comes back as it was given, and may be
+//! added again. What tables keep makes no difference to that, so these are tables of numbers, where nothing
+//! large is laid out.
 use crate::memory::in_a_box;
 use hir_base::{
     CrateId, DefWithBodyId, EnumId, EnumVariantId, FunctionId, NamedDef, StructId, Text, TraitId,

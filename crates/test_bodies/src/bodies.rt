@@ -140,8 +140,8 @@ fn has_self(body: &Body) -> bool {
 
 /// What tests ask of a body that is accepted, and of one that is refused.
 trait Answered {
-    /// Whether it is what is wanted, and its parts are there, or come back, as they were given. Where memory
-    /// was refused, that is the error.
+    /// Whether it is what is wanted, and its parts are present, or come back, as they were given. Where an
+    /// allocation fails, that is the error.
     fn is_wanted(&self, case: &Case) -> Result<bool, BodyFault>;
 }
 
@@ -189,7 +189,7 @@ fn answers<B: Answered + Drop, R: Answered + Drop>(
     }
 }
 
-/// The body of what was handed back.
+/// The body of what was given back.
 fn made_again(alloc: Global, refused: RefusedBody) -> Result<Body, RefusedBody> {
     let RefusedBody {
         fault: _,
@@ -201,8 +201,8 @@ fn made_again(alloc: Global, refused: RefusedBody) -> Result<Body, RefusedBody> 
 }
 
 /// Whether the body of these parameters in the store of the tree, or its refusal, is the one that is wanted.
-/// A body that is refused is made again of what was handed back: it has its fault again, and where memory was
-/// refused it is accepted.
+/// A body that is refused is made again of what was given back: it has its fault again, and where an
+/// allocation fails it is accepted.
 fn is_answered(alloc: Global, case: &Case) -> Result<bool, Fail> {
     let (tree, params, self_param, _) = case;
     let store = trees::store(alloc, &[], tree)?;

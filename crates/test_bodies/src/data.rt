@@ -103,7 +103,7 @@ fn any_type_or_constant(rt: HostRuntime) -> Result<(), Fail> {
     Ok(())
 }
 
-/// Whether it is late bound, and not early bound; and what it answers as any parameter.
+/// Whether it is late bound, and not early bound; and what it returns as any parameter.
 fn of_late(data: LifetimeParamData) -> (bool, [bool; 4]) {
     let is_late = data.is_late_bound() && !data.is_early_bound();
     (is_late, any_answers(&GenericParamData::from(data), "'a"))

@@ -1,4 +1,4 @@
-//! Refusals that hand something back, as errors of any kind: the text is that of the fault.
+//! Refusals that give something back, as errors of any kind: the text is that of the fault.
 use hir_base::Seq;
 use hir_items::{BodyFault, RefusedBody, RefusedSignature, SignatureFault};
 use hir_store::{ExpressionStore, ExpressionStoreBuilder, FinishFault, Refused};

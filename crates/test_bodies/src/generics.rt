@@ -14,7 +14,7 @@ const ALL: ParamLists = ParamLists {
     predicates: &[Predicate::MeetsForA, Predicate::Outlives],
 };
 
-/// The same without the last predicate.
+/// The lists of `ALL` without the last predicate.
 const ONE_PREDICATE: ParamLists = ParamLists {
     types: TYPES,
     lifetimes: LIFETIMES,
@@ -127,7 +127,7 @@ fn with_digit(order: u32, id: u32) -> u32 {
     order.wrapping_mul(10).wrapping_add(id).wrapping_add(1)
 }
 
-/// The order, in the same way, of lifetimes that are all bound so.
+/// The order of lifetimes that are all bound so, as a number of digits too.
 fn bound_order(mut lifetimes: BoundLifetimes<'_>, early: bool) -> Option<u32> {
     let mut order = 0u32;
     while let Some((id, lifetime)) = lifetimes.next() {
@@ -158,8 +158,8 @@ fn come_in_order(params: &GenericParams) -> Result<bool, AllocError> {
     )
 }
 
-/// Whether there are parameters and predicates, by all that rows don't ask; a copy of a predicate is asked
-/// too.
+/// Whether there are parameters and predicates, by all that golden cases don't ask; a copy of a predicate is
+/// asked too.
 fn are_all(alloc: Global, params: &GenericParams) -> Result<bool, AllocError> {
     let is_full = !params.is_empty() && !params.has_no_predicates() && has_ends(params);
     let ordered = come_in_order(params)?;

@@ -1,7 +1,7 @@
-//! What rows of text can't ask of `hir_items`, `hir_generics`, `hir_defs` and `hir_scope`: parts that come
+//! What golden cases can't ask of `hir_items`, `hir_generics`, `hir_defs` and `hir_scope`: parts that come
 //! back, generic parameters one by one, orders from both ends, parameters that are compared, refusals as
 //! errors, bodies that are built and walked by calls, and scopes item by item. What is accepted, and why not,
-//! is in the rows of `hir_golden`.
+//! is in the golden cases of `hir_golden`.
 #![tactic(auto)]
 
 #[cfg(test)]
@@ -19,9 +19,13 @@ mod memory;
 #[cfg(test)]
 mod order;
 #[cfg(test)]
+mod owners;
+#[cfg(test)]
 mod params;
 #[cfg(test)]
 mod scopes;
+#[cfg(test)]
+mod sentences;
 #[cfg(test)]
 mod signatures;
 #[cfg(test)]

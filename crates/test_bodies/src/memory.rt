@@ -1,5 +1,5 @@
-//! Calls that take memory, without what they hand back where it is refused.
-//! What is said here of any type is proved once, and lays out no type, however large it is.
+//! Calls that take memory, without what they give back where an allocation fails. What is said here of any
+//! type is proved once, and lays out no type, however large it is.
 use hir_base::{Arena, ExactEq, Seq, TryClone};
 use std::alloc::{AllocError, AllocFailed, Global};
 use std::fmt::Debug;
@@ -19,7 +19,7 @@ pub fn push<T: Drop>(seq: &mut Seq<T>, item: T) -> Result<(), AllocError> {
     Ok(seq.push(item)?)
 }
 
-/// Adds the item, or says why it can't be: without it, where it is handed back.
+/// Adds the item, or says why it can't be: without it, where it is given back.
 fn add<K, T: Drop>(arena: &mut Arena<K, T>, item: T) -> Result<(), Fail> {
     match arena.alloc(item) {
         Ok(_) => Ok(()),
@@ -58,7 +58,7 @@ pub fn list<T: Drop, W: NodeForm<T>>(alloc: Global, written: &[W]) -> Result<Box
     Ok(list)
 }
 
-/// Whether the value was taken: without it, where it is handed back.
+/// Whether the value was taken: without it, where it is given back.
 pub fn was_taken<T: Drop>(outcome: Result<(), AllocFailed<T>>) -> Result<(), Fail> {
     match outcome {
         Ok(()) => Ok(()),
@@ -66,7 +66,7 @@ pub fn was_taken<T: Drop>(outcome: Result<(), AllocFailed<T>>) -> Result<(), Fai
     }
 }
 
-/// The first of what was accepted, in a box; without what is handed back, where it is refused.
+/// The first of what was accepted, in a box; without what is given back, where it is refused.
 pub fn first<T: Drop, U: Drop, R: Debug + Drop>(
     alloc: Global,
     outcome: Result<(T, U), R>,

@@ -27,7 +27,7 @@ pub enum LifetimeOf {
 
 /// A predicate.
 pub enum Predicate {
-    /// That of `meets`.
+    /// The predicate of `meets`.
     Meets,
     /// That of `meets_for_a`.
     MeetsForA,
@@ -80,7 +80,7 @@ pub fn lifetime(
     Ok(LifetimeParamData { name, bound_type })
 }
 
-/// Type 0 meets the bound of the path that this type is, after `for` these lifetimes.
+/// Type 0 has the bound of the path that this type is, after `for` these lifetimes.
 fn type_0_meets(lifetimes: Option<Seq<Name>>, path: u32) -> WherePredicate {
     let path = PathId::from_type_ref_unchecked(Idx::from_raw(path));
     WherePredicate::TypeBound {
@@ -90,12 +90,12 @@ fn type_0_meets(lifetimes: Option<Seq<Name>>, path: u32) -> WherePredicate {
     }
 }
 
-/// Type 0 meets the bound of the path that it is.
+/// Type 0 has the bound of the path that it is.
 fn meets() -> WherePredicate {
     type_0_meets(None, 0)
 }
 
-/// Type 0 meets the bound of the path that type 1 is, after `for<'a>`.
+/// Type 0 has the bound of the path that type 1 is, after `for<'a>`.
 pub fn meets_for_a(alloc: Global) -> Result<WherePredicate, AllocError> {
     let name = Name::new(alloc, "'a")?;
     let mut lifetimes = Seq::new(alloc);

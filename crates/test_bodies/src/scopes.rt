@@ -1,5 +1,5 @@
 //! The scopes along a chain, all scopes, and the expressions that have a scope, item by item, to their end
-//! and behind it.
+//! and after it.
 #![tactic(auto)]
 
 use hir_base::Idx;
@@ -35,7 +35,7 @@ fn opened(
 }
 
 /// Whether from `a` in `|x| |x| a` there are three scopes, the inner closure's first and the body's last, and
-/// none behind them.
+/// none after them.
 fn chain_ends(scopes: &ExprScopes) -> bool {
     let inner = scopes.scope_for(Idx::from_raw(0));
     let outer = scopes.scope_for(Idx::from_raw(1));
@@ -74,7 +74,7 @@ fn are_scoped(scopes: &ExprScopes) -> bool {
     are && scoped.next().is_none() && scoped.next().is_none()
 }
 
-/// Whether all scopes are three, by number, and none is behind them.
+/// Whether all scopes are three, by number, and none is after them.
 fn all_end(scopes: &ExprScopes) -> bool {
     let mut all = scopes.scopes();
     let found = [all.next(), all.next(), all.next(), all.next(), all.next()];

@@ -11,7 +11,7 @@ use std::test::Fail;
 pub enum PatOf {
     /// `_`.
     Wild,
-    /// What brings this binding into scope, as it is or of what the pattern is that is given.
+    /// The pattern of this binding, alone or with the pattern of this number after `@`.
     Bind(u32, Option<u32>),
     /// `expression..`.
     RangeFrom(u32),

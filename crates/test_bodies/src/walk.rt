@@ -1,5 +1,5 @@
 //! A body as a new user builds it, by calls, and walks over it: the children of each expression, and what is
-//! visited below the root. What the body and its store give is handed back to them with nothing asked in
+//! visited below the root. What the body and its store give is given back to them with nothing asked in
 //! between.
 #![tactic(auto, using(hir_store_core::proofs::GivenLemmas::id_is_in_range, hir_node::proofs::RunLemmas::freely))]
 
@@ -67,7 +67,7 @@ fn count_children(store: &ExpressionStore) -> usize {
     count
 }
 
-/// How many bindings all patterns bring into scope together, each counted in every pattern around it.
+/// How many bindings all patterns bind together, each counted in every pattern around it.
 fn count_bindings(store: &ExpressionStore) -> usize {
     let mut count = 0usize;
     for (id, _) in store.pats() {

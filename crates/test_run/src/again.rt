@@ -1,9 +1,10 @@
-//! Whole runs in memory: how they end, and what is read and written. A run that was refused memory is made
-//! again, so that each test passes with any one allocation refused too.
+//! Whole runs in memory: how they end, and what is read and written. A run in which an allocation failed is
+//! made again, so that each test passes where any one allocation fails too.
 
 use crate::fakes::{FailingReader, FailingWriter};
-use hir_show_run::{RunFault, run, run_to_exit};
-use std::alloc::Global;
+use hir_show_io::LineReader;
+use hir_show_run::{RunFault, run, run_lines, run_to_exit};
+use std::alloc::{AllocError, Global};
 use std::process::Abort;
 
 /// How many bytes a call moves at most, and the number of the call, from 0, from which on all fail.
@@ -62,7 +63,38 @@ pub fn run_once<'a>(alloc: Global, input: &'a [u8], reads: Calls, writes: Calls)
     }
 }
 
-/// Runs the program, and again where memory was refused.
+/// How many lines were taken before the one at which the run ended: the line taken last is that one, unless
+/// the next was being read.
+fn lines_before(lines: &LineReader) -> u64 {
+    if lines.line().is_empty() {
+        lines.count()
+    } else {
+        lines.count().saturating_sub(1)
+    }
+}
+
+/// Runs the program once over a reader of lines, and tells how many lines were taken before the one at which
+/// it ended. No line of the input is empty.
+pub fn run_lines_once<'a>(
+    alloc: Global,
+    input: &'a [u8],
+    reads: Calls,
+    writes: Calls,
+) -> Result<(Seen<'a>, u64), AllocError> {
+    let mut lines = LineReader::new(alloc)?;
+    let mut reader = FailingReader::new(input, reads.step, reads.fail_from);
+    let mut writer = FailingWriter::new(alloc, writes.step, writes.fail_from);
+    let ended = run_lines(alloc, &mut lines, &mut reader, &mut writer);
+    let before = lines_before(&lines);
+    let seen = Seen {
+        ended,
+        reader,
+        writer,
+    };
+    Ok((seen, before))
+}
+
+/// Runs the program, and again where an allocation failed.
 pub fn run_again<'a>(alloc: Global, input: &'a [u8], reads: Calls, writes: Calls) -> Seen<'a> {
     let seen = run_once(alloc, input, reads, writes);
     if seen.ended == Err(RunFault::OutOfMemory) {
@@ -71,8 +103,13 @@ pub fn run_again<'a>(alloc: Global, input: &'a [u8], reads: Calls, writes: Calls
     seen
 }
 
-/// Runs the program once, as for a process that ends behind it.
-fn run_to_exit_once<'a>(alloc: Global, input: &'a [u8], reads: Calls, writes: Calls) -> Seen<'a> {
+/// Runs the program once, as for a process that ends after it.
+pub fn run_to_exit_once<'a>(
+    alloc: Global,
+    input: &'a [u8],
+    reads: Calls,
+    writes: Calls,
+) -> Seen<'a> {
     let mut reader = FailingReader::new(input, reads.step, reads.fail_from);
     let mut writer = FailingWriter::new(alloc, writes.step, writes.fail_from);
     let ended = run_to_exit(alloc, &mut reader, &mut writer);
@@ -83,7 +120,7 @@ fn run_to_exit_once<'a>(alloc: Global, input: &'a [u8], reads: Calls, writes: Ca
     }
 }
 
-/// Runs the program as for a process that ends behind it, and again where memory was refused.
+/// Runs the program as for a process that ends after it, and again where an allocation failed.
 pub fn run_to_exit_again<'a>(
     alloc: Global,
     input: &'a [u8],

@@ -1,5 +1,5 @@
 //! Ends that fail: at each read and at each write, what was answered before, and that the other end is left
-//! alone. Answers wait and are written before each read, at the end, and before a fault is told.
+//! alone. Answers wait and are written before each read, at the end, and before a fault is reported.
 
 use crate::again::{Seen, by, ends, run_again, until};
 use hir_show_io::{Sink, Source};
@@ -7,7 +7,7 @@ use hir_show_run::RunFault;
 use std::mem::drop;
 use std::process::Abort;
 
-/// Answers, one of them after an empty line, and a line that is bad behind a question.
+/// Answers, one of them after an empty line, and a line that is bad after a question.
 const INPUT: &[u8] =
     b"expr path a\nexpr call 0 -\nroot 1\nchildren 1\n\nchildren 0\nchildren 7\nroots\nchildren 0\n";
 
@@ -16,9 +16,9 @@ const OUTPUT: &[u8] = b"children 1 = 0\nchildren 0 =\nchildren 7 unknown\n";
 /// The bytes up to the bad line's end: given one byte a call, a run reads no further.
 const READ: usize = 73;
 
-/// What the whole lines at the front of the input are answered.
-fn answers_to(front: &[u8]) -> &'static [u8] {
-    match front.iter().filter(|b| **b == b'\n').count() {
+/// The answers to the whole lines that the input begins with.
+fn answers_to(prefix: &[u8]) -> &'static [u8] {
+    match prefix.iter().filter(|b| **b == b'\n').count() {
         0..=3 => b"",
         4..=5 => b"children 1 = 0\n",
         6 => b"children 1 = 0\nchildren 0 =\n",
@@ -32,7 +32,7 @@ fn stops_at_read(rt: &impl Abort, seen: &Seen<'_>, reads: usize) {
     assert_eq!(rt; seen.reader.calls, reads as u64);
 }
 
-/// The same of a write.
+/// Fails where the run didn't stop at this write, or the reader has failed.
 fn stops_at_write(rt: &impl Abort, seen: &Seen<'_>, writes: usize) {
     assert!(rt; seen.writer.has_failed() && !seen.reader.has_failed());
     // After a failed write none is made.
@@ -111,7 +111,7 @@ fn writes_what_waits_before_it_reads(rt: HostRuntime) {
     let alloc = rt.alloc();
     let questions = b"children 0\nchildren 1\nchildren 2\n";
     let answers = b"children 0 unknown\nchildren 1 unknown\nchildren 2 unknown\n";
-    // One question a read, and a last read that meets the end: each answer is a write of its own.
+    // One question a read, and a last read that reaches the end: each answer is a write of its own.
     let seen = run_again(alloc, questions, by(11), by(1000));
     ends(&rt, &seen, Ok(()), answers, 0);
     calls(&rt, &seen, 4, 3);
@@ -119,7 +119,7 @@ fn writes_what_waits_before_it_reads(rt: HostRuntime) {
     let seen = run_again(alloc, questions, by(1000), by(1000));
     ends(&rt, &seen, Ok(()), answers, 1);
     calls(&rt, &seen, 2, 1);
-    // The answers before a bad line are written before it is told, by one write.
+    // The answers before a bad line are written before it is reported, by one write.
     let seen = run_again(alloc, INPUT, by(1000), until(1000, 1));
     ends(&rt, &seen, Err(RunFault::BadLine(8)), OUTPUT, 2);
     calls(&rt, &seen, 1, 1);

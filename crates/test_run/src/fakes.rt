@@ -27,6 +27,11 @@ impl<'a> FailingReader<'a> {
             has_failed: false,
         }
     }
+
+    /// What was read, where these are the bytes that it was made of.
+    pub fn read_of<'b>(&self, bytes: &'b [u8]) -> &'b [u8] {
+        &bytes[..bytes.len().saturating_sub(self.left.len())]
+    }
 }
 
 impl Source for FailingReader<'_> {
@@ -67,7 +72,7 @@ pub struct FailingWriter {
     pub calls: u64,
     fails_from: u64,
     has_failed: bool,
-    /// Whether a growth of the bytes was refused. It is none of the program's, so it is asked for again.
+    /// Whether an allocation for the bytes failed. It is none of the program's, so it is made again.
     pub was_refused: bool,
 }
 

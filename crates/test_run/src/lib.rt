@@ -1,6 +1,6 @@
-//! The tests of `hir_show_run`, of what neither a contract of it says nor a row of `hir_golden` asks: inputs
-//! by one byte a call, ends that fail at any byte, faults that no line makes, runs to an exit, and refused
-//! growths.
+//! The tests of `hir_show_run`, of what neither a contract of it says nor a golden case of `hir_golden` asks:
+//! inputs by one byte a call, ends that fail at any byte, faults that no line makes, runs to an exit, and
+//! failed allocations.
 #![tactic(auto)]
 
 #[cfg(test)]

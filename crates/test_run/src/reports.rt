@@ -26,8 +26,8 @@ fn reports_to(
     assert_eq!(rt; errors.bytes.as_slice(), text);
 }
 
-/// Fails where an outcome is reported in other words or by another status. A sink that fails takes a front of
-/// the text, is called no more, and changes no status.
+/// Fails where an outcome is reported in other words or by another status. A sink that fails takes a prefix
+/// of the text, is called no more, and changes no status.
 fn reports(rt: &impl Abort, alloc: Global, outcome: Result<(), RunFault>, text: &str, status: u8) {
     for step in &[1, 1000] {
         let mut errors = FailingWriter::new(alloc, *step, u64::MAX);
@@ -35,15 +35,15 @@ fn reports(rt: &impl Abort, alloc: Global, outcome: Result<(), RunFault>, text: 
     }
     for call in 0..text.len() {
         let mut errors = FailingWriter::new(alloc, 1, call as u64);
-        let front = &text.as_bytes()[..call];
-        reports_to(rt, &outcome, &mut errors, front, status);
+        let prefix = &text.as_bytes()[..call];
+        reports_to(rt, &outcome, &mut errors, prefix, status);
         let calls = errors.calls;
         drop(errors);
         assert_eq!(rt; calls, call as u64 + 1);
     }
 }
 
-/// The same of a fault, whose line is its text and a line end.
+/// Reports a fault, whose line is its text and a line end.
 fn reports_fault(
     rt: &impl Abort,
     alloc: Global,

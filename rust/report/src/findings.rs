@@ -25,6 +25,16 @@ pub struct Closure {
     pub captures: Vec<BindingId>,
 }
 
+/// A `break` or `continue`, and the loop or block that it leaves or goes on with.
+pub struct Jump {
+    /// Whether it is a `continue`.
+    pub is_continue: bool,
+    /// Where it is written.
+    pub marks: Vec<Span>,
+    /// The number of what it leaves among the loops; `None` where there is none.
+    pub target: Option<usize>,
+}
+
 /// Whether something uses a binding.
 #[derive(Clone, Copy, PartialEq, Eq)]
 pub enum Usage {
@@ -42,6 +52,8 @@ pub struct Findings {
     pub name: String,
     /// Where its name stands.
     pub place: Place,
+    /// From its first word to the end of its body.
+    pub span: Span,
     /// The body as text.
     pub text: String,
     /// How many expressions, patterns, bindings and types its body has.
@@ -54,6 +66,10 @@ pub struct Findings {
     pub meanings: Vec<Meaning>,
     /// The closures.
     pub closures: Vec<Closure>,
+    /// The jumps.
+    pub jumps: Vec<Jump>,
+    /// Where each loop, and each block with a label, is written.
+    pub loops: Vec<Vec<Span>>,
     /// What syn doesn't know, so that it is a missing node.
     pub unknown: Vec<Span>,
     /// Names that no scope has, since their path isn't reached.
@@ -93,6 +109,10 @@ pub fn ask(function: &Function<'_>) -> Result<Findings, Box<dyn Error>> {
     for closure in &sources.closures {
         captures.push(batch.captures(closure.expr));
     }
+    let mut targets = Vec::new();
+    for jump in &sources.jumps {
+        targets.push(batch.jump_target(jump.expr));
+    }
     let answers = batch.ask()?;
     let mut meanings = Vec::new();
     let mut unreached = Vec::new();
@@ -121,17 +141,30 @@ pub fn ask(function: &Function<'_>) -> Result<Findings, Box<dyn Error>> {
         }
     }
     closures.sort_by_key(|closure| closure.marks.first().copied());
+    let mut jumps = Vec::new();
+    for (jump, question) in sources.jumps.iter().zip(targets) {
+        let target = answers.get(question)?;
+        jumps.push(Jump {
+            is_continue: jump.is_continue,
+            marks: jump.marks.clone(),
+            target: sources.loops.iter().position(|it| Some(it.expr) == target),
+        });
+    }
+    let loops = sources.loops.iter().map(|it| it.marks.clone()).collect();
     let store = body.store();
     let nodes =
         store.exprs().len() + store.pats().len() + store.bindings().len() + store.types().len();
     Ok(Findings {
         name: function.name.clone(),
         place: function.place,
+        span: function.span(),
         text: answers.get(text)?,
         nodes,
         usages: usages(&sources, &meanings),
         meanings,
         closures,
+        jumps,
+        loops,
         unknown: sources.unknown,
         unreached,
         bindings: sources.bindings,

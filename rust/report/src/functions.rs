@@ -1,6 +1,6 @@
 //! The functions of a file that have a body, in its order.
 
-use crate::span::Place;
+use crate::span::{Place, Span};
 use syn::visit::{self, Visit};
 
 /// A function with a body.
@@ -36,6 +36,16 @@ impl<'a> Finder<'a> {
         self.around.push(name);
         visit(self);
         self.around.pop();
+    }
+}
+
+impl Function<'_> {
+    /// From its first word to the end of its body.
+    pub fn span(&self) -> Span {
+        Span {
+            start: Span::of(self.signature).start,
+            end: Span::of(self.block).end,
+        }
     }
 }
 

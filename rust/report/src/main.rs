@@ -1,19 +1,28 @@
-//! `hir-report FILE.rs.. [--html PAGE | --counts | --names]`: lowers each function of Rust files, asks the proved expression store about
-//! them, and reports, function by function: the printed body; the paths of one name that mean no variable; the variables that nothing
-//! uses; what each closure captures. With `--html` it writes one page of the file, without outside parts; with `--counts` only how many
-//! functions and nodes there were, and in what time; with `--names` each path of one name and the place of the variable that it means.
+//! `hir-report FILE.rs.. [OPTION]`: lowers each function of Rust files, asks the proved expression store about them, and reports, function
+//! by function: the printed body; the paths of one name that mean no variable; the variables that nothing uses; what each closure captures.
+//!
+//! - `--html PAGE` writes one page of the file, without outside parts.
+//! - `--rename LINE:COLUMN NAME` writes the file in which the variable that is written or used at this place has another name, or says which
+//!   two places are in conflict, with status 1.
+//! - `--counts` writes only how many functions and nodes there were, and in what time.
+//! - `--names` writes each path of one name and the place of the variable that it means, `--outline` also functions and variables, and
+//!   `--renames` what changes by each rename that standard input asks for: these are for `against-rustc` and `renames-against-rustc`.
 //!
 //! Macro calls aren't expanded, and patterns of one name are variables, unless its first letter is upper case.
 
+mod edits;
 mod findings;
 mod functions;
 mod html;
 mod lower;
 mod names;
+mod rename;
+mod renames;
 mod span;
 mod text;
 
 use findings::{ask, Findings};
+use renames::Request;
 use std::error::Error;
 use std::io::Write;
 use std::process::ExitCode;
@@ -23,31 +32,45 @@ use std::{env, fs, io, thread};
 /// How much stack lowering has: it recurses, as syn does.
 const STACK: usize = 1 << 30;
 
-/// What is written.
+/// What is written of the functions.
 enum Form {
     Text,
     Counts,
     Names,
+    Outline,
     Html(String),
+}
+
+/// What is wanted of a file.
+enum Wanted {
+    Report(Form),
+    Rename(Request),
+    Renames,
 }
 
 /// What the arguments ask for.
 struct Task {
     files: Vec<String>,
-    form: Form,
+    wanted: Wanted,
 }
 
 fn task(args: impl Iterator<Item = String>) -> Result<Task, String> {
     let mut files = Vec::new();
-    let mut form = Form::Text;
+    let mut wanted = Wanted::Report(Form::Text);
     let mut args = args.peekable();
     while let Some(arg) = args.next() {
         match arg.as_str() {
-            "--counts" => form = Form::Counts,
-            "--names" => form = Form::Names,
+            "--counts" => wanted = Wanted::Report(Form::Counts),
+            "--names" => wanted = Wanted::Report(Form::Names),
+            "--outline" => wanted = Wanted::Report(Form::Outline),
+            "--renames" => wanted = Wanted::Renames,
+            "--rename" => match (args.next(), args.next()) {
+                (Some(place), Some(name)) => wanted = Wanted::Rename(Request::of(&place, &name)?),
+                _ => return Err(String::from("--rename wants a place and a name")),
+            },
             "--html" => {
                 let page = args.next().ok_or("--html wants the name of a page")?;
-                form = Form::Html(page);
+                wanted = Wanted::Report(Form::Html(page));
             }
             _ if arg.starts_with("--") => return Err(format!("{arg} is no option")),
             _ => files.push(arg),
@@ -56,10 +79,14 @@ fn task(args: impl Iterator<Item = String>) -> Result<Task, String> {
     if files.is_empty() {
         return Err(String::from("the name of a file is wanted"));
     }
-    if matches!(form, Form::Html(_)) && files.len() > 1 {
-        return Err(String::from("a page is of one file"));
+    let is_of_one = matches!(
+        wanted,
+        Wanted::Report(Form::Html(_)) | Wanted::Rename(_) | Wanted::Renames
+    );
+    if is_of_one && files.len() > 1 {
+        return Err(String::from("a page or a rename is of one file"));
     }
-    Ok(Task { files, form })
+    Ok(Task { files, wanted })
 }
 
 /// A file, and what the store answers about its functions.
@@ -125,14 +152,14 @@ fn write_text(report: &Report, out: &mut impl Write) -> Result<(), Box<dyn Error
     Ok(out.write_all(text.as_bytes())?)
 }
 
-/// Writes what is asked of a file; answers whether the store took each function.
-fn write_file(file: &str, form: &Form) -> Result<bool, Box<dyn Error>> {
+/// Writes what is asked of the functions of a file; returns whether the store took each.
+fn write_report(file: &str, form: &Form, out: &mut impl Write) -> Result<bool, Box<dyn Error>> {
     let report = report(file)?;
-    let mut out = io::stdout().lock();
     match form {
-        Form::Text => write_text(&report, &mut out)?,
-        Form::Counts => write_counts(file, &report, &mut out)?,
-        Form::Names => names::write(&report.findings, &mut out)?,
+        Form::Text => write_text(&report, out)?,
+        Form::Counts => write_counts(file, &report, out)?,
+        Form::Names => names::write(&report.findings, out)?,
+        Form::Outline => names::write_outline(&report.findings, out)?,
         Form::Html(page) => fs::write(page, html::page(file, &report.source, &report.findings)?)?,
     }
     for refused in &report.refused {
@@ -141,10 +168,29 @@ fn write_file(file: &str, form: &Form) -> Result<bool, Box<dyn Error>> {
     Ok(report.refused.is_empty())
 }
 
+/// Writes what is asked of a file; returns whether there was nothing to refuse.
+fn write_file(file: &str, wanted: &Wanted) -> Result<bool, Box<dyn Error>> {
+    let mut out = io::BufWriter::new(io::stdout().lock());
+    let is_good = match wanted {
+        Wanted::Report(form) => write_report(file, form, &mut out)?,
+        Wanted::Rename(request) => {
+            let source = fs::read_to_string(file)?;
+            renames::write_renamed(file, &source, request, &mut out)?
+        }
+        Wanted::Renames => {
+            let source = fs::read_to_string(file)?;
+            renames::write_each(file, &source, io::stdin().lock(), &mut out)?;
+            true
+        }
+    };
+    out.flush()?;
+    Ok(is_good)
+}
+
 fn run(task: &Task) -> ExitCode {
     let mut is_good = true;
     for file in &task.files {
-        match write_file(file, &task.form) {
+        match write_file(file, &task.wanted) {
             Ok(is_taken) => is_good &= is_taken,
             Err(error) => {
                 eprintln!("{error}");

@@ -109,14 +109,59 @@ fn nothing_uses_what_the_remarks_say() {
     assert_eq!(found, wanted);
 }
 
-#[test]
-fn a_page_has_the_source_and_no_outside_parts() {
-    let page = env::temp_dir().join(format!("hir-report-{}.html", std::process::id()));
+/// The page of `data/names.rs`.
+fn page(test: &str) -> String {
+    let page = env::temp_dir().join(format!("hir-report-{test}-{}.html", std::process::id()));
     let file = data("names.rs");
     let args = [file.to_str().unwrap(), "--html", page.to_str().unwrap()];
     assert!(run(&args).status.success());
     let html = fs::read_to_string(&page).expect("the page");
     fs::remove_file(&page).expect("the page is there");
+    html
+}
+
+/// The words in a line of a page that are marked as jumps or as what they leave, each with its key.
+fn jumps_in(html: &str, line: usize) -> Vec<(&str, &str)> {
+    let mark = format!("id=\"L{line}\"");
+    let line = html
+        .lines()
+        .find(|line| line.contains(&mark))
+        .expect("a line");
+    let marked = line.split(" data-j=\"").skip(1);
+    let found = marked.map(|rest| {
+        let (key, rest) = rest.split_once('"').expect("a key");
+        let (_, rest) = rest.split_once('>').expect("an element");
+        (rest.split('<').next().unwrap_or(rest), key)
+    });
+    found.collect()
+}
+
+#[test]
+fn a_page_shows_what_jumps_leave() {
+    let html = page("jumps");
+    let source = source();
+    let line_with = |text: &str| {
+        let line = source.lines().position(|line| line.contains(text));
+        line.expect("a line") + 1
+    };
+    let outer = jumps_in(&html, line_with("'outer: while"));
+    let key = outer[0].1;
+    assert_eq!(outer, [("'outer", key), ("while", key)]);
+    let go_on = jumps_in(&html, line_with("continue 'outer"));
+    assert_eq!(go_on, [("continue", key), ("'outer", key)]);
+    let plain = jumps_in(&html, line_with("i = loop {"));
+    let leave = jumps_in(&html, line_with("break i + 1"));
+    assert_eq!((plain[0].0, leave[0].0), ("loop", "break"));
+    assert_eq!(plain[0].1, leave[0].1);
+    assert_ne!(plain[0].1, key);
+    // The lowered end of a `for` has no place.
+    assert_eq!(jumps_in(&html, line_with("for j in")).len(), 1);
+    assert_eq!(html.matches("class=\"j\"").count(), 3);
+}
+
+#[test]
+fn a_page_has_the_source_and_no_outside_parts() {
+    let html = page("source");
     assert_eq!(
         html.matches("<span class=\"l").count(),
         source().lines().count()

@@ -1,7 +1,7 @@
-//! What is marked in the source: variables, the names that mean them, and closures.
+//! What is marked in the source: variables, the names that mean them, closures, and jumps with what they leave.
 
 use super::escaped;
-use crate::findings::{Closure, Findings, Usage};
+use crate::findings::{Closure, Findings, Jump, Usage};
 use crate::span::{Place, Span};
 use hir_expr_store::BindingId;
 use std::collections::HashMap;
@@ -110,6 +110,60 @@ fn add_closures(function: usize, found: &Findings, marks: &mut Vec<Mark>) {
     }
 }
 
+/// What is said of a jump.
+fn about_jump(found: &Findings, jump: &Jump) -> String {
+    let target = jump.target.and_then(|target| found.loops.get(target));
+    let Some(mark) = target.and_then(|marks| marks.first()) else {
+        return String::from("leaves no loop or block of this function");
+    };
+    let line = mark.start.line;
+    if jump.is_continue {
+        format!("continue: goes on with the loop of line {line}")
+    } else {
+        format!("break: leaves what begins in line {line}")
+    }
+}
+
+/// What is said of a loop or a block with a label.
+fn about_loop(found: &Findings, number: usize) -> String {
+    let jumps = found.jumps.iter().filter(|it| it.target == Some(number));
+    let lines: Vec<String> = jumps
+        .filter_map(|it| Some(it.marks.first()?.start.line.to_string()))
+        .collect();
+    if lines.is_empty() {
+        String::from("no jump leaves it or goes on with it")
+    } else {
+        format!("jumps to it: line {}", lines.join(", "))
+    }
+}
+
+fn add_jumps(function: usize, found: &Findings, marks: &mut Vec<Mark>) {
+    for jump in &found.jumps {
+        let key = match jump.target {
+            Some(target) => format!(" data-j=\"{function}.{target}\""),
+            None => String::new(),
+        };
+        let about = about_jump(found, jump);
+        for span in &jump.marks {
+            marks.push(Mark {
+                span: *span,
+                attributes: format!("class=\"j\"{key} data-t=\"{about}\""),
+            });
+        }
+    }
+    for (number, spans) in found.loops.iter().enumerate() {
+        let about = about_loop(found, number);
+        for span in spans {
+            marks.push(Mark {
+                span: *span,
+                attributes: format!(
+                    "class=\"j to\" data-j=\"{function}.{number}\" data-t=\"{about}\""
+                ),
+            });
+        }
+    }
+}
+
 /// The marks of all functions by the line that they stand in, in their order; none lies in another.
 pub fn marks_by_line(findings: &[Findings]) -> HashMap<usize, Vec<Mark>> {
     let mut marks = Vec::new();
@@ -117,6 +171,7 @@ pub fn marks_by_line(findings: &[Findings]) -> HashMap<usize, Vec<Mark>> {
         add_bindings(function, found, &mut marks);
         add_uses(function, found, &mut marks);
         add_closures(function, found, &mut marks);
+        add_jumps(function, found, &mut marks);
     }
     marks.sort_by_key(|mark| mark.span);
     let mut by_line: HashMap<usize, Vec<Mark>> = HashMap::new();

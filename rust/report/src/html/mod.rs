@@ -1,5 +1,5 @@
-//! One page of a file, without outside parts: pointing at a name lights up its variable and its other uses, and at a closure what it
-//! captures.
+//! One page of a file, without outside parts: pointing at a name lights up its variable and its other uses, at a closure what it captures,
+//! and at a jump what it leaves.
 
 mod marks;
 
@@ -158,7 +158,7 @@ pub fn page(file: &str, source: &str, findings: &[Findings]) -> Result<String, f
     }
     write!(
         out,
-        "</aside></main>\n<footer id=\"about\">Point at a name, or at the bars of a closure.</footer>\n\
+        "</aside></main>\n<footer id=\"about\">Point at a name, at the bars of a closure, or at a jump.</footer>\n\
          <script>\n{SCRIPT}</script></body></html>\n"
     )?;
     Ok(out)

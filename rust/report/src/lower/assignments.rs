@@ -3,11 +3,12 @@
 use super::pats::member_name;
 use super::{Lowering, Use};
 use crate::span::Span;
-use hir_expr_store::hir::{Expr, Pat, Path, RecordFieldPat};
-use hir_expr_store::{ExprId, Name, PatId};
+use hir_expr_store::hir::{Expr, Pat, RecordFieldPat};
+use hir_expr_store::{ExprId, ExprOrPatId, Name, PatId};
 
 /// A name on the left of an assignment, which may mean a variable.
 pub(super) struct Target {
+    path: PatId,
     name: Name,
     span: Span,
 }
@@ -29,8 +30,14 @@ impl Lowering {
         let target = self.target(left, &mut targets);
         let value = self.expr(right);
         let at = self.alloc(Expr::Assignment { target, value });
-        for Target { name, span } in targets {
-            self.sources.uses.push(Use { at, name, span });
+        for Target { path, name, span } in targets {
+            let path = ExprOrPatId::PatId(path);
+            self.sources.uses.push(Use {
+                path,
+                at,
+                name,
+                span,
+            });
         }
         at
     }
@@ -63,11 +70,14 @@ impl Lowering {
         }
     }
 
-    fn path_target(&mut self, it: &syn::ExprPath, targets: &mut Vec<Target>) -> Path {
+    fn path_target(&mut self, it: &syn::ExprPath, targets: &mut Vec<Target>) -> PatId {
         let path = self.path(it.qself.as_ref(), &it.path);
-        if let Some(name) = path.as_ident() {
+        let name = path.as_ident().cloned();
+        let path = self.builder.alloc_pat(Pat::Path(path));
+        if let Some(name) = name {
             targets.push(Target {
-                name: name.clone(),
+                path,
+                name,
                 span: Span::of(&it.path),
             });
         }
@@ -78,7 +88,7 @@ impl Lowering {
         let lowered = match expr {
             syn::Expr::Paren(paren) => return self.target(&paren.expr, targets),
             syn::Expr::Group(group) => return self.target(&group.expr, targets),
-            syn::Expr::Path(it) => Pat::Path(self.path_target(it, targets)),
+            syn::Expr::Path(it) => return self.path_target(it, targets),
             syn::Expr::Tuple(tuple) => {
                 let (args, ellipsis) = self.targets(tuple.elems.iter(), targets);
                 Pat::Tuple { args, ellipsis }
@@ -100,6 +110,7 @@ impl Lowering {
                 let path = self.path(None, &record.path);
                 let mut args = Vec::new();
                 for field in &record.fields {
+                    self.keep_short_field(field);
                     args.push(RecordFieldPat {
                         name: member_name(&field.member),
                         pat: self.target(&field.expr, targets),

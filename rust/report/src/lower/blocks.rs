@@ -109,7 +109,10 @@ impl Lowering {
                     has_semi: true,
                 }
             }
-            _ => Statement::Item(Item::Other),
+            item => {
+                self.keep_paths_of(item);
+                Statement::Item(Item::Other)
+            }
         }
     }
 

@@ -85,6 +85,7 @@ impl Lowering {
             label,
             source: LoopSource::ForLoop,
         });
+        self.keep_loop(outer, it.label.as_ref(), Some(Span::of(&it.for_token)));
         let pat = self.bind(&name, BindingAnnotation::Mutable);
         self.alloc(Expr::Match {
             expr: iterator,
@@ -107,11 +108,13 @@ impl Lowering {
             then_branch,
             else_branch: Some(end),
         });
-        self.alloc(Expr::Loop {
+        let id = self.alloc(Expr::Loop {
             body,
             label,
             source: LoopSource::While,
-        })
+        });
+        self.keep_loop(id, it.label.as_ref(), Some(Span::of(&it.while_token)));
+        id
     }
 
     pub(super) fn plain_loop(&mut self, it: &syn::ExprLoop) -> ExprId {
@@ -119,11 +122,13 @@ impl Lowering {
         let body = self.with_label(it.label.as_ref(), label, |lowering| {
             lowering.block(&it.body, None)
         });
-        self.alloc(Expr::Loop {
+        let id = self.alloc(Expr::Loop {
             body,
             label,
             source: LoopSource::Loop,
-        })
+        });
+        self.keep_loop(id, it.label.as_ref(), Some(Span::of(&it.loop_token)));
+        id
     }
 
     /// `EXPR?`: `match branch(EXPR) { Continue(val) => val, Break(residual) => return from_residual(residual) }`

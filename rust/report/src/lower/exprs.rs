@@ -10,7 +10,7 @@ use hir_expr_store::hir::{
     ArithOp, Array, BinaryOp, CmpOp, ConstRef, Expr, GenericArg, GenericArgs, LogicOp, Mutability,
     Ordering, Rawness, RecordLitField, RecordSpread, UnaryOp, Unsafe,
 };
-use hir_expr_store::{ExprId, Name};
+use hir_expr_store::{ExprId, ExprOrPatId, Name};
 use proc_macro2::TokenStream;
 
 /// An operator between two expressions. `+=` and the like are assignments.
@@ -71,7 +71,7 @@ impl Lowering {
     }
 
     /// A path. One name may mean a variable, and so may `self`.
-    fn path_expr(&mut self, it: &syn::ExprPath) -> ExprId {
+    pub(super) fn path_expr(&mut self, it: &syn::ExprPath) -> ExprId {
         let path = self.path(it.qself.as_ref(), &it.path);
         let name = if it.qself.is_none() && it.path.is_ident("self") {
             Some(Name::new("self"))
@@ -81,7 +81,13 @@ impl Lowering {
         let at = self.alloc(Expr::Path(path));
         if let Some(name) = name {
             let span = Span::of(&it.path);
-            self.sources.uses.push(Use { at, name, span });
+            let path = ExprOrPatId::ExprId(at);
+            self.sources.uses.push(Use {
+                path,
+                at,
+                name,
+                span,
+            });
         }
         at
     }
@@ -90,6 +96,7 @@ impl Lowering {
         let path = self.path(None, &it.path);
         let mut fields = Vec::new();
         for field in &it.fields {
+            self.keep_short_field(field);
             fields.push(RecordLitField {
                 name: member_name(&field.member),
                 expr: self.expr(&field.expr),
@@ -105,6 +112,29 @@ impl Lowering {
             fields,
             spread,
         }
+    }
+
+    /// Keeps the place of a field that is written as one name.
+    pub(super) fn keep_short_field(&mut self, field: &syn::FieldValue) {
+        if field.colon_token.is_none() {
+            let start = Span::of(&field.expr).start;
+            self.sources.short_fields.insert(start, start);
+        }
+    }
+
+    fn break_expr(&mut self, it: &syn::ExprBreak) -> ExprId {
+        let expr = self.opt(it.expr.as_deref());
+        let label = self.label_in_scope(it.label.as_ref());
+        let id = self.alloc(Expr::Break { expr, label });
+        self.keep_jump(id, false, Span::of(&it.break_token), it.label.as_ref());
+        id
+    }
+
+    fn continue_expr(&mut self, it: &syn::ExprContinue) -> ExprId {
+        let label = self.label_in_scope(it.label.as_ref());
+        let id = self.alloc(Expr::Continue { label });
+        self.keep_jump(id, true, Span::of(&it.continue_token), it.label.as_ref());
+        id
     }
 
     fn method_call(&mut self, it: &syn::ExprMethodCall) -> Expr {
@@ -154,9 +184,13 @@ impl Lowering {
 
     fn labelled_block(&mut self, it: &syn::ExprBlock) -> ExprId {
         let label = self.label(it.label.as_ref());
-        self.with_label(it.label.as_ref(), label, |lowering| {
+        let id = self.with_label(it.label.as_ref(), label, |lowering| {
             lowering.block(&it.block, label)
-        })
+        });
+        if it.label.is_some() {
+            self.keep_loop(id, it.label.as_ref(), None);
+        }
+        id
     }
 
     /// What syn gives as tokens: `_`, `const {}`, `&raw`, and what it doesn't know.
@@ -196,7 +230,9 @@ impl Lowering {
             syn::Expr::Assign(it) => return self.assignment(&it.left, &it.right),
             syn::Expr::Async(it) => return self.async_block(it),
             syn::Expr::Block(it) => return self.labelled_block(it),
+            syn::Expr::Break(it) => return self.break_expr(it),
             syn::Expr::Closure(it) => return self.closure(it),
+            syn::Expr::Continue(it) => return self.continue_expr(it),
             syn::Expr::ForLoop(it) => return self.for_loop(it),
             syn::Expr::Lit(it) => return self.lit(&it.lit),
             syn::Expr::Loop(it) => return self.plain_loop(it),
@@ -216,10 +252,6 @@ impl Lowering {
                 expr: self.expr(&it.base),
             },
             syn::Expr::Binary(it) => self.binary(&it.left, &it.op, &it.right),
-            syn::Expr::Break(it) => Expr::Break {
-                expr: self.opt(it.expr.as_deref()),
-                label: self.label_in_scope(it.label.as_ref()),
-            },
             syn::Expr::Call(it) => Expr::Call {
                 callee: self.expr(&it.func),
                 args: self.exprs(&it.args),
@@ -227,9 +259,6 @@ impl Lowering {
             syn::Expr::Cast(it) => Expr::Cast {
                 expr: self.expr(&it.expr),
                 type_ref: self.ty(&it.ty),
-            },
-            syn::Expr::Continue(it) => Expr::Continue {
-                label: self.label_in_scope(it.label.as_ref()),
             },
             syn::Expr::Field(it) => Expr::Field {
                 expr: self.expr(&it.base),

@@ -4,6 +4,7 @@ mod assignments;
 mod blocks;
 mod control;
 mod exprs;
+mod items;
 mod lang;
 mod literals;
 mod macros;
@@ -12,11 +13,13 @@ mod pats;
 mod types;
 mod verbatim;
 
-use crate::span::Span;
+use crate::span::{Place, Span};
 use hir_expr_store::hir::{Binding, BindingAnnotation, Expr, Label};
 use hir_expr_store::{
-    BindingId, Body, ExprId, ExpressionStoreBuilder, FunctionId, HygieneId, LabelId, Name, Param,
+    BindingId, Body, ExprId, ExprOrPatId, ExpressionStoreBuilder, FunctionId, HygieneId, LabelId,
+    Name, Param,
 };
+use std::collections::HashMap;
 use std::error::Error;
 use std::mem;
 
@@ -36,6 +39,8 @@ pub struct BindingSource {
 
 /// A path of one name, which may mean a variable.
 pub struct Use {
+    /// The path: an expression, or a pattern on the left of an assignment.
+    pub path: ExprOrPatId,
     /// The expression at which the name is looked for.
     pub at: ExprId,
     /// The name.
@@ -52,6 +57,24 @@ pub struct ClosureSource {
     pub marks: Vec<Span>,
 }
 
+/// A `break` or `continue` that is written.
+pub struct JumpSource {
+    /// The jump.
+    pub expr: ExprId,
+    /// Whether it is a `continue`.
+    pub is_continue: bool,
+    /// The word, and the label where it has one.
+    pub marks: Vec<Span>,
+}
+
+/// A loop, or a block with a label.
+pub struct LoopSource {
+    /// The loop or block.
+    pub expr: ExprId,
+    /// The label where it has one, and the word of a loop.
+    pub marks: Vec<Span>,
+}
+
 /// What the nodes of a body were written as.
 #[derive(Default)]
 pub struct Sources {
@@ -61,8 +84,17 @@ pub struct Sources {
     pub uses: Vec<Use>,
     /// Its closures.
     pub closures: Vec<ClosureSource>,
+    /// Its jumps.
+    pub jumps: Vec<JumpSource>,
+    /// Its loops, and its blocks with a label.
+    pub loops: Vec<LoopSource>,
+    /// The fields that are written as one name, as in `P { x }`, by the place of that name: where the field begins. The two differ in
+    /// `P { ref x }`.
+    pub short_fields: HashMap<Place, Place>,
     /// The identifiers in macro calls, which aren't expanded: a variable may be used there.
     pub in_macros: Vec<(Name, Span)>,
+    /// The paths of one name in items of the body, which see none of its variables: a variable of that name may be in their way.
+    pub in_items: Vec<(Name, Span)>,
     /// What syn didn't know, so that it is a missing node.
     pub unknown: Vec<Span>,
 }
@@ -206,6 +238,29 @@ impl Lowering {
         let lowered = lower(self);
         self.labels = labels;
         lowered
+    }
+
+    /// Keeps where a loop, or a block with a label, is written.
+    fn keep_loop(&mut self, expr: ExprId, label: Option<&syn::Label>, word: Option<Span>) {
+        let label = label.map(|label| Span::of(&label.name));
+        let marks = label.into_iter().chain(word).collect();
+        self.sources.loops.push(LoopSource { expr, marks });
+    }
+
+    /// Keeps where a jump is written.
+    fn keep_jump(
+        &mut self,
+        expr: ExprId,
+        is_continue: bool,
+        word: Span,
+        label: Option<&syn::Lifetime>,
+    ) {
+        let label = label.map(Span::of);
+        self.sources.jumps.push(JumpSource {
+            expr,
+            is_continue,
+            marks: [word].into_iter().chain(label).collect(),
+        });
     }
 
     /// The label that a jump names.

@@ -3,9 +3,7 @@
 use super::paths::name_of;
 use super::Lowering;
 use crate::span::Span;
-use hir_expr_store::hir::{
-    BindingAnnotation, Expr, Mutability, Pat, Path, RangeOp, RecordFieldPat,
-};
+use hir_expr_store::hir::{BindingAnnotation, Mutability, Pat, Path, RangeOp, RecordFieldPat};
 use hir_expr_store::{BindingId, ExprId, Name, PatId};
 use std::collections::HashMap;
 
@@ -136,6 +134,9 @@ impl Lowering {
             let pat = match &*field.pat {
                 // `S { X }` binds the field, whatever its first letter is.
                 syn::Pat::Ident(ident) if field.colon_token.is_none() => {
+                    let start = Span::of(&*field.pat).start;
+                    let name = Span::of(&ident.ident).start;
+                    self.sources.short_fields.insert(name, start);
                     let mode =
                         BindingAnnotation::new(ident.mutability.is_some(), ident.by_ref.is_some());
                     self.shorthand(&ident.ident, mode, bindings)
@@ -183,10 +184,7 @@ impl Lowering {
     /// What a pattern has as an expression: a literal, or a path of a constant.
     fn pat_expr(&mut self, expr: &syn::Expr) -> Option<ExprId> {
         match expr {
-            syn::Expr::Path(path) => {
-                let path = self.path(path.qself.as_ref(), &path.path);
-                Some(self.alloc(Expr::Path(path)))
-            }
+            syn::Expr::Path(path) => Some(self.path_expr(path)),
             syn::Expr::Macro(call) => Some(self.macro_call(&call.mac)),
             _ => self.pat_lit(expr),
         }

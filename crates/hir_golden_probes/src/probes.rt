@@ -1,0 +1,138 @@
+//! The probes of a store: what golden cases ask of it beside the questions of `hir_text`.
+
+use crate::paths::Part;
+use crate::roots::Rooted;
+use crate::try_walks::{TryWalk, Way};
+use crate::{blocks, equality, paths, precedences, roots, scopes, try_walks};
+use hir_base::{BlockId, ExprPrecedence, ExpressionStoreOwnerId};
+use hir_node::Path;
+use hir_text::Asked;
+use hir_text_defs::Finished;
+use hir_text_nodes::{Answer, Node, TextError, Words, next_node, next_owner, next_path};
+use std::alloc::Global;
+use std::collections::BTreeMap;
+
+/// A probe of a store.
+#[derive(Drop)]
+pub(crate) enum Probe {
+    Equal(Node, Node),
+    Copies,
+    SameStore,
+    SameSources,
+    SameScopes,
+    CountedScopes,
+    ScopesByTables(Option<ExpressionStoreOwnerId>),
+    CountedRoot(Rooted),
+    TryWalk(TryWalk),
+    Parens(ExprPrecedence, ExprPrecedence),
+    Blocks(BTreeMap<BlockId, u32>),
+    Path(Path, Part),
+}
+
+fn read_equal(words: &mut Words<'_>) -> Result<Probe, TextError> {
+    let first = next_node(words)?;
+    Ok(Probe::Equal(first, next_node(words)?))
+}
+
+fn read_parens(words: &mut Words<'_>) -> Result<Probe, TextError> {
+    let child = precedences::next_precedence(words)?;
+    Ok(Probe::Parens(child, precedences::next_precedence(words)?))
+}
+
+fn read_path(alloc: Global, words: &mut Words<'_>) -> Result<Probe, TextError> {
+    let path = next_path(words, alloc)?;
+    match paths::next_part(words) {
+        Ok(part) => Ok(Probe::Path(path, part)),
+        Err(stop) => Err(stop),
+    }
+}
+
+fn read_scopes_by_tables(words: &mut Words<'_>) -> Result<Probe, TextError> {
+    if words.is_end() {
+        return Ok(Probe::ScopesByTables(None));
+    }
+    Ok(Probe::ScopesByTables(Some(next_owner(words)?)))
+}
+
+/// The walk that can stop of this word.
+fn read_walk(word: &[u8], words: &mut Words<'_>) -> Result<Option<Probe>, TextError> {
+    let way = match word {
+        b"try-children" => Way::Children,
+        b"try-children-without-pats" => Way::ChildrenWithoutPats,
+        b"try-walk-pats" => Way::Pats,
+        b"try-bindings-in" => Way::Bindings,
+        b"try-exprs-in" => Way::Exprs,
+        _ => return Ok(None),
+    };
+    let from = words.next_number()?;
+    let end = words.next_number()?;
+    Ok(Some(Probe::TryWalk(TryWalk { way, from, end })))
+}
+
+/// The probe of this word, where it is one; the line may go on.
+fn read_front(
+    alloc: Global,
+    word: &[u8],
+    words: &mut Words<'_>,
+) -> Result<Option<Probe>, TextError> {
+    Ok(Some(match word {
+        b"equal" => read_equal(words)?,
+        b"copies" => Probe::Copies,
+        b"same-store" => Probe::SameStore,
+        b"same-sources" => Probe::SameSources,
+        b"same-scopes" => Probe::SameScopes,
+        b"counted-scopes" => Probe::CountedScopes,
+        b"scopes-by-tables" => read_scopes_by_tables(words)?,
+        b"counted-root-of" => Probe::CountedRoot(roots::next_rooted(words)?),
+        b"parens" => read_parens(words)?,
+        b"blocks" => Probe::Blocks(blocks::read_maps(words, alloc)?),
+        b"path" => read_path(alloc, words)?,
+        _ => return read_walk(word, words),
+    }))
+}
+
+/// Reads the probe of a line, where it is one.
+pub(crate) fn read_probe(
+    alloc: Global,
+    word: &[u8],
+    words: Words<'_>,
+) -> Result<Option<Probe>, TextError> {
+    let mut words = words;
+    let Some(probe) = read_front(alloc, word, &mut words)? else {
+        return Ok(None);
+    };
+    words.end()?;
+    Ok(Some(probe))
+}
+
+impl Probe {
+    /// Answers the probe.
+    pub(crate) fn ask(
+        &self,
+        alloc: Global,
+        kept: Option<&Finished>,
+        asked: &Asked<'_>,
+        answer: &mut Answer,
+    ) -> Result<(), TextError> {
+        let store = asked.store;
+        match self {
+            Probe::Equal(first, second) => equality::equal(store, first, second, answer)?,
+            Probe::Copies => equality::copies(store, answer)?,
+            Probe::SameStore => equality::same_store(kept, store, answer)?,
+            Probe::SameSources => equality::same_sources(kept, asked.sources, answer)?,
+            Probe::SameScopes => scopes::ask_same(alloc, kept, asked, answer)?,
+            Probe::CountedScopes => scopes::ask_counted(alloc, asked, answer)?,
+            Probe::ScopesByTables(owner) => {
+                scopes::ask_by_tables(alloc, asked, owner, answer)?;
+            }
+            Probe::CountedRoot(node) => answer.opt_id(roots::counted_root_of(store, *node))?,
+            Probe::TryWalk(walk) => try_walks::ask(alloc, store, *walk, answer)?,
+            Probe::Parens(child, parent) => {
+                answer.yes_or_no(child.needs_parentheses_in(*parent))?;
+            }
+            Probe::Blocks(maps) => blocks::write(store, maps, answer)?,
+            Probe::Path(path, part) => paths::write_part(alloc, path, *part, answer)?,
+        }
+        Ok(())
+    }
+}

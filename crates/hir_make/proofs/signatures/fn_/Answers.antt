@@ -1,0 +1,11 @@
+use Rattle.std.proofs.lemmas.Result.{err_from_is_err_and}
+use Rattle.hir_items.specs.Signatures.{function_fault}
+use Rattle.hir_make.specs.Parts.{function_of}
+use Rattle.hir_make.proofs.RefusalLemmas.{signature_refused}
+use Rattle.hir_make.proofs.signatures.fn_.Goals as goal
+
+pub returns-in_err-store-clause-err : goal.returns-in_err-store-clause-err
+returns-in_err-store-clause-err c =
+    let p = err_from_is_err_and c.from_residual-in_err-store.result c.from_residual-in_err-store.ensures.1 in
+    let first = function_fault (function_of c.args.builder c.args.name.now c.args.params.now c.args.ret_type) in
+    rw (p.1, p.2, c.in_err-store.ensures.err.0) (signature_refused c.args.builder first _ c.in_err-store.ensures.err.1)

@@ -1,0 +1,144 @@
+//! Uses in groups: those of each binding, and those that resolve to none.
+#![tactic(auto, using(crate::proofs::GroupLemmas::grouping))]
+
+ghost use Rattle.std.specs.Prelude.{◌≡◌, ◌==◌, ◌∷◌, ◌++◌, [], ℕ, List, IfOk, OnOk, if◌then◌else◌};
+ghost use Rattle.hir_captures.specs.Captures.{with_new};
+ghost use Rattle.hir_usages.specs.Usages.{is_unused, unused_among};
+ghost use Rattle.hir_usages.specs.declared.usage.Usage.{Usage};
+ghost use Rattle.hir_usages.specs.walk.Groups.{AreGroups, or_none};
+ghost use Rattle.std.specs.FinMap as map;
+
+use crate::distinct::DistinctBindings;
+use crate::usage::Usage;
+use hir_base::{ArenaMap, Seq};
+use hir_node::{BindingId, BindingKind};
+use std::alloc::{AllocError, Global};
+
+/// The uses of each binding that has one, and those that resolve to none, both in the order of the walk.
+#[derive(Drop)]
+pub(crate) struct Groups {
+    by_binding: ArenaMap<BindingKind, Seq<Usage>>,
+    unresolved: Vec<Usage>,
+}
+
+/// Returns these uses, or none.
+fn or_empty(alloc: Global, usages: Option<Seq<Usage>>) -> Seq<Usage>
+    ensures { result ≡ or_none usages }
+{
+    match usages {
+        Some(usages) => usages,
+        None => Seq::new(alloc),
+    }
+}
+
+/// Adds a use to those of its binding.
+fn add_of(
+    by_binding: &mut ArenaMap<BindingKind, Seq<Usage>>,
+    alloc: Global,
+    binding: BindingId,
+    usage: Usage,
+) -> Result<(), AllocError>
+    ensures { OnOk result ((other : ℕ) → or_none (map.get by_binding.new other)
+        ≡ or_none (map.get by_binding.old other) ++ (if binding == other then usage ∷ [] else [])) }
+{
+    // The list is taken out and put back: it is moved, and nothing is copied.
+    let before = by_binding.insert(binding, Seq::new(alloc))?;
+    let mut usages = or_empty(alloc, before);
+    // (a copy: the prover's borrow checker has to be told of the types in it, here and below)
+    usages.push(Usage {
+        path: usage.path,
+        ..usage
+    })?;
+    by_binding.insert(binding, usages)?;
+    Ok(())
+}
+
+impl Groups {
+    /// Adds a use to the group that it belongs to.
+    fn add(&mut self, alloc: Global, usage: Usage) -> Result<(), AllocError>
+        ensures { OnOk result ((before : List Usage)
+            → AreGroups before self.old.by_binding self.old.unresolved.items
+            → AreGroups (before ++ usage ∷ []) self.new.by_binding self.new.unresolved.items) }
+    {
+        match usage.binding {
+            Some(binding) => {
+                add_of(&mut self.by_binding, alloc, binding, usage)?;
+                Ok(())
+            }
+            None => {
+                self.unresolved.push(Usage {
+                    path: usage.path,
+                    ..usage
+                })?;
+                Ok(())
+            }
+        }
+    }
+
+    /// Returns these uses in groups.
+    pub(crate) fn new(alloc: Global, usages: &Vec<Usage>) -> Result<Groups, AllocError>
+        ensures { IfOk result (λ made. AreGroups usages.now.items made.by_binding made.unresolved.items) }
+    {
+        let mut groups = Groups {
+            by_binding: ArenaMap::new(alloc),
+            unresolved: Vec::new(alloc),
+        };
+        for usage in usages {
+            groups.add(alloc, *usage)?;
+        }
+        Ok(groups)
+    }
+
+    /// Returns the uses of a binding.
+    pub(crate) fn of(&self, binding: BindingId) -> &[Usage]
+        ensures { result.now ≡ or_none (map.get self.now.by_binding binding) }
+    {
+        match self.by_binding.get(binding) {
+            Some(usages) => usages.as_slice(),
+            None => &[],
+        }
+    }
+
+    /// Returns the uses that resolve to no binding.
+    pub(crate) fn unresolved(&self) -> &[Usage]
+        ensures { result.now ≡ self.now.unresolved.items }
+    {
+        self.unresolved.as_slice()
+    }
+
+    /// Adds a binding to the unused ones, where no use resolves to it.
+    fn add_unused(
+        &self,
+        unused: &mut DistinctBindings,
+        binding: BindingId,
+    ) -> Result<(), AllocError>
+        ensures { OnOk result ((usages : List Usage)
+            → AreGroups usages self.now.by_binding self.now.unresolved.items
+            → unused.new ≡ (if is_unused usages binding then with_new unused.old binding else unused.old)) }
+    {
+        if self.of(binding).len() > 0 {
+            return Ok(());
+        }
+        unused.add(binding)?;
+        Ok(())
+    }
+
+    /// Returns those of these bindings to which no use resolves, each once, in their order. Numbers of
+    /// bindings are below `bindings`.
+    pub(crate) fn unused(
+        &self,
+        alloc: Global,
+        bound: &Vec<BindingId>,
+        bindings: usize,
+    ) -> Result<Vec<BindingId>, AllocError>
+        ensures { IfOk result (λ made. (usages : List Usage)
+            → AreGroups usages self.now.by_binding self.now.unresolved.items
+            → made.items ≡ unused_among usages bound.now.items) }
+    {
+        let mut unused = DistinctBindings::new(alloc, bindings)?;
+        for binding in bound {
+            self.add_unused(&mut unused, *binding)?;
+        }
+        Ok(unused.into_bindings())
+    }
+}
