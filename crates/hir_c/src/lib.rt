@@ -14,8 +14,8 @@ pub use report::Report;
 use report::Status;
 use std::alloc::Global;
 
-/// Answers the questions of a text of lines into a buffer, as far as it goes; returns the status as a number,
-/// and reports the rest.
+/// Writes the answers to the questions of a text of lines into a buffer, as far as it goes; returns the
+/// status as a number, and reports the rest.
 #[unsafe(no_mangle)]
 pub extern "C" fn hir_expr_store_answer(
     alloc: Global,

@@ -11,7 +11,7 @@ fn lines_before(bytes: &[u8], place: usize) -> &[u8] {
     before.get(..count).unwrap_or(before)
 }
 
-/// Answers the questions of the lines before the one that isn't UTF-8, and refuses that one.
+/// Writes the answers to the questions of the lines before the one that isn't UTF-8, and refuses that one.
 fn answer_before(
     alloc: Global,
     bytes: &[u8],
@@ -26,7 +26,7 @@ fn answer_before(
     Err(TextFault::BadLine(count.saturating_add(1)))
 }
 
-/// Answers the questions of a text; a line that isn't UTF-8 is a bad one.
+/// Writes the answers to the questions of a text; a line that isn't UTF-8 is a bad one.
 pub(crate) fn answer_bytes(
     alloc: Global,
     bytes: &[u8],

@@ -94,7 +94,7 @@ fn compare_lines(
     Ok(())
 }
 
-/// Answers the questions of a row, and compares.
+/// Writes the answers to the questions of a row, and compares.
 pub(crate) fn compare_answers(
     alloc: Global,
     row: &Row<'_>,

@@ -82,7 +82,7 @@ fn compare_named<R: Files + Env + Print + AllocGlobal>(
     write(rt, report)
 }
 
-/// Compares the rows of all files that the arguments name, and answers the exit status: 0 where nothing
+/// Compares the rows of all files that the arguments name, and returns the exit status: 0 where nothing
 /// differs, 1 where a row differs or a file has no rows to compare, 3 where the arguments can't be read or
 /// the report can't be written, and 4 where memory ran out and nothing before differs.
 pub(crate) fn compare_all<R: Files + Env + Print + AllocGlobal>(rt: &R) -> u8 {

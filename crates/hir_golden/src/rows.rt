@@ -53,7 +53,7 @@ fn is_filled(line: &str) -> bool {
     !line.is_empty() && !line.starts_with('#')
 }
 
-/// Answers a row, and compares. A title without lines is a remark and no row.
+/// Asks the questions of a row, and compares. A title without lines is a remark and no row.
 fn compare_row(alloc: Global, row: &Row<'_>, report: &mut Report) -> Result<(), Halt> {
     let text = row.text();
     let stray = text

@@ -53,7 +53,7 @@ fn next_generic(words: &mut Words<'_>) -> Result<GenericDefId, TextError> {
     as_generic(next_def(words)?)
 }
 
-/// Answers what comes after the word `beside`; returns whether it is such a question.
+/// Writes the answer to what comes after the word `beside`; returns whether it is such a question.
 // A match in place of `?`, behind which the prover's borrow checker can't carry the definition.
 fn ask_beside(
     alloc: Global,

@@ -106,7 +106,7 @@ pub(crate) fn read_probe(
 }
 
 impl Probe {
-    /// Answers the probe.
+    /// Writes the answer to the probe.
     pub(crate) fn ask(
         &self,
         alloc: Global,

@@ -89,7 +89,8 @@ impl GoldenSession {
         Ok(Some(answer))
     }
 
-    /// Answers a probe of the store that questions ask. Where there is none, the answer says why.
+    /// Writes the answer to a probe of the store that questions ask. Where there is none, the answer says
+    /// why.
     fn ask(&mut self, probe: &Probe) -> Result<Option<Answer>, TextError> {
         let mut answer = Answer::new(self.alloc);
         let kept = self.kept.as_ref();
@@ -128,8 +129,8 @@ impl GoldenSession {
         }
     }
 
-    /// `again QUESTION`: finishes the nodes and answers the question, by a second call where an allocation for
-    /// it fails.
+    /// `again QUESTION`: finishes the nodes and writes the answer to the question, by a second call where an
+    /// allocation for it fails.
     // The nodes are finished before, and once: where an allocation for that fails, they don't exist any more.
     fn ask_again(&mut self, question: &[u8]) -> Result<Option<Answer>, TextError> {
         let mut scratch = Answer::new(self.alloc);

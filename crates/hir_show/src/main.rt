@@ -1,5 +1,5 @@
-//! Reads lines that build an expression store and questions on it from standard input, and answers the
-//! questions.
+//! Reads lines that build an expression store and questions on it from standard input, and writes
+//! the answers.
 #![tactic(auto)]
 
 use hir_show_io::StdEnd;

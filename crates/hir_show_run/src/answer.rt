@@ -73,7 +73,7 @@ fn answer_root<W: Sink>(store: &ExpressionStore, id: ExprId, output: &mut Output
     output.put(b"\n");
 }
 
-/// Answers a question on a store by one line.
+/// Writes the answer to a question on a store by one line.
 pub(crate) fn answer_store<W: Sink>(
     store: &ExpressionStore,
     question: StoreQuestion,

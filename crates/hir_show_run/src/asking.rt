@@ -17,7 +17,7 @@ use std::alloc::Global;
 #[derive(Drop)]
 pub(crate) struct MemoryRefused;
 
-/// Answers questions.
+/// What has answers to questions.
 pub(crate) trait Answers {
     ghost use Rattle.hir_show_grammar.specs.declared.question.Question.{Question};
 
@@ -27,7 +27,8 @@ pub(crate) trait Answers {
     // What the answers to it are.
     ghost Is: { Self → Question → List ℕ → Type 0 };
 
-    /// Answers a question by one line, put after what waits. A question that may not be asked is given back.
+    /// Writes the answer to a question by one line, put after what waits. A question that may not be asked
+    /// is given back.
     ///
     /// Returns `MemoryRefused` where an allocation fails; nothing is put then.
     fn answer<W: Sink>(
@@ -53,7 +54,8 @@ pub(crate) fn asked_by(alloc: Global, lines: &LineReader) -> Result<Option<Quest
     }
 }
 
-/// Answers a question. Its clause holds for a line of any number, since a question is never a bad line.
+/// Writes the answer to a question. Its clause holds for a line of any number, since a question is never a
+/// bad line.
 fn answer_question<A: Answers, W: Sink>(
     alloc: Global,
     asked: &mut A,
@@ -74,7 +76,7 @@ fn answer_question<A: Answers, W: Sink>(
     Ok(left)
 }
 
-/// Answers the line that was taken last.
+/// Writes the answer to the line that was taken last.
 fn answer_next<A: Answers, W: Sink>(
     alloc: Global,
     asked: &mut A,
@@ -94,8 +96,8 @@ fn answer_next<A: Answers, W: Sink>(
     }
 }
 
-/// Answers the first question and those after it, and gives the first that may not be asked, if there is one.
-/// Some of the answers may still wait.
+/// Writes the answers to the first question and those after it, and gives the first that may not be asked,
+/// if there is one. Some of the answers may still wait.
 pub(crate) fn answer_lines<A: Answers, R: Source, W: Sink>(
     alloc: Global,
     asked: &mut A,

@@ -116,7 +116,7 @@ impl BodyOfLines {
         answer_print(alloc, &self.body, self.name.as_ref(), output)
     }
 
-    /// Answers a question on a body by one line, or by the body's text.
+    /// Writes the answer to a question on a body by one line, or by the body's text.
     ///
     /// Returns `MemoryRefused` where an allocation fails; nothing is put then.
     fn answer_body<W: Sink>(

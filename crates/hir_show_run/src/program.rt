@@ -51,7 +51,7 @@ fn body_of_parts(
     Ok(Body::new(alloc, store, params, self_param)?)
 }
 
-/// Makes what the lines before the first question make, and answers the questions. The last answers may still
+/// Makes what the lines before the first question make, and writes the answers. The last ones may still
 /// wait.
 fn answer_script<R: Source, W: Sink>(
     alloc: Global,
@@ -168,12 +168,12 @@ pub fn run_lines<R: Source, W: Sink>(
 ///
 /// Lines that make something come before the first question; after it, each line but a question or an empty
 /// one is bad. The answers come in order up to the first fault; `accepted` where there is neither a question
-/// nor a fault. What was made is tested where the first question comes, or at the end, and its body where the
-/// first question on it comes. What waits to be written is written before each read and before the run ends,
-/// so an answer is never held back while more input is awaited. A failed read ends the run: the answers of
-/// the whole lines before are written. A failed write ends it too. Where an allocation fails at a line, which
-/// is never a bad one, the answers of all lines before it are written: `run_lines` shows at which line. All
-/// memory is given back.
+/// nor a fault. What was made is tested where the first question comes, or at the end, and its body where
+/// the first question on it comes. What waits to be written is written before each read and before the run
+/// ends, so an answer is never held back while more input is awaited. A failed read ends the run: the
+/// answers of the whole lines before are written. A failed write ends it too. Where an allocation fails at a
+/// line, which is never a bad one, the answers of all lines before it are written: `run_lines` shows at
+/// which line. All memory is given back.
 pub fn run<R: Source, W: Sink>(
     alloc: Global,
     reader: &mut R,

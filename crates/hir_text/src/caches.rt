@@ -13,7 +13,7 @@ pub(crate) trait StoreCache: Sized + Drop {
     /// Nothing.
     fn new(alloc: Global) -> Self;
 
-    /// Answers a question on the scopes, captures or uses of the store.
+    /// Writes the answer to a question on the scopes, captures or uses of the store.
     fn ask(
         &mut self,
         alloc: Global,
@@ -47,7 +47,7 @@ impl<C: StoreCache> StoreCaches<C> {
         Ok(())
     }
 
-    /// Answers a question by what is kept of the store of an owner.
+    /// Writes the answer to a question by what is kept of the store of an owner.
     fn ask_owned(
         &mut self,
         alloc: Global,
@@ -63,7 +63,7 @@ impl<C: StoreCache> StoreCaches<C> {
         }
     }
 
-    /// Answers a question by what is kept of the store that is asked.
+    /// Writes the answer to a question by what is kept of the store that is asked.
     pub(crate) fn ask(
         &mut self,
         alloc: Global,

@@ -51,7 +51,7 @@ impl<'a> Asked<'a> {
     }
 }
 
-/// Answers a question on the tables; returns whether the line is one.
+/// Writes the answer to a question on the tables; returns whether the line is one.
 pub(crate) fn ask_tables(
     alloc: Global,
     tables: &Tables,
@@ -65,7 +65,7 @@ pub(crate) fn ask_tables(
     )
 }
 
-/// Answers a question on a store; returns whether the line is one.
+/// Writes the answer to a question on a store; returns whether the line is one.
 pub(crate) fn ask_store(
     alloc: Global,
     asked: &Asked<'_>,

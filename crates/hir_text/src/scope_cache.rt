@@ -169,8 +169,8 @@ impl Drop for ScopeCache {
 }
 
 impl ScopeCache {
-    /// Makes the scopes of what is asked, where there are none yet. Where they can't be made, the answer says
-    /// why.
+    /// Makes the scopes of what is asked, where there are none yet. Where they can't be made, the answer
+    /// says why.
     fn open_scopes(
         &mut self,
         alloc: Global,
@@ -183,7 +183,7 @@ impl ScopeCache {
         Ok(())
     }
 
-    /// Answers a question on scopes.
+    /// Writes the answer to a question on scopes.
     fn ask_scopes(
         &mut self,
         alloc: Global,
@@ -230,7 +230,7 @@ impl ScopeCache {
         keep_captures(alloc, &mut self.captures, closure, found, answer)
     }
 
-    /// Answers what a closure captures.
+    /// Writes what a closure captures.
     fn ask_captures(
         &mut self,
         alloc: Global,
@@ -285,7 +285,7 @@ impl ScopeCache {
         Ok(())
     }
 
-    /// Answers a question on uses.
+    /// Writes the answer to a question on uses.
     fn ask_usages(
         &mut self,
         alloc: Global,
@@ -304,7 +304,7 @@ impl ScopeCache {
         }
     }
 
-    /// Answers what a new name of a binding changes.
+    /// Writes what a new name of a binding changes.
     fn ask_rename(
         &mut self,
         alloc: Global,

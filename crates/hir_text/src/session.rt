@@ -214,7 +214,8 @@ impl Session {
         Ok(())
     }
 
-    /// Answers a question on scopes, captures or uses, by what is kept of the store that is asked.
+    /// Writes the answer to a question on scopes, captures or uses, by what is kept of the store that is
+    /// asked.
     fn ask_scopes(&mut self, question: &Question, answer: &mut Answer) -> Result<(), TextError> {
         if !self.finish(answer)? {
             return Ok(());
@@ -225,7 +226,7 @@ impl Session {
         }
     }
 
-    /// Answers a question on a store; returns whether the line is one.
+    /// Writes the answer to a question on a store; returns whether the line is one.
     fn ask_store(
         &mut self,
         word: &[u8],
@@ -241,7 +242,7 @@ impl Session {
         }
     }
 
-    /// Answers a question; returns whether the line is one.
+    /// Writes the answer to a question; returns whether the line is one.
     fn ask(
         &mut self,
         word: &[u8],

@@ -129,7 +129,8 @@ fn ask_store(
     words.end()
 }
 
-/// Answers a question on a text of the store that is asked; returns whether it is such a question.
+/// Writes the answer to a question on a text of the store that is asked; returns whether it is such a
+/// question.
 pub(crate) fn ask_of_store(
     alloc: Global,
     tables: &Tables,
@@ -245,7 +246,8 @@ fn print_asked(
     }
 }
 
-/// Answers a question on a text of the body that is asked; returns whether it is such a question.
+/// Writes the answer to a question on a text of the body that is asked; returns whether it is such a
+/// question.
 pub(crate) fn ask_of_body(
     alloc: Global,
     tables: &Tables,
@@ -367,7 +369,8 @@ fn print_of_tables(
     }
 }
 
-/// Answers a question on a text of what is in the tables; returns whether it is such a question.
+/// Writes the answer to a question on a text of what is in the tables; returns whether it is such a
+/// question.
 pub(crate) fn ask_of_tables(
     alloc: Global,
     tables: &Tables,

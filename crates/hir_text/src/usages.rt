@@ -167,7 +167,7 @@ fn write_rename(
     }
 }
 
-/// Answers what a new name of a binding changes, or, where the question has an edition, how the renamed body
+/// Writes what a new name of a binding changes, or, where the question has an edition, how the renamed body
 /// is printed.
 pub(crate) fn ask_rename(
     alloc: Global,

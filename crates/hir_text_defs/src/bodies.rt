@@ -137,7 +137,8 @@ fn write(body: Option<&Body>, question: Question, answer: &mut Answer) -> Result
     }
 }
 
-/// Answers a question on the body that is asked, where there is one; returns whether it is such a question.
+/// Writes the answer to a question on the body that is asked, where there is one; returns whether it is such
+/// a question.
 pub fn ask_of_body(
     body: Option<&Body>,
     word: &[u8],

@@ -271,7 +271,7 @@ fn write(tables: &Tables, question: &Question, answer: &mut Answer) -> Result<()
     }
 }
 
-/// Answers a question on the tables; returns whether it is such a question.
+/// Writes the answer to a question on the tables; returns whether it is such a question.
 pub fn ask(
     alloc: Global,
     tables: &Tables,

@@ -137,7 +137,7 @@ fn write(
     }
 }
 
-/// Answers a question on nodes.
+/// Writes the answer to a question on nodes.
 pub(crate) fn ask(
     store: &ExpressionStore,
     kind: Kind,

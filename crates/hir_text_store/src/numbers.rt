@@ -30,7 +30,7 @@ fn closure_for_coroutine(id: ExprId, answer: &mut Answer) -> Result<(), AllocErr
     answer.id(ExpressionStore::closure_for_coroutine(id))
 }
 
-/// Answers such a question.
+/// Writes the answer to such a question.
 pub(crate) fn ask(
     question: Question,
     words: &mut Words<'_>,

@@ -64,7 +64,7 @@ fn write(
     }
 }
 
-/// Answers what a source became.
+/// Writes what a source became.
 pub(crate) fn ask(
     sources: &ExpressionStoreSourceMap,
     question: Question,

@@ -164,7 +164,7 @@ const QUESTIONS: [(&str, Question); 45] = [
     ("expansions", Question::OfSources(OfSources::Expansions)),
 ];
 
-/// Answers what a store is asked that takes memory.
+/// Writes the answer to what a store is asked that takes memory.
 fn ask_store(
     alloc: Global,
     store: &ExpressionStore,
@@ -181,7 +181,7 @@ fn ask_store(
     }
 }
 
-/// Answers what a source map is asked.
+/// Writes the answer to what a source map is asked.
 fn ask_sources(
     alloc: Global,
     sources: &ExpressionStoreSourceMap,
@@ -198,7 +198,7 @@ fn ask_sources(
     }
 }
 
-/// Answers a question.
+/// Writes the answer to a question.
 fn answer_question(
     alloc: Global,
     store: &ExpressionStore,
@@ -225,7 +225,7 @@ fn answer_question(
     }
 }
 
-/// Answers a question on a store and its source map; returns whether it is such a question.
+/// Writes the answer to a question on a store and its source map; returns whether it is such a question.
 pub fn ask(
     alloc: Global,
     store: &ExpressionStore,

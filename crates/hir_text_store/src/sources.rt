@@ -93,7 +93,7 @@ fn write(
     }
 }
 
-/// Answers a question that ends in a number.
+/// Writes the answer to a question that ends in a number.
 pub(crate) fn ask(
     sources: &ExpressionStoreSourceMap,
     question: Question,

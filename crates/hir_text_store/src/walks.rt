@@ -97,7 +97,7 @@ fn walk_from(store: &ExpressionStore, walk: Walk, number: u32, found: &mut Recor
     }
 }
 
-/// Answers what a walk meets.
+/// Writes what a walk meets.
 pub(crate) fn ask(
     alloc: Global,
     store: &ExpressionStore,
