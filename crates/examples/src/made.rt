@@ -191,8 +191,9 @@ fn no_callee(alloc: Global) -> Result<ExpressionStore, HirError> {
 
 /// Prints what an error says.
 fn print_error<T: Drop>(rt: &impl Print, outcome: Result<T, HirError>) -> anyhow::Result<()> {
-    if let Err(error) = outcome {
-        println!(rt; "{error}")?;
+    match outcome {
+        Ok(made) => drop(made),
+        Err(error) => println!(rt; "{error}")?,
     }
     Ok(())
 }
