@@ -1,7 +1,8 @@
-/* hir_expr_store.h: ask the proved expression store from C.
+/* hir_expr_store.h: hold the proved expression store in C, and ask it.
  *
  * A text of lines makes nodes, stores, bodies, signatures and tables, and asks questions about them; the answers come as lines too.
- * crates/hir_text/CALLING.md has the grammar of both. scripts/rust says how the library is made and what is linked with it:
+ * crates/hir_text/CALLING.md has the grammar of both, crates/hir_c/CALLING.md says more of each call. scripts/c says how the library is
+ * made and what is linked with it:
  *
  *     cc ask.c -I include crates/hir_c/out/libhir_c.a KIT/c/liblibc_c.a
  *
@@ -10,50 +11,129 @@
 #ifndef HIR_EXPR_STORE_H
 #define HIR_EXPR_STORE_H
 
+#include <stdbool.h>
 #include <stddef.h>
 #include <stdint.h>
+#include <string.h>
 
 #ifdef __cplusplus
 extern "C" {
 #endif
 
-/* How a text was answered: what hir_expr_store_answer returns. */
+/* The version of this header: a library of the same number is called as it says. hir_expr_store_version has that of the library. */
+#define HIR_EXPR_STORE_VERSION 1u
+
+/* How a call ended: what each call returns but hir_expr_store_version. */
 enum {
-    /* Each line was read, and no question was refused. */
+    /* Done: each line was taken, and no question was refused. */
     HIR_EXPR_STORE_ANSWERED = 0,
-    /* Each line was read. The question in the line that the report names is the first that was refused: its fault stands behind "! ". */
+    /* Each line was taken. The question in the line that the report names is the first that was refused: its fault stands behind "! ". */
     HIR_EXPR_STORE_REFUSED = 1,
-    /* The line that the report names is none of the grammar, or isn't UTF-8. The answers are those of the lines before it. */
+    /* The line that the report names is none of the grammar, or isn't UTF-8. The lines before it were taken; it has done nothing. */
     HIR_EXPR_STORE_BAD_LINE = 2,
-    /* Out of memory. The answers are a front of those of the lines before. */
-    HIR_EXPR_STORE_OUT_OF_MEMORY = 3
+    /* Memory was refused. */
+    HIR_EXPR_STORE_OUT_OF_MEMORY = 3,
+    /* The handle is closed: nothing was done. */
+    HIR_EXPR_STORE_IS_CLOSED = 4,
+    /* The handle is open already: nothing was done. */
+    HIR_EXPR_STORE_IS_OPEN = 5
 };
+
+/* Why a bad line is none of the grammar. */
+enum {
+    /* There is no bad line. */
+    HIR_EXPR_STORE_REASON_NONE = 0,
+    /* The bytes from the column on aren't UTF-8. */
+    HIR_EXPR_STORE_REASON_NOT_UTF8 = 1,
+    /* No line begins with this word. */
+    HIR_EXPR_STORE_REASON_UNKNOWN_WORD = 2,
+    /* The line ends where a word, or more of its last word, is wanted. */
+    HIR_EXPR_STORE_REASON_ENDS_EARLY = 3,
+    /* What is written at the column isn't what such a line has there, or such a line has nothing more. */
+    HIR_EXPR_STORE_REASON_UNEXPECTED = 4
+};
+
+/* A session of the library, or none. It starts as HIR_EXPR_STORE_CLOSED, and is neither copied nor written by the caller: only its address
+ * is passed. Each call leaves a handle that the next call may take. */
+typedef struct {
+    bool is_open;
+    void *at;
+} hir_expr_store_handle;
+
+#define HIR_EXPR_STORE_CLOSED {false, NULL}
 
 /* What is reported beside the status. */
 typedef struct {
-    /* How many bytes the answers have. */
+    /* How many bytes the answers have: all that this ask gave, or that were still kept before this fetch; of open, all that are kept. */
     size_t length;
-    /* How many of them were written: the lesser of length and the buffer's length. */
+    /* How many of them this call wrote into the buffer: the lesser of length and the buffer's length. */
     size_t written;
-    /* The number of the bad line, or of the line whose question is the first that was refused, counted from 1; 0 where there is none. */
+    /* The bad line, or the line of the first question that was refused, counted from 1 in the text of this call; else 0. */
     size_t line;
+    /* Of a bad line, where reading stopped, in bytes counted from 1: the word that isn't what is wanted, or the first byte of it that isn't;
+     * one more than the line has where it ends early. Else 0. */
+    size_t column;
+    /* Of a bad line why, as one of HIR_EXPR_STORE_REASON_..; else 0. */
+    uint32_t reason;
 } hir_expr_store_report;
 
-/* Answers the questions in the text_length bytes at text, and writes the answers to buffer, as many bytes as it has room for. Each answer
- * is lines with their ends: the first behind "= ", or "! " where it is a refusal, each further one behind "| ". No zero byte is added.
- * Where report->length exceeds buffer_length, the same call with a buffer of report->length bytes gets all of them.
- *
- * Proved: no byte past the buffer is written, and there are answers of which the buffer has a front, and report the length. Tested: which
- * answers these are, the status and the line. The scopes of a body are made at the first question on scopes or captures
- * (chain, frames, resolve, captures), and kept for the others of the text.
- *
- * The caller owes: text, buffer and report aren't NULL, also where a length is 0; they lie in memory that is the caller's for the time of
- * the call, of which buffer and report are written by nobody else, and don't overlap each other or text; a length is below 2^63.
- * Nothing is kept between two calls and nothing is global, so any thread may call at any time, but no signal handler. All memory is given
- * back.
- */
-uint32_t hir_expr_store_answer(const uint8_t *text, size_t text_length, uint8_t *buffer, size_t buffer_length,
-                               hir_expr_store_report *report);
+/* What the library exports. No pointer may be NULL, also where a length is 0: the functions below see to that. */
+uint32_t hir_c_open(hir_expr_store_handle *handle, const uint8_t *text, size_t text_length, hir_expr_store_report *report);
+uint32_t hir_c_ask(hir_expr_store_handle *handle, const uint8_t *text, size_t text_length, uint8_t *buffer, size_t buffer_length,
+                   hir_expr_store_report *report);
+uint32_t hir_c_fetch(hir_expr_store_handle *handle, uint8_t *buffer, size_t buffer_length, hir_expr_store_report *report);
+uint32_t hir_c_close(hir_expr_store_handle *handle);
+uint32_t hir_c_version(void);
+uint32_t hir_c_answer(const uint8_t *text, size_t text_length, uint8_t *buffer, size_t buffer_length, hir_expr_store_report *report);
+
+/* The caller owes, of each call below: a text, buffer, handle or report lies in memory that is the caller's for the time of the call, of
+ * which buffer, handle and report are written by nobody else, and don't overlap each other or the text; text and buffer may be NULL where
+ * their length is 0, handle and report never; a length is below 2^63. A handle is passed to one call at a time, and may move between
+ * threads; any number of handles may be open, and different handles may be used at the same time. No call from a signal handler, nor in
+ * the forked child of a process with threads. */
+
+/* Opens a session that has taken the lines of a text, and keeps its answers for hir_expr_store_fetch.
+ * ANSWERED or REFUSED: the handle is open. BAD_LINE or OUT_OF_MEMORY: it is closed, nothing is kept. IS_OPEN: it stays as it was. */
+static inline uint32_t hir_expr_store_open(hir_expr_store_handle *handle, const char *text, size_t text_length,
+                                           hir_expr_store_report *report) {
+    return hir_c_open(handle, (const uint8_t *)(text_length == 0 ? "" : text), text_length, report);
+}
+
+/* Takes the lines of a text in the session of a handle, writes as much of their answers as the buffer has room for, and keeps the rest for
+ * hir_expr_store_fetch; what is kept from before is dropped. Each answer is lines with their ends: the first behind "= ", or "! " where it
+ * is a refusal, each further one behind "| ". No zero byte is added.
+ * ANSWERED, REFUSED: as above. BAD_LINE: the lines before it were taken, and the answers are theirs. OUT_OF_MEMORY: the answers are those of
+ * lines before the one to which memory was refused; of the nodes that wait for a store these may be lost, so close the handle, or go on with
+ * `begin`. IS_CLOSED: nothing was done. Of all but IS_CLOSED the handle is open. */
+static inline uint32_t hir_expr_store_ask(hir_expr_store_handle *handle, const char *text, size_t text_length, char *buffer,
+                                          size_t buffer_length, hir_expr_store_report *report) {
+    char none[1];
+    return hir_c_ask(handle, (const uint8_t *)(text_length == 0 ? "" : text), text_length,
+                     (uint8_t *)(buffer_length == 0 ? none : buffer), buffer_length, report);
+}
+
+/* Writes the next part of the answers that are kept, as much as the buffer has room for: ANSWERED, or IS_CLOSED. Where nothing is kept,
+ * nothing is written. */
+static inline uint32_t hir_expr_store_fetch(hir_expr_store_handle *handle, char *buffer, size_t buffer_length,
+                                            hir_expr_store_report *report) {
+    char none[1];
+    return hir_c_fetch(handle, (uint8_t *)(buffer_length == 0 ? none : buffer), buffer_length, report);
+}
+
+/* Closes a handle, and gives all its memory back: ANSWERED, or IS_CLOSED where it was closed. */
+static inline uint32_t hir_expr_store_close(hir_expr_store_handle *handle) { return hir_c_close(handle); }
+
+/* The version of the library. */
+static inline uint32_t hir_expr_store_version(void) { return hir_c_version(); }
+
+/* Opens, asks and closes. Where report->length exceeds buffer_length, the rest of the answers is lost: the same call with a buffer of
+ * report->length bytes gets all of them, and a handle gets them without doing all again. */
+static inline uint32_t hir_expr_store_answer(const char *text, size_t text_length, char *buffer, size_t buffer_length,
+                                             hir_expr_store_report *report) {
+    char none[1];
+    return hir_c_answer((const uint8_t *)(text_length == 0 ? "" : text), text_length, (uint8_t *)(buffer_length == 0 ? none : buffer),
+                        buffer_length, report);
+}
 
 #ifdef __cplusplus
 }

@@ -1,37 +1,137 @@
-//! The answers to a text of lines, for C and for Rust: `include/hir_expr_store.h` declares what this library
-//! exports, and says what a caller owes. Nothing is kept between two calls.
+//! The expression store for C and for any language that calls C: `include/hir_expr_store.h` declares what this
+//! library exports, and says what a caller owes.
 #![tactic(auto)]
 
-ghost use Rattle.hir_c.specs.Report.{IsFrontOfAnswers};
-
-mod fill;
-mod reading;
+mod handle;
+mod parts;
 mod report;
+mod slot;
 
-use hir_text::Answers;
-use reading::{answer_bytes, first_refusal};
+pub use handle::Handle;
+use hir_text::{BufferedSession, Outcome};
 pub use report::Report;
 use report::Status;
+pub use slot::Slot;
 use std::alloc::Global;
 
-/// Writes the answers to the questions of a text of lines into a buffer, as far as it goes; returns the
-/// status as a number, and reports the rest.
+/// The version of this interface.
+const VERSION: u32 = 1;
+
+/// Returns the version of this interface.
 #[unsafe(no_mangle)]
-pub extern "C" fn hir_expr_store_answer(
+pub extern "C" fn hir_c_version() -> u32 {
+    VERSION
+}
+
+/// Opens a session that has taken the lines of a text.
+#[unsafe(no_mangle)]
+pub extern "C" fn hir_c_open(
+    alloc: Global,
+    handle: &mut Handle,
+    text: &[u8],
+    report: &mut Report,
+) -> u32 {
+    *report = Report::none();
+    if handle.is_open() {
+        return Status::IsOpen.code();
+    }
+    let Ok(mut session) = BufferedSession::new(alloc) else {
+        return Status::OutOfMemory.code();
+    };
+    let outcome = session.take_text(text);
+    *report = Report::none().with_line(outcome, session.stop());
+    match outcome {
+        Outcome::Answered | Outcome::Refused(_) => {}
+        Outcome::BadLine(_) | Outcome::Memory => return Status::of(outcome).code(),
+    }
+    report.length = session.kept();
+    let Ok(session) = Box::new(alloc, session) else {
+        *report = Report::none();
+        return Status::OutOfMemory.code();
+    };
+    *handle = Handle::of(session);
+    Status::of(outcome).code()
+}
+
+/// Takes the lines of a text, and writes the first part of their answers.
+fn ask(session: &mut BufferedSession, text: &[u8], buffer: &mut [u8]) -> (Report, Status) {
+    let outcome = session.take_text(text);
+    let length = session.kept();
+    let written = session.fetch(buffer);
+    let report = Report::of_answers(length, written).with_line(outcome, session.stop());
+    (report, Status::of(outcome))
+}
+
+/// Takes the lines of a text by the session of a handle, and writes the first part of their answers, as many
+/// bytes as the buffer has room for.
+#[unsafe(no_mangle)]
+pub extern "C" fn hir_c_ask(
+    alloc: Global,
+    handle: &mut Handle,
+    text: &[u8],
+    buffer: &mut [u8],
+    report: &mut Report,
+) -> u32 {
+    match handle.take(alloc) {
+        Some(mut session) => {
+            let (told, status) = ask(&mut session, text, buffer);
+            *report = told;
+            *handle = Handle::of(session);
+            status.code()
+        }
+        None => {
+            *report = Report::none();
+            Status::IsClosed.code()
+        }
+    }
+}
+
+/// Writes the next part of the answers that are kept, as many bytes as the buffer has room for.
+#[unsafe(no_mangle)]
+pub extern "C" fn hir_c_fetch(
+    alloc: Global,
+    handle: &mut Handle,
+    buffer: &mut [u8],
+    report: &mut Report,
+) -> u32 {
+    match handle.take(alloc) {
+        Some(mut session) => {
+            let length = session.kept();
+            let written = session.fetch(buffer);
+            *report = Report::of_answers(length, written);
+            *handle = Handle::of(session);
+            Status::Answered.code()
+        }
+        None => {
+            *report = Report::none();
+            Status::IsClosed.code()
+        }
+    }
+}
+
+/// Closes a session, and gives its memory back.
+#[unsafe(no_mangle)]
+pub extern "C" fn hir_c_close(alloc: Global, handle: &mut Handle) -> u32 {
+    match handle.take(alloc) {
+        Some(_) => Status::Answered.code(),
+        None => Status::IsClosed.code(),
+    }
+}
+
+/// Writes the answers to the questions of a text, as many bytes as the buffer has room for: opens, asks and
+/// closes.
+#[unsafe(no_mangle)]
+pub extern "C" fn hir_c_answer(
     alloc: Global,
     text: &[u8],
     buffer: &mut [u8],
     report: &mut Report,
-) -> u32
-    ensures { IsFrontOfAnswers report.new buffer.old buffer.new }
-{
-    let mut answers = Answers::new(alloc);
-    let outcome = answer_bytes(alloc, text, &mut answers);
-    let mut lines = String::new(alloc);
-    let status = match answers.write_lines(&mut lines) {
-        Ok(()) => Status::of(outcome, first_refusal(&answers)),
-        Err(_) => Status::OutOfMemory,
+) -> u32 {
+    let Ok(mut session) = BufferedSession::new(alloc) else {
+        *report = Report::none();
+        return Status::OutOfMemory.code();
     };
-    *report = fill::fill(lines.as_bytes(), buffer, status.line());
+    let (told, status) = ask(&mut session, text, buffer);
+    *report = told;
     status.code()
 }

@@ -44,7 +44,7 @@ fn compare<'a>(
     left: &'a [Entry],
     report: &mut Report,
 ) -> Result<&'a [Entry], AllocError> {
-    let mut came = String::new(alloc);
+    let mut came = Vec::new(alloc);
     let left = match left {
         [first, rest @ ..] if first.number() == asked.index.saturating_add(1) => {
             first.write_lines(&mut came)?;
@@ -52,8 +52,9 @@ fn compare<'a>(
         }
         _ => left,
     };
-    if came.as_str() != asked.wanted.as_str() {
+    if came.as_slice() != asked.wanted.as_bytes() {
         let place = row.place(asked.index, asked.line);
+        let came = String::from_utf8_lossy(alloc, came.as_slice())?;
         report.differs(place, asked.wanted.as_str(), came.as_str())?;
     }
     Ok(left)

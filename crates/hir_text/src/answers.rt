@@ -18,6 +18,21 @@ impl From<AllocError> for TextFault {
     }
 }
 
+/// Writes an answer as lines, each with its end.
+pub(crate) fn write_lines(answer: &Answer, out: &mut Vec<u8>) -> Result<(), AllocError> {
+    let mut mark = if answer.is_refusal() { b'!' } else { b'=' };
+    for line in answer.as_str().split('\n') {
+        out.extend_from_slice(&[mark])?;
+        if !line.is_empty() {
+            out.extend_from_slice(b" ")?;
+            out.extend_from_slice(line.as_bytes())?;
+        }
+        out.extend_from_slice(b"\n")?;
+        mark = b'|';
+    }
+    Ok(())
+}
+
 /// The answer to a question, with the number of the question's line, counted from 1.
 #[derive(Drop)]
 pub struct Entry {
@@ -38,18 +53,8 @@ impl Entry {
 
     /// Writes the answer as lines, each with its end: the first after `= `, or `! ` where it is a refusal,
     /// each further one after `| `; of an empty line the mark alone.
-    pub fn write_lines(&self, out: &mut String) -> Result<(), AllocError> {
-        let mut mark = if self.answer.is_refusal() { '!' } else { '=' };
-        for line in self.answer.as_str().split('\n') {
-            out.push(mark)?;
-            if !line.is_empty() {
-                out.push(' ')?;
-                out.push_str(line)?;
-            }
-            out.push('\n')?;
-            mark = '|';
-        }
-        Ok(())
+    pub fn write_lines(&self, out: &mut Vec<u8>) -> Result<(), AllocError> {
+        write_lines(&self.answer, out)
     }
 }
 
@@ -73,7 +78,7 @@ impl Answers {
     }
 
     /// Writes all answers as lines.
-    pub fn write_lines(&self, out: &mut String) -> Result<(), AllocError> {
+    pub fn write_lines(&self, out: &mut Vec<u8>) -> Result<(), AllocError> {
         for entry in self.entries.as_slice() {
             entry.write_lines(out)?;
         }

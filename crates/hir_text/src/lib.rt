@@ -2,18 +2,24 @@
 #![tactic(auto)]
 
 mod answers;
+mod buffered;
 mod caches;
+mod lines;
 mod nodes;
 mod questions;
 mod scope_cache;
 mod scopes;
 mod session;
+mod stop;
 mod text;
 mod texts;
 mod usages;
 
 pub use answers::{Answers, Entry, TextFault};
+pub use buffered::BufferedSession;
 pub use hir_text_nodes::{Answer, TextError};
+pub use lines::Outcome;
 pub use questions::Asked;
 pub use session::{Lines, Session, is_skipped};
+pub use stop::{Reason, Stop};
 pub use text::{answer, answer_by};

@@ -5,6 +5,7 @@ use crate::nodes::Nodes;
 use crate::questions::{Asked, ask_empty, ask_store, ask_tables};
 use crate::scope_cache::ScopeCache;
 use crate::scopes::{self, Question};
+use crate::stop::Stop;
 use hir_base::ExpressionStoreOwnerId;
 use hir_defs::{StoreOf, Tables};
 use hir_store::ExpressionStore;
@@ -28,6 +29,8 @@ pub struct Session {
     pending: Pending,
     tables: Box<Tables>,
     caches: StoreCaches<ScopeCache>,
+    /// Where the reading of the last bad line stopped.
+    stop: Option<Stop>,
 }
 
 /// Drops the parts. This `impl` exists so that the drop is proved once, and is a call where a value is
@@ -40,6 +43,7 @@ impl Drop for Session {
             pending,
             tables,
             caches,
+            stop: _,
         } = self;
     }
 }
@@ -97,12 +101,18 @@ impl Session {
             pending: Pending::new(alloc),
             tables: Box::new(alloc, Tables::new(alloc))?,
             caches: StoreCaches::new(alloc),
+            stop: None,
         })
     }
 
     /// Returns the tables.
     pub fn tables(&self) -> &Tables {
         &self.tables
+    }
+
+    /// Returns where the reading of the last bad line stopped, and why; `None` where there was none.
+    pub fn stop(&self) -> Option<Stop> {
+        self.stop
     }
 
     /// Finishes the nodes, where lines have made some since the last time, and returns whether there is a
@@ -226,14 +236,24 @@ impl Session {
         }
     }
 
-    /// Writes the answer to a question on a store; returns whether the line is one.
+    /// Writes the answer to a question on a store; returns whether the line is one. Where nodes are to be
+    /// finished first, the line is read before, so that one that is no question leaves them as they are.
     fn ask_store(
         &mut self,
         word: &[u8],
         words: &mut Words<'_>,
         answer: &mut Answer,
     ) -> Result<bool, TextError> {
-        if !self.finish(answer)? {
+        if self.nodes.has_lines() {
+            let behind = *words;
+            if !ask_empty(self.alloc, &self.tables, word, words)? {
+                return Ok(false);
+            }
+            if !self.finish(answer)? {
+                return Ok(true);
+            }
+            *words = behind;
+        } else if !self.finish(answer)? {
             return ask_empty(self.alloc, &self.tables, word, words);
         }
         match Asked::new(&self.tables, &self.nodes.subject) {
@@ -262,20 +282,52 @@ impl Session {
     }
 }
 
+/// What a line is that was taken.
+enum Taken {
+    /// One without an answer.
+    Silent,
+    /// One with this answer.
+    Answered(Answer),
+    /// None: no line begins with its first word.
+    Unknown,
+}
+
+impl Session {
+    /// Does what a line says, of which this is the first word.
+    fn take_words(&mut self, word: &[u8], words: &mut Words<'_>) -> Result<Taken, TextError> {
+        if self.make(word, words)? {
+            return Ok(Taken::Silent);
+        }
+        let mut answer = Answer::new(self.alloc);
+        if self.change(word, words, &mut answer)? || self.ask(word, words, &mut answer)? {
+            return Ok(Taken::Answered(answer));
+        }
+        Ok(Taken::Unknown)
+    }
+
+    /// Keeps where the reading of a bad line stopped.
+    fn stop_at(&mut self, stop: Stop) -> TextError {
+        self.stop = Some(stop);
+        TextError::Syntax
+    }
+}
+
 impl Lines for Session {
     fn take_line(&mut self, line: &[u8]) -> Result<Option<Answer>, TextError> {
+        if let Err(error) = std::str::from_utf8(line) {
+            return Err(self.stop_at(Stop::not_utf8(error.valid_up_to())));
+        }
         if is_skipped(line) {
             return Ok(None);
         }
         let mut words = Words::new(line);
         let word = words.keyword();
-        if self.make(word, &mut words)? {
-            return Ok(None);
+        match self.take_words(word, &mut words) {
+            Ok(Taken::Silent) => Ok(None),
+            Ok(Taken::Answered(answer)) => Ok(Some(answer)),
+            Ok(Taken::Unknown) => Err(self.stop_at(Stop::unknown_word())),
+            Err(TextError::Syntax) => Err(self.stop_at(Stop::of(line, &words))),
+            Err(TextError::Memory) => Err(TextError::Memory),
         }
-        let mut answer = Answer::new(self.alloc);
-        if self.change(word, &mut words, &mut answer)? || self.ask(word, &mut words, &mut answer)? {
-            return Ok(Some(answer));
-        }
-        Err(TextError::Syntax)
     }
 }

@@ -69,6 +69,13 @@ const KINDS: [(&str, Kind); 9] = [
     ("field", Kind::Field),
 ];
 
+/// What was read, where the line ends behind it.
+fn last<T: Drop>(item: Result<T, TextError>, words: &mut Words<'_>) -> Result<T, TextError> {
+    let item = item?;
+    words.end()?;
+    Ok(item)
+}
+
 /// Puts what was read after the others.
 fn push<T: Drop>(list: &mut Seq<T>, item: Result<T, TextError>) -> Result<(), TextError> {
     Ok(list.push(item?)?)
@@ -94,24 +101,35 @@ impl Pending {
         }
     }
 
-    /// Adds what a line of this kind says.
+    /// Adds what a line of this kind says. The line is read to its end first, so that a bad one adds nothing.
     fn add(&mut self, alloc: Global, kind: Kind, words: &mut Words<'_>) -> Result<(), TextError> {
         match kind {
-            Kind::Param => push(&mut self.params, read_param(words)),
+            Kind::Param => push(&mut self.params, last(read_param(words), words)),
             Kind::SelfParam => {
-                self.self_param = Some(read_param(words)?);
+                self.self_param = Some(last(read_param(words), words)?);
                 Ok(())
             }
             Kind::SelfSource => {
-                self.self_source = Some(pointer(next_source(words)?));
+                self.self_source = Some(pointer(last(next_source(words), words)?));
                 Ok(())
             }
-            Kind::TypeParam => put(&mut self.type_or_consts, read_type_param(words, alloc)),
-            Kind::ConstParam => put(&mut self.type_or_consts, read_const_param(words, alloc)),
-            Kind::LifetimeParam => put(&mut self.lifetimes, read_lifetime_param(words, alloc)),
-            Kind::Where => push(&mut self.predicates, read_where(words, alloc)),
-            Kind::WhereLifetime => push(&mut self.predicates, read_where_lifetime(words)),
-            Kind::Field => push(&mut self.fields, read_field(words, alloc)),
+            Kind::TypeParam => {
+                let item = last(read_type_param(words, alloc), words);
+                put(&mut self.type_or_consts, item)
+            }
+            Kind::ConstParam => {
+                let item = last(read_const_param(words, alloc), words);
+                put(&mut self.type_or_consts, item)
+            }
+            Kind::LifetimeParam => {
+                let item = last(read_lifetime_param(words, alloc), words);
+                put(&mut self.lifetimes, item)
+            }
+            Kind::Where => push(&mut self.predicates, last(read_where(words, alloc), words)),
+            Kind::WhereLifetime => {
+                push(&mut self.predicates, last(read_where_lifetime(words), words))
+            }
+            Kind::Field => push(&mut self.fields, last(read_field(words, alloc), words)),
         }
     }
 
@@ -126,7 +144,6 @@ impl Pending {
             return Ok(false);
         };
         self.add(alloc, kind, words)?;
-        words.end()?;
         Ok(true)
     }
 

@@ -124,6 +124,6 @@ pub(crate) fn add_diagnostic(
     words: &mut Words<'_>,
 ) -> Result<(), TextError> {
     let diagnostic = read_diagnostic(words, alloc)?;
-    done_or_stop(builder.push_diagnostic(diagnostic))?;
-    words.end()
+    words.end()?;
+    done_or_stop(builder.push_diagnostic(diagnostic))
 }

@@ -31,7 +31,10 @@ impl<'a> Words<'a> {
             [first, behind @ ..] if begins_name(*first) => {
                 self.take(Part::Name.len_in(behind).saturating_add(1))
             }
-            _ => &[],
+            _ => {
+                self.stop_here();
+                &[]
+            }
         }
     }
 

@@ -8,17 +8,33 @@ use crate::text_error::TextError;
 #[derive(Clone, Copy)]
 pub struct Words<'a> {
     rest: &'a [u8],
+    /// What is left from where the word begins that is being read, or from where reading can't go on.
+    stop: &'a [u8],
 }
 
 impl<'a> Words<'a> {
     /// The words of a line.
     pub fn new(line: &'a [u8]) -> Words<'a> {
-        Words { rest: line }
+        Words {
+            rest: line,
+            stop: line,
+        }
     }
 
     /// What is left.
     pub fn rest(&self) -> &'a [u8] {
         self.rest
+    }
+
+    /// What is left from where reading stopped, after a call that can't read on: from the beginning of the
+    /// word that isn't what is wanted, or from the first byte of it that isn't.
+    pub fn stop(&self) -> &'a [u8] {
+        self.stop
+    }
+
+    /// Reading can't go on here.
+    pub(crate) fn stop_here(&mut self) {
+        self.stop = self.rest;
     }
 
     /// Takes as many bytes as this, or all.
@@ -30,7 +46,11 @@ impl<'a> Words<'a> {
 
     /// Takes what is of this at the front.
     pub(crate) fn part(&mut self, part: Part) -> &'a [u8] {
-        self.take(part.len_in(self.rest))
+        let taken = self.take(part.len_in(self.rest));
+        if taken.is_empty() {
+            self.stop_here();
+        }
+        taken
     }
 
     /// Whether the line goes on with these bytes.
@@ -47,9 +67,13 @@ impl<'a> Words<'a> {
         is_there
     }
 
-    /// These bytes.
+    /// These bytes. A word begins after a space.
     pub fn expect(&mut self, text: &[u8]) -> Result<(), TextError> {
-        if self.eat(text) {
+        let is_there = self.eat(text);
+        if !is_there || text == b" ".as_slice() {
+            self.stop_here();
+        }
+        if is_there {
             Ok(())
         } else {
             Err(TextError::Syntax)
@@ -67,12 +91,12 @@ impl<'a> Words<'a> {
     }
 
     /// The end of the line.
-    pub fn end(&self) -> Result<(), TextError> {
+    pub fn end(&mut self) -> Result<(), TextError> {
         if self.is_end() {
-            Ok(())
-        } else {
-            Err(TextError::Syntax)
+            return Ok(());
         }
+        self.stop_here();
+        Err(TextError::Syntax)
     }
 
     /// The letters, digits, `-` and `_` that come next.
@@ -137,7 +161,7 @@ impl<'a> Words<'a> {
     /// Whether the next word begins with this, which is then taken.
     pub fn prefix(&mut self, start: &[u8]) -> bool {
         let mut ahead = *self;
-        let is_there = ahead.eat(b" ") && ahead.eat(start);
+        let is_there = ahead.expect(b" ").is_ok() && ahead.eat(start);
         if is_there {
             *self = ahead;
         }
