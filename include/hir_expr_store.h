@@ -135,6 +135,76 @@ static inline uint32_t hir_expr_store_answer(const char *text, size_t text_lengt
                         buffer_length, report);
 }
 
+/* Writes a name in quotes, as a line has it, to a buffer, as much as it has room for; returns how many bytes it takes. The name is UTF-8. */
+static inline size_t hir_expr_store_quote(const char *name, size_t name_length, char *buffer, size_t buffer_length) {
+    static const char digits[] = "0123456789abcdef", letters[] = "n\nr\rt\t\\\\\"\"";
+    size_t size = 0;
+    for (size_t i = 0; i < name_length + 2; i++) {
+        unsigned char c = i == 0 || i == name_length + 1 ? '"' : (unsigned char)name[i - 1];
+        char form[7] = {(char)c};
+        size_t form_length = 1;
+        if (i != 0 && i != name_length + 1) {
+            for (size_t k = 0; k < sizeof letters - 1; k += 2)
+                if ((char)c == letters[k + 1]) {
+                    form[0] = '\\', form[1] = letters[k];
+                    form_length = 2;
+                }
+            if (c == 0)
+                form[0] = '\\', form[1] = '0', form_length = 2;
+            else if (form_length == 1 && (c < 32 || c == 127)) {
+                form[0] = '\\', form[1] = 'u', form[2] = '{', form[3] = digits[c / 16], form[4] = digits[c % 16], form[5] = '}';
+                form_length = 6;
+            }
+        }
+        for (size_t k = 0; k < form_length; k++, size++)
+            if (size < buffer_length)
+                buffer[size] = form[k];
+    }
+    return size;
+}
+
+/* One answer of those that were written to a buffer. */
+typedef struct {
+    bool is_refusal;
+    /* Its lines, each with its mark and its end. */
+    const char *lines;
+    size_t length;
+} hir_expr_store_entry;
+
+/* Takes the next answer of those from *from up to end, and says whether there was one: *from is then behind it. Where a buffer has only a
+ * part of an answer, so has the entry. */
+static inline bool hir_expr_store_next(const char **from, const char *end, hir_expr_store_entry *entry) {
+    const char *at = *from;
+    if (at == end)
+        return false;
+    entry->is_refusal = *at == '!';
+    entry->lines = at;
+    do {
+        const char *line_end = (const char *)memchr(at, '\n', (size_t)(end - at));
+        at = line_end == NULL ? end : line_end + 1;
+    } while (at != end && *at == '|');
+    entry->length = (size_t)(at - entry->lines);
+    *from = at;
+    return true;
+}
+
+/* Writes the text of an answer, its lines without their marks, each but the last with its end, to a buffer, as much as it has room for;
+ * returns how many bytes it takes. */
+static inline size_t hir_expr_store_text(const hir_expr_store_entry *entry, char *buffer, size_t buffer_length) {
+    size_t size = 0;
+    for (size_t i = 0; i < entry->length; i++) {
+        bool is_first = i == 0 || entry->lines[i - 1] == '\n';
+        bool is_space = i > 0 && entry->lines[i] == ' ' && (i == 1 || entry->lines[i - 2] == '\n');
+        bool is_end = i == entry->length - 1 && entry->lines[i] == '\n';
+        if (is_first || is_space || is_end)
+            continue;
+        if (size < buffer_length)
+            buffer[size] = entry->lines[i];
+        size++;
+    }
+    return size;
+}
+
 #ifdef __cplusplus
 }
 #endif

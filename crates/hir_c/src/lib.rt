@@ -2,25 +2,67 @@
 //! library exports, and says what a caller owes.
 #![tactic(auto)]
 
+ghost use Rattle.std.specs.Prelude.{◌≡◌, None, is_some, true, false, cond, option_map};
+ghost use Rattle.hir_c.specs.Calls.{Tells, Opens, AsksKept, FetchesKept, Answers};
+
 mod handle;
+mod outcomes;
 mod parts;
 mod report;
 mod slot;
 
 pub use handle::Handle;
 use hir_text::{BufferedSession, Outcome};
+use outcomes::{blank, report_of, status_number};
 pub use report::Report;
-use report::Status;
 pub use slot::Slot;
 use std::alloc::Global;
 
 /// The version of this interface.
 const VERSION: u32 = 1;
 
+/// Done, and nothing was refused.
+const ANSWERED: u32 = 0;
+
+/// Memory was refused.
+const OUT_OF_MEMORY: u32 = 3;
+
+/// The handle keeps no session.
+const IS_CLOSED: u32 = 4;
+
+/// The handle keeps a session already.
+const IS_OPEN: u32 = 5;
+
 /// Returns the version of this interface.
 #[unsafe(no_mangle)]
-pub extern "C" fn hir_c_version() -> u32 {
+pub extern "C" fn hir_c_version() -> u32
+    ensures { result ≡ 1 }
+{
     VERSION
+}
+
+/// A session that has taken the lines of a text, in a box; the report says how many bytes of answers it keeps.
+/// None where a line is bad or memory is refused.
+fn open(alloc: Global, text: &[u8]) -> (Option<Box<BufferedSession>>, Report, u32)
+    ensures { Opens text.now (option_map (λ b. b.value) result.0) result.1 result.2 }
+{
+    let Ok(mut session) = BufferedSession::new(alloc) else {
+        return (None, blank(), OUT_OF_MEMORY);
+    };
+    let outcome = session.take_text(text);
+    let status = status_number(outcome);
+    match outcome {
+        Outcome::BadLine(_) | Outcome::Memory => {
+            (None, report_of(0, 0, outcome, session.stop()), status)
+        }
+        Outcome::Answered | Outcome::Refused(_) => {
+            let report = report_of(session.kept(), 0, outcome, None);
+            match Box::new(alloc, session) {
+                Ok(session) => (Some(session), report, status),
+                Err(_) => (None, blank(), OUT_OF_MEMORY),
+            }
+        }
+    }
 }
 
 /// Opens a session that has taken the lines of a text.
@@ -30,36 +72,29 @@ pub extern "C" fn hir_c_open(
     handle: &mut Handle,
     text: &[u8],
     report: &mut Report,
-) -> u32 {
-    *report = Report::none();
+) -> u32
+    ensures open { is_some handle.old.slot.kept ≡ true → (result ≡ 5) × (handle.new.slot.kept ≡ handle.old.slot.kept) }
+    ensures opens { is_some handle.old.slot.kept ≡ false → Opens text.now handle.new.slot.kept report.new result }
+{
     if handle.is_open() {
-        return Status::IsOpen.code();
+        *report = blank();
+        return IS_OPEN;
     }
-    let Ok(mut session) = BufferedSession::new(alloc) else {
-        return Status::OutOfMemory.code();
-    };
-    let outcome = session.take_text(text);
-    *report = Report::none().with_line(outcome, session.stop());
-    match outcome {
-        Outcome::Answered | Outcome::Refused(_) => {}
-        Outcome::BadLine(_) | Outcome::Memory => return Status::of(outcome).code(),
+    let (session, told, status) = open(alloc, text);
+    *report = told;
+    if let Some(session) = session {
+        *handle = Handle::of(session);
     }
-    report.length = session.kept();
-    let Ok(session) = Box::new(alloc, session) else {
-        *report = Report::none();
-        return Status::OutOfMemory.code();
-    };
-    *handle = Handle::of(session);
-    Status::of(outcome).code()
+    status
 }
 
 /// Takes the lines of a text, and writes the first part of their answers.
-fn ask(session: &mut BufferedSession, text: &[u8], buffer: &mut [u8]) -> (Report, Status) {
-    let outcome = session.take_text(text);
-    let length = session.kept();
-    let written = session.fetch(buffer);
-    let report = Report::of_answers(length, written).with_line(outcome, session.stop());
-    (report, Status::of(outcome))
+fn ask(session: &mut BufferedSession, text: &[u8], buffer: &mut [u8]) -> (Report, u32)
+    ensures { Tells session.old text.now buffer.old session.new buffer.new result.0 result.1 }
+{
+    let asked = session.ask(text, buffer);
+    let report = report_of(asked.length, asked.written, asked.outcome, session.stop());
+    (report, status_number(asked.outcome))
 }
 
 /// Takes the lines of a text by the session of a handle, and writes the first part of their answers, as many
@@ -71,17 +106,19 @@ pub extern "C" fn hir_c_ask(
     text: &[u8],
     buffer: &mut [u8],
     report: &mut Report,
-) -> u32 {
+) -> u32
+    ensures { AsksKept handle.old.slot.kept text.now buffer.old handle.new.slot.kept buffer.new report.new result }
+{
     match handle.take(alloc) {
         Some(mut session) => {
             let (told, status) = ask(&mut session, text, buffer);
             *report = told;
             *handle = Handle::of(session);
-            status.code()
+            status
         }
         None => {
-            *report = Report::none();
-            Status::IsClosed.code()
+            *report = blank();
+            IS_CLOSED
         }
     }
 }
@@ -93,28 +130,33 @@ pub extern "C" fn hir_c_fetch(
     handle: &mut Handle,
     buffer: &mut [u8],
     report: &mut Report,
-) -> u32 {
+) -> u32
+    ensures { FetchesKept handle.old.slot.kept buffer.old handle.new.slot.kept buffer.new report.new result }
+{
     match handle.take(alloc) {
         Some(mut session) => {
             let length = session.kept();
             let written = session.fetch(buffer);
-            *report = Report::of_answers(length, written);
+            *report = report_of(length, written, Outcome::Answered, None);
             *handle = Handle::of(session);
-            Status::Answered.code()
+            ANSWERED
         }
         None => {
-            *report = Report::none();
-            Status::IsClosed.code()
+            *report = blank();
+            IS_CLOSED
         }
     }
 }
 
 /// Closes a session, and gives its memory back.
 #[unsafe(no_mangle)]
-pub extern "C" fn hir_c_close(alloc: Global, handle: &mut Handle) -> u32 {
+pub extern "C" fn hir_c_close(alloc: Global, handle: &mut Handle) -> u32
+    ensures closed { handle.new.slot.kept ≡ None }
+    ensures status { result ≡ cond (is_some handle.old.slot.kept) 0 4 }
+{
     match handle.take(alloc) {
-        Some(_) => Status::Answered.code(),
-        None => Status::IsClosed.code(),
+        Some(_) => ANSWERED,
+        None => IS_CLOSED,
     }
 }
 
@@ -126,12 +168,14 @@ pub extern "C" fn hir_c_answer(
     text: &[u8],
     buffer: &mut [u8],
     report: &mut Report,
-) -> u32 {
+) -> u32
+    ensures { Answers text.now buffer.old buffer.new report.new result }
+{
     let Ok(mut session) = BufferedSession::new(alloc) else {
-        *report = Report::none();
-        return Status::OutOfMemory.code();
+        *report = blank();
+        return OUT_OF_MEMORY;
     };
     let (told, status) = ask(&mut session, text, buffer);
     *report = told;
-    status.code()
+    status
 }

@@ -145,6 +145,8 @@ impl GoldenSession {
 }
 
 impl Lines for GoldenSession {
+    ghost takes = { λ _ _ _ _. Unit {0} };
+
     fn take_line(&mut self, line: &[u8]) -> Result<Option<Answer>, TextError> {
         let mut words = Words::new(line);
         if !words.eat(b"again ") {

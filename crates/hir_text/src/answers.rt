@@ -1,5 +1,9 @@
 //! The answers to the questions of a text, and why a text isn't read to its end.
 
+ghost use Rattle.std.specs.Prelude.{◌≡◌, ◌++◌, cond, IfOk};
+ghost use Rattle.hir_text.specs.AnswerLines.{space_of, with_line, answer_lines};
+
+use crate::lines::cut_line;
 use hir_text_nodes::Answer;
 use std::alloc::{AllocError, AllocFailed, Global};
 
@@ -18,17 +22,44 @@ impl From<AllocError> for TextFault {
     }
 }
 
+/// What comes between the mark of a line and the line: a space, where there is something.
+fn space_before(line: &[u8]) -> &'static [u8]
+    ensures { result.now ≡ space_of line.now }
+{
+    match line {
+        [] => b"",
+        [_, ..] => b" ",
+    }
+}
+
+/// Writes a line of an answer with its mark and its end.
+fn write_line(mark: u8, line: &[u8], out: &mut Vec<u8>) -> Result<(), AllocError>
+    ensures { IfOk result (λ _. out.new.items ≡ with_line out.old.items mark line.now) }
+{
+    out.extend_from_slice(&[mark])?;
+    out.extend_from_slice(space_before(line))?;
+    out.extend_from_slice(line)?;
+    out.extend_from_slice(b"\n")
+}
+
+/// The mark of the first line of an answer.
+fn mark_of(is_refusal: bool) -> u8
+    ensures { result ≡ cond is_refusal 33 61 }
+{
+    if is_refusal { b'!' } else { b'=' }
+}
+
 /// Writes an answer as lines, each with its end.
-pub(crate) fn write_lines(answer: &Answer, out: &mut Vec<u8>) -> Result<(), AllocError> {
-    let mut mark = if answer.is_refusal() { b'!' } else { b'=' };
-    for line in answer.as_str().split('\n') {
-        out.extend_from_slice(&[mark])?;
-        if !line.is_empty() {
-            out.extend_from_slice(b" ")?;
-            out.extend_from_slice(line.as_bytes())?;
-        }
-        out.extend_from_slice(b"\n")?;
+pub(crate) fn write_lines(answer: &Answer, out: &mut Vec<u8>) -> Result<(), AllocError>
+    ensures { IfOk result (λ _. out.new.items ≡ out.old.items ++ answer_lines answer.now) }
+{
+    let mut mark = mark_of(answer.is_refusal());
+    let mut left = Some(answer.as_str().as_bytes());
+    'lines: while let Some(text) = left {
+        let (line, behind) = cut_line(text);
+        write_line(mark, line, out)?;
         mark = b'|';
+        left = behind;
     }
     Ok(())
 }

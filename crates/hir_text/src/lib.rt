@@ -11,6 +11,7 @@ mod scope_cache;
 mod scopes;
 mod session;
 mod stop;
+mod taking;
 mod text;
 mod texts;
 mod usages;

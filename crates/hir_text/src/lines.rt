@@ -1,8 +1,8 @@
-//! The loop over the lines of a text, whose answers are written one after the other.
+//! The lines of a text, and how a text of them was taken.
 
-use crate::answers::write_lines;
-use crate::session::Lines;
-use hir_text_nodes::TextError;
+ghost use Rattle.std.specs.Prelude.{◌≡◌, ◌∷◌, option_map};
+ghost use Rattle.hir_text.specs.AnswerLines.{text_lines, lines_left};
+
 use memchr::memchr;
 
 /// How a text of lines was taken.
@@ -20,61 +20,30 @@ pub enum Outcome {
 }
 
 /// The first line of a text, and what comes behind its end, where it has one.
-fn cut_line(text: &[u8]) -> (&[u8], Option<&[u8]>) {
+pub(crate) fn cut_line(text: &[u8]) -> (&[u8], Option<&[u8]>)
+    ensures { text_lines text.now ≡ result.0.now ∷ lines_left (option_map (λ behind. behind.now) result.1) }
+{
     match memchr(b'\n', text) {
         Some(end) => (&text[..end], Some(&text[end + 1..])),
         None => (text, None),
     }
 }
 
-/// Does what a line says, and writes its answer behind the others, where it has one; returns whether it is a
-/// refusal. Where memory is refused, nothing of the answer is written.
-fn take_line<L: Lines>(
-    lines: &mut L,
-    line: &[u8],
-    answers: &mut Vec<u8>,
-) -> Result<bool, TextError> {
-    let Some(answer) = lines.take_line(line)? else {
-        return Ok(false);
-    };
-    let count = answers.len();
-    match write_lines(&answer, answers) {
-        Ok(()) => Ok(answer.is_refusal()),
-        Err(_) => {
-            answers.truncate(count);
-            Err(TextError::Memory)
-        }
-    }
-}
-
-/// Does what the lines of a text say, one after the other, and writes their answers behind the others.
-pub(crate) fn take_lines<L: Lines>(
-    lines: &mut L,
-    text: &[u8],
-    answers: &mut Vec<u8>,
-) -> Outcome {
-    let mut left = Some(text);
-    let mut number: usize = 0;
-    let mut outcome = Outcome::Answered;
-    while let Some(rest) = left {
-        let (line, behind) = cut_line(rest);
-        number = number.saturating_add(1);
-        match take_line(lines, line, answers) {
-            Ok(false) => {}
-            Ok(true) => outcome = outcome.or_refused(number),
-            Err(TextError::Syntax) => return Outcome::BadLine(number),
-            Err(TextError::Memory) => return Outcome::Memory,
-        }
-        left = behind;
-    }
-    outcome
-}
-
 impl Outcome {
-    /// How a text was taken in which the question in the line of this number was refused too.
-    fn or_refused(self, number: usize) -> Outcome {
+    ghost use Rattle.hir_text.specs.Taking.{after_answer};
+
+    /// How a text was taken so far, where the question in the line of this number was refused or not.
+    pub(crate) fn after_answer(self, number: usize, is_refusal: bool) -> Outcome
+        ensures { result ≡ after_answer self number is_refusal }
+    {
         match self {
-            Outcome::Answered => Outcome::Refused(number),
+            Outcome::Answered => {
+                if is_refusal {
+                    Outcome::Refused(number)
+                } else {
+                    Outcome::Answered
+                }
+            }
             Outcome::Refused(_) | Outcome::BadLine(_) | Outcome::Memory => self,
         }
     }

@@ -13,6 +13,8 @@ pub(crate) struct Nodes {
     builder: Box<ExpressionStoreBuilder>,
     /// Whether the builder is to be finished before a question is asked.
     has_lines: bool,
+    /// Why the nodes were refused when they were finished last, where lines have made nothing since.
+    fault: Option<FinishFault>,
     pub(crate) subject: Subject,
 }
 
@@ -38,6 +40,7 @@ impl Nodes {
         Ok(Nodes {
             builder: empty(alloc)?,
             has_lines: true,
+            fault: None,
             subject: Subject::None,
         })
     }
@@ -50,7 +53,10 @@ impl Nodes {
         words: &mut Words<'_>,
     ) -> Result<bool, TextError> {
         let is_taken = hir_text_store::make(alloc, &mut self.builder, word, words)?;
-        self.has_lines = self.has_lines || is_taken;
+        if is_taken {
+            self.has_lines = true;
+            self.fault = None;
+        }
         Ok(is_taken)
     }
 
@@ -65,12 +71,17 @@ impl Nodes {
         self.has_lines = false;
     }
 
-    /// Finishes the nodes so far. Where that is refused they stay, and the answer says why.
+    /// Finishes the nodes so far. Where that is refused they stay, and the answer says why; they are tested
+    /// once, however often they are asked.
     fn finish(
         &mut self,
         alloc: Global,
         answer: &mut Answer,
     ) -> Result<Option<Finished>, TextError> {
+        if let Some(fault) = self.fault {
+            refuse(alloc, &fault, answer)?;
+            return Ok(None);
+        }
         match finish(alloc, mem::replace(&mut self.builder, empty(alloc)?))? {
             Ok(finished) => {
                 self.has_lines = false;
@@ -79,6 +90,7 @@ impl Nodes {
             Err((FinishFault::Memory, _)) => Err(TextError::Memory),
             Err((fault, builder)) => {
                 self.builder = builder;
+                self.fault = Some(fault);
                 refuse(alloc, &fault, answer)?;
                 Ok(None)
             }

@@ -1,5 +1,7 @@
 //! A session: what lines have made so far, and the questions on it.
 
+ghost use Rattle.std.specs.Prelude.{ℕ, List, IfOk};
+
 use crate::caches::StoreCaches;
 use crate::nodes::Nodes;
 use crate::questions::{Asked, ask_empty, ask_store, ask_tables};
@@ -18,8 +20,14 @@ use std::alloc::{AllocError, Global};
 
 /// What takes the lines of a text one after the other.
 pub trait Lines {
+    ghost use Rattle.hir_text.specs.Line.{Taken};
+
+    // Whether a line that is taken in the first state may make the second of it, with this answer.
+    ghost takes: { Self → List ℕ → Self → Taken → Type 0 };
+
     /// Does what a line says. Returns the answer, where the line has one.
-    fn take_line(&mut self, line: &[u8]) -> Result<Option<Answer>, TextError>;
+    fn take_line(&mut self, line: &[u8]) -> Result<Option<Answer>, TextError>
+        ensures { takes self.old line.now self.new result };
 }
 
 /// What lines have made so far: nodes, a finished store, parameters that wait for a definition, and tables.
@@ -92,9 +100,24 @@ enum Change {
 
 const CHANGES: [(&str, Change); 2] = [("finish", Change::Finish), ("of", Change::Of)];
 
+/// What a line is that was taken.
+#[derive(Drop)]
+enum Done {
+    /// One without an answer.
+    Silent,
+    /// One with this answer.
+    Answered(Answer),
+    /// None: no line begins with its first word.
+    Unknown,
+}
+
 impl Session {
+    ghost use Rattle.hir_text.specs.Sealed.{IsNew};
+
     /// A session in which no line has been taken.
-    pub fn new(alloc: Global) -> Result<Session, AllocError> {
+    pub fn new(alloc: Global) -> Result<Session, AllocError>
+        ensures { IfOk result (λ made. IsNew made) }
+    {
         Ok(Session {
             alloc,
             nodes: Nodes::new(alloc)?,
@@ -280,29 +303,17 @@ impl Session {
             None => self.ask_store(word, words, answer),
         }
     }
-}
 
-/// What a line is that was taken.
-enum Taken {
-    /// One without an answer.
-    Silent,
-    /// One with this answer.
-    Answered(Answer),
-    /// None: no line begins with its first word.
-    Unknown,
-}
-
-impl Session {
     /// Does what a line says, of which this is the first word.
-    fn take_words(&mut self, word: &[u8], words: &mut Words<'_>) -> Result<Taken, TextError> {
+    fn take_words(&mut self, word: &[u8], words: &mut Words<'_>) -> Result<Done, TextError> {
         if self.make(word, words)? {
-            return Ok(Taken::Silent);
+            return Ok(Done::Silent);
         }
         let mut answer = Answer::new(self.alloc);
         if self.change(word, words, &mut answer)? || self.ask(word, words, &mut answer)? {
-            return Ok(Taken::Answered(answer));
+            return Ok(Done::Answered(answer));
         }
-        Ok(Taken::Unknown)
+        Ok(Done::Unknown)
     }
 
     /// Keeps where the reading of a bad line stopped.
@@ -310,10 +321,9 @@ impl Session {
         self.stop = Some(stop);
         TextError::Syntax
     }
-}
 
-impl Lines for Session {
-    fn take_line(&mut self, line: &[u8]) -> Result<Option<Answer>, TextError> {
+    /// Does what a line says. Returns the answer, where the line has one.
+    fn read_line(&mut self, line: &[u8]) -> Result<Option<Answer>, TextError> {
         if let Err(error) = std::str::from_utf8(line) {
             return Err(self.stop_at(Stop::not_utf8(error.valid_up_to())));
         }
@@ -323,11 +333,21 @@ impl Lines for Session {
         let mut words = Words::new(line);
         let word = words.keyword();
         match self.take_words(word, &mut words) {
-            Ok(Taken::Silent) => Ok(None),
-            Ok(Taken::Answered(answer)) => Ok(Some(answer)),
-            Ok(Taken::Unknown) => Err(self.stop_at(Stop::unknown_word())),
+            Ok(Done::Silent) => Ok(None),
+            Ok(Done::Answered(answer)) => Ok(Some(answer)),
+            Ok(Done::Unknown) => Err(self.stop_at(Stop::unknown_word())),
             Err(TextError::Syntax) => Err(self.stop_at(Stop::of(line, &words))),
             Err(TextError::Memory) => Err(TextError::Memory),
         }
+    }
+}
+
+impl Lines for Session {
+    ghost use Rattle.hir_text.specs.Sealed.{SessionTakes};
+
+    ghost takes = { SessionTakes };
+
+    fn take_line(&mut self, line: &[u8]) -> Result<Option<Answer>, TextError> {
+        self.read_line(line)
     }
 }

@@ -22,7 +22,7 @@ fn read_limit(words: &mut Words<'_>, alloc: Global) -> Result<RawVisibility, Tex
             words.expect(b":")?;
             Ok(RawVisibility::Module(read_mod_path(words, alloc)?))
         }
-        _ => Err(TextError::Syntax),
+        _ => Err(words.reject()),
     }
 }
 
@@ -60,7 +60,7 @@ pub(crate) fn next_shape(words: &mut Words<'_>) -> Result<FieldsShape, TextError
         b"record" => Ok(FieldsShape::Record),
         b"tuple" => Ok(FieldsShape::Tuple),
         b"unit" => Ok(FieldsShape::Unit),
-        _ => Err(TextError::Syntax),
+        _ => Err(words.reject()),
     }
 }
 

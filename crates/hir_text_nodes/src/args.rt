@@ -56,7 +56,7 @@ fn read_arg(words: &mut Words<'_>) -> Result<GenericArg, TextError> {
         Some(_) => Ok(GenericArg::Const(ConstRef {
             expr: lettered_id(words)?,
         })),
-        None => Err(TextError::Syntax),
+        None => Err(words.reject()),
     }
 }
 
@@ -99,7 +99,7 @@ fn read_list(words: &mut Words<'_>, alloc: Global) -> Result<Seq<GenericArg>, Te
 /// The name of an associated type.
 fn read_name(words: &mut Words<'_>, alloc: Global) -> Result<Name, TextError> {
     if next_letter(words).is_some() {
-        return Err(TextError::Syntax);
+        return Err(words.reject());
     }
     words.name(alloc)
 }
@@ -132,7 +132,7 @@ fn opt_args(
         return Ok(None);
     }
     if depth == 0 {
-        return Err(TextError::Syntax);
+        return Err(words.reject());
     }
     Ok(Some(read_within(words, alloc, depth - 1)?))
 }
@@ -169,7 +169,7 @@ fn read_bindings(
             return Ok(bindings);
         }
     }
-    Err(TextError::Syntax)
+    Err(words.reject())
 }
 
 /// The bindings of associated types, where this says that there are any.

@@ -73,7 +73,8 @@ impl Word for DefKind {
 
 /// A definition.
 pub fn read_def(words: &mut Words<'_>) -> Result<Def, TextError> {
-    let kind = of_word(&KINDS, words.keyword());
+    let word = words.keyword();
+    let kind = of_word(&KINDS, word, words);
     let number = words.part_number(b"(");
     let (kind, number, ()) = three(kind, number, words.expect(b")"))?;
     Ok(Def { kind, number })

@@ -91,10 +91,13 @@ pub fn read_diagnostic(
                 node: pointer(source),
             })
         }
-        Kind::MissingBody => Ok(ExpressionStoreDiagnostics::MissingBody {
-            node: source,
-            kind: of_word(&ITEM_KINDS, words.next_keyword()?)?,
-        }),
+        Kind::MissingBody => {
+            let word = words.next_keyword()?;
+            Ok(ExpressionStoreDiagnostics::MissingBody {
+                node: source,
+                kind: of_word(&ITEM_KINDS, word, words)?,
+            })
+        }
     }
 }
 

@@ -70,7 +70,7 @@ fn next_char(words: &mut Words<'_>, alloc: Global) -> Result<char, TextError> {
     let mut chars = text.as_str().chars();
     match (chars.next(), chars.next()) {
         (Some(c), None) => Ok(c),
-        (_, _) => Err(TextError::Syntax),
+        (_, _) => Err(words.reject()),
     }
 }
 
@@ -79,7 +79,8 @@ fn opt_suffix<T: Word>(all: &[T], words: &mut Words<'_>) -> Result<Option<T>, Te
     if words.is_end() {
         return Ok(None);
     }
-    Ok(Some(of_word(all, words.next_keyword()?)?))
+    let word = words.next_keyword()?;
+    Ok(Some(of_word(all, word, words)?))
 }
 
 fn int_literal(words: &mut Words<'_>) -> Result<Literal, TextError> {
@@ -107,7 +108,7 @@ fn float_text(words: &mut Words<'_>, alloc: Global) -> Result<Text, TextError> {
     words.expect(b" ")?;
     let digits = words.decimal();
     if digits.is_empty() {
-        return Err(TextError::Syntax);
+        return Err(words.reject());
     }
     Ok(Text::from_str(alloc, std::str::from_utf8(digits)?)?)
 }

@@ -75,10 +75,12 @@ pub(crate) fn next_binary(words: &mut Words<'_>) -> Result<Option<BinaryOp>, Tex
     if words.flag(b"missing") {
         return Ok(None);
     }
-    Ok(Some(of_word(&BETWEEN, words.next_word()?)?))
+    let word = words.next_word()?;
+    Ok(Some(of_word(&BETWEEN, word, words)?))
 }
 
 /// The operator before an expression.
 pub(crate) fn next_unary(words: &mut Words<'_>) -> Result<UnaryOp, TextError> {
-    of_word(&BEFORE, words.next_word()?)
+    let word = words.next_word()?;
+    of_word(&BEFORE, word, words)
 }

@@ -70,7 +70,7 @@ fn read_kind(words: &mut Words<'_>) -> Result<(PathKind, bool), TextError> {
 fn read_segment(words: &mut Words<'_>, alloc: Global) -> Result<Name, TextError> {
     let mut ahead = *words;
     if is_kind(ahead.bare_name()) {
-        return Err(TextError::Syntax);
+        return Err(words.reject());
     }
     words.name(alloc)
 }
@@ -84,7 +84,7 @@ fn read_names(words: &mut Words<'_>, alloc: Global) -> Result<Seq<Name>, TextErr
             return Ok(names);
         }
     }
-    Err(TextError::Syntax)
+    Err(words.reject())
 }
 
 /// The names of segments, where this says that there are any.
@@ -156,7 +156,7 @@ fn opt_segments(
             return Ok(segments);
         }
     }
-    Err(TextError::Syntax)
+    Err(words.reject())
 }
 
 /// The type in `<>` that a path begins at, where there is one.
@@ -197,7 +197,7 @@ fn read_places(
     }
     let count = usize::from(words.byte()?);
     if count < places.len() && has_args(&places.as_slice()[count..]) {
-        return Err(TextError::Syntax);
+        return Err(words.reject());
     }
     resize(places, count)
 }

@@ -46,7 +46,7 @@ pub(crate) fn one_or_more<T: Read>(
             return Ok(items);
         }
     }
-    Err(TextError::Syntax)
+    Err(words.reject())
 }
 
 /// The same, or `-` for none.

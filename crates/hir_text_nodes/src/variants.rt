@@ -1,7 +1,7 @@
 //! Values that are written as one word each.
 
 use hir_base::{ArithOp, BinaryOp, BuiltinFloat, BuiltinInt, BuiltinUint, UnaryOp};
-use hir_text_words::TextError;
+use hir_text_words::{TextError, Words};
 
 /// A value that is written as one word.
 pub(crate) trait Word: Copy {
@@ -9,14 +9,18 @@ pub(crate) trait Word: Copy {
     fn text(self) -> &'static str;
 }
 
-/// The value among these that has this word.
-pub(crate) fn of_word<T: Word>(all: &[T], word: &[u8]) -> Result<T, TextError> {
+/// The value among these that has this word, which was read last.
+pub(crate) fn of_word<T: Word>(
+    all: &[T],
+    word: &[u8],
+    words: &mut Words<'_>,
+) -> Result<T, TextError> {
     for value in all {
         if value.text().as_bytes() == word {
             return Ok(*value);
         }
     }
-    Err(TextError::Syntax)
+    Err(words.reject())
 }
 
 impl Word for BinaryOp {

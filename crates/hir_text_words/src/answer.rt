@@ -1,5 +1,7 @@
 //! The answer to a question, while it is written: words that are parted by a space, in lines.
 
+ghost use Rattle.std.specs.Prelude.{◌≡◌, string_bytes};
+
 use crate::{names, quotes};
 use hir_base::Idx;
 use itoa::Buffer;
@@ -25,12 +27,16 @@ impl Answer {
     }
 
     /// What was written.
-    pub fn as_str(&self) -> &str {
+    pub fn as_str(&self) -> &str
+        ensures { result.now ≡ string_bytes self.now.text }
+    {
         self.text.as_str()
     }
 
     /// Whether the answer is a refusal.
-    pub fn is_refusal(&self) -> bool {
+    pub fn is_refusal(&self) -> bool
+        ensures { result ≡ self.now.is_refusal }
+    {
         self.is_refusal
     }
 

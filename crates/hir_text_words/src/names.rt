@@ -32,7 +32,7 @@ impl<'a> Words<'a> {
                 self.take(Part::Name.len_in(behind).saturating_add(1))
             }
             _ => {
-                self.stop_here();
+                self.begin_word();
                 &[]
             }
         }
@@ -45,7 +45,7 @@ impl<'a> Words<'a> {
         }
         let bare = self.bare_name();
         if bare.is_empty() {
-            return Err(TextError::Syntax);
+            return Err(self.reject());
         }
         Ok(String::from_str(alloc, std::str::from_utf8(bare)?)?)
     }

@@ -6,6 +6,7 @@ use crate::text_error::TextError;
 use crate::words::Words;
 use hir_base::{Id, Idx, ShortList};
 use std::alloc::Global;
+use std::num::TryFromIntError;
 
 /// The number of these digits; none where one is no digit of the base, or the number takes more than 128
 /// bits.
@@ -32,19 +33,31 @@ impl<'a> Words<'a> {
     pub fn big(&mut self) -> Result<u128, TextError> {
         let digits = self.part(Part::Digits);
         if matches!(digits, [] | [b'0', _, ..]) {
-            return Err(TextError::Syntax);
+            return Err(self.reject());
         }
-        number_of(digits, 10).ok_or(TextError::Syntax)
+        match number_of(digits, 10) {
+            Some(number) => Ok(number),
+            None => Err(self.reject()),
+        }
     }
 
     /// A number of 128 bits with a sign: a `-` where it is negative.
     pub fn int(&mut self) -> Result<i128, TextError> {
         if !self.eat(b"-") {
-            return Ok(i128::try_from(self.big()?)?);
+            let number = self.big()?;
+            return self.fits(i128::try_from(number));
         }
         match 0i128.checked_sub_unsigned(self.big()?) {
             Some(number) if number < 0 => Ok(number),
-            Some(_) | None => Err(TextError::Syntax),
+            Some(_) | None => Err(self.reject()),
+        }
+    }
+
+    /// A number that was read, where it isn't too large for its place.
+    fn fits<T: Drop>(&mut self, number: Result<T, TryFromIntError>) -> Result<T, TextError> {
+        match number {
+            Ok(number) => Ok(number),
+            Err(_) => Err(self.reject()),
         }
     }
 
@@ -55,22 +68,26 @@ impl<'a> Words<'a> {
 
     /// A number of 64 bits.
     pub fn long(&mut self) -> Result<u64, TextError> {
-        Ok(u64::try_from(self.big()?)?)
+        let number = self.big()?;
+        self.fits(u64::try_from(number))
     }
 
     /// A number.
     pub fn number(&mut self) -> Result<u32, TextError> {
-        Ok(u32::try_from(self.big()?)?)
+        let number = self.big()?;
+        self.fits(u32::try_from(number))
     }
 
     /// A number below 65,536.
     pub fn short(&mut self) -> Result<u16, TextError> {
-        Ok(u16::try_from(self.big()?)?)
+        let number = self.big()?;
+        self.fits(u16::try_from(number))
     }
 
     /// A number below 256.
     pub fn byte(&mut self) -> Result<u8, TextError> {
-        Ok(u8::try_from(self.big()?)?)
+        let number = self.big()?;
+        self.fits(u8::try_from(number))
     }
 
     /// The number after a space.
@@ -156,6 +173,6 @@ impl<'a> Words<'a> {
                 return Ok(ids);
             }
         }
-        Err(TextError::Syntax)
+        Err(self.reject())
     }
 }

@@ -39,9 +39,20 @@ fn letter_of(c: char) -> Option<char> {
 fn read_byte(words: &mut Words<'_>) -> Result<u8, TextError> {
     let digits = words.take(2);
     if digits.len() < 2 {
-        return Err(TextError::Syntax);
+        return Err(words.reject());
     }
-    Ok(u8::try_from(number_of(digits, 16).ok_or(TextError::Syntax)?)?)
+    match number_of(digits, 16) {
+        Some(number) => Ok(u8::try_from(number)?),
+        None => Err(words.reject()),
+    }
+}
+
+/// The character of this number, in hexadecimal; none where there is no such character.
+fn char_of(digits: &[u8]) -> Option<char> {
+    match u32::try_from(number_of(digits, 16)?) {
+        Ok(number) => char::from_u32(number),
+        Err(_) => None,
+    }
 }
 
 /// A character's number in braces, in hexadecimal.
@@ -50,10 +61,12 @@ fn read_char(words: &mut Words<'_>) -> Result<char, TextError> {
     let digits = words.keyword();
     words.expect(b"}")?;
     if digits.is_empty() {
-        return Err(TextError::Syntax);
+        return Err(words.reject());
     }
-    let number = number_of(digits, 16).ok_or(TextError::Syntax)?;
-    char::from_u32(u32::try_from(number)?).ok_or(TextError::Syntax)
+    match char_of(digits) {
+        Some(c) => Ok(c),
+        None => Err(words.reject()),
+    }
 }
 
 /// What is left after a backslash: the bytes that it stands for are put after the others.
@@ -63,8 +76,11 @@ fn read_escape(words: &mut Words<'_>, bytes: &mut Vec<u8>) -> Result<(), TextErr
         return Ok(bytes.extend_from_slice(c.encode_utf8(&mut [0u8; 4]).as_bytes())?);
     }
     match words.take(1) {
-        [letter] => Ok(bytes.push(escape_of(*letter).ok_or(TextError::Syntax)?)?),
-        _ => Err(TextError::Syntax),
+        [letter] => match escape_of(*letter) {
+            Some(byte) => Ok(bytes.push(byte)?),
+            None => Err(words.reject()),
+        },
+        _ => Err(words.reject_next()),
     }
 }
 
@@ -100,7 +116,7 @@ fn read_quoted(
             return Ok(bytes);
         }
     }
-    Err(TextError::Syntax)
+    Err(words.reject_next())
 }
 
 /// Bytes in quotes.
@@ -112,7 +128,7 @@ pub(crate) fn read_bytes(words: &mut Words<'_>, alloc: Global) -> Result<Vec<u8>
 pub(crate) fn read_string(words: &mut Words<'_>, alloc: Global) -> Result<String, TextError> {
     match String::from_utf8(read_quoted(words, alloc, false)?) {
         Ok(text) => Ok(text),
-        Err(_) => Err(TextError::Syntax),
+        Err(_) => Err(words.reject()),
     }
 }
 

@@ -8,8 +8,9 @@ use crate::text_error::TextError;
 #[derive(Clone, Copy)]
 pub struct Words<'a> {
     rest: &'a [u8],
-    /// What is left from where the word begins that is being read, or from where reading can't go on.
+    /// What is left from where the word begins that is being read; once reading stopped, from there.
     stop: &'a [u8],
+    is_stopped: bool,
 }
 
 impl<'a> Words<'a> {
@@ -18,6 +19,7 @@ impl<'a> Words<'a> {
         Words {
             rest: line,
             stop: line,
+            is_stopped: false,
         }
     }
 
@@ -26,15 +28,29 @@ impl<'a> Words<'a> {
         self.rest
     }
 
-    /// What is left from where reading stopped, after a call that can't read on: from the beginning of the
-    /// word that isn't what is wanted, or from the first byte of it that isn't.
+    /// What is left from where reading stopped first, after a call that couldn't read: from the beginning of
+    /// the word that isn't what is wanted, or from the first byte of it that isn't.
     pub fn stop(&self) -> &'a [u8] {
         self.stop
     }
 
-    /// Reading can't go on here.
-    pub(crate) fn stop_here(&mut self) {
-        self.stop = self.rest;
+    /// A word begins here, or a part of one.
+    pub(crate) fn begin_word(&mut self) {
+        if !self.is_stopped {
+            self.stop = self.rest;
+        }
+    }
+
+    /// Says that the word that was read last isn't what is wanted: the line is a bad one.
+    pub fn reject(&mut self) -> TextError {
+        self.is_stopped = true;
+        TextError::Syntax
+    }
+
+    /// Says that what comes next isn't what is wanted.
+    pub(crate) fn reject_next(&mut self) -> TextError {
+        self.begin_word();
+        self.reject()
     }
 
     /// Takes as many bytes as this, or all.
@@ -48,7 +64,7 @@ impl<'a> Words<'a> {
     pub(crate) fn part(&mut self, part: Part) -> &'a [u8] {
         let taken = self.take(part.len_in(self.rest));
         if taken.is_empty() {
-            self.stop_here();
+            self.begin_word();
         }
         taken
     }
@@ -69,15 +85,13 @@ impl<'a> Words<'a> {
 
     /// These bytes. A word begins after a space.
     pub fn expect(&mut self, text: &[u8]) -> Result<(), TextError> {
-        let is_there = self.eat(text);
-        if !is_there || text == b" ".as_slice() {
-            self.stop_here();
+        if !self.eat(text) {
+            return Err(self.reject_next());
         }
-        if is_there {
-            Ok(())
-        } else {
-            Err(TextError::Syntax)
+        if text == b" ".as_slice() {
+            self.begin_word();
         }
+        Ok(())
     }
 
     /// Whether nothing is left.
@@ -93,10 +107,10 @@ impl<'a> Words<'a> {
     /// The end of the line.
     pub fn end(&mut self) -> Result<(), TextError> {
         if self.is_end() {
-            return Ok(());
+            Ok(())
+        } else {
+            Err(self.reject_next())
         }
-        self.stop_here();
-        Err(TextError::Syntax)
     }
 
     /// The letters, digits, `-` and `_` that come next.
@@ -119,7 +133,10 @@ impl<'a> Words<'a> {
     /// What the next keyword stands for in a table.
     pub fn keyword_in<T: Copy>(&mut self, table: &[(&str, T)]) -> Result<T, TextError> {
         let word = self.keyword();
-        value_of(table, word).ok_or(TextError::Syntax)
+        match value_of(table, word) {
+            Some(value) => Ok(value),
+            None => Err(self.reject()),
+        }
     }
 
     /// The same after a space.
@@ -135,7 +152,7 @@ impl<'a> Words<'a> {
                 return Ok(*value);
             }
         }
-        Err(TextError::Syntax)
+        Err(self.reject())
     }
 
     /// What the next word stands for, where it is one of these, which is then taken.

@@ -1,0 +1,21 @@
+-- A full slot and the parts own what a box at the same types owns.
+use mir.Syntax.{impl, tnil, dnil}
+use mathlib.Core.List.{[]}
+use denote.Signature.{Slot, plain}
+use Rattle.std_alloc.proofs.BoxSteps.Form.{Bx}
+use Rattle.std_heap.specs.contracts.Global as Heap
+use Rattle.std_heap.specs.contracts.GlobalAllocator.TheImpl.{ghosts, dict}
+use Rattle.std_heap.proofs.Global.TheLaws as heap
+use Rattle.hir_text.specs.contracts.buffered.BufferedSession as Held
+use Rattle.hir_text.proofs.buffered.BufferedSession.TheLaws as held
+use Rattle.hir_c.specs.contracts.parts.Parts as Parts
+use Rattle.hir_c.specs.contracts.slot.Slot as Kept
+
+abbrev pub E : Bx
+E = record { row = Held.the_row; laws = held.the_row_laws; al = record { row = Heap.the_row; laws = heap.the_row_laws; g = ghosts; d = dict; drops = impl [] tnil dnil } }
+
+abbrev pub FromParts : Slot 0
+FromParts = plain (λ _. Parts.the_row Held.the_row Heap.the_row ghosts)
+
+abbrev pub FromSlot : Slot 0
+FromSlot = plain (λ _. Kept.the_row)

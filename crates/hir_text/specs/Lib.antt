@@ -1,0 +1,5 @@
+pub mod AnswerLines
+pub mod Buffered
+pub mod Line
+pub mod Sealed
+pub mod Taking

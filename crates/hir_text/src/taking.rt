@@ -1,0 +1,71 @@
+//! The loop over the lines of a text, whose answers are written one after the other.
+
+ghost use Rattle.std.specs.Prelude.{◌≡◌, Ok, Some};
+ghost use Rattle.hir_text.specs.Taking.{Adds, DoesLine, TakesText};
+
+use crate::answers::write_lines;
+use crate::lines::{Outcome, cut_line};
+use crate::session::Lines;
+use hir_text_nodes::{Answer, TextError};
+
+/// Writes an answer as lines after the others; returns whether it is a refusal. Where memory is refused,
+/// nothing of it is written. What is in `scratch` is overwritten.
+fn add(
+    answer: &Answer,
+    scratch: &mut Vec<u8>,
+    answers: &mut Vec<u8>,
+) -> Result<bool, TextError>
+    ensures { Adds (Ok (Some answer.now)) answers.old.items answers.new.items result }
+{
+    scratch.clear();
+    let Ok(()) = write_lines(answer, scratch) else {
+        return Err(TextError::Memory);
+    };
+    let Ok(()) = answers.extend_from_slice(scratch.as_slice()) else {
+        return Err(TextError::Memory);
+    };
+    Ok(answer.is_refusal())
+}
+
+/// Does what a line says, and writes its answer after the others, where it has one; returns whether it is a
+/// refusal.
+fn take_line<L: Lines>(
+    lines: &mut L,
+    line: &[u8],
+    scratch: &mut Vec<u8>,
+    answers: &mut Vec<u8>,
+) -> Result<bool, TextError>
+    ensures { DoesLine L.takes lines.old line.now lines.new answers.old.items answers.new.items result }
+{
+    match lines.take_line(line) {
+        Ok(Some(answer)) => add(&answer, scratch, answers),
+        Ok(None) => Ok(false),
+        Err(why) => Err(why),
+    }
+}
+
+/// Does what the lines of a text say, one after the other, and leaves their answers.
+pub(crate) fn take_lines<L: Lines>(
+    lines: &mut L,
+    text: &[u8],
+    scratch: &mut Vec<u8>,
+    answers: &mut Vec<u8>,
+) -> Outcome
+    ensures { TakesText L.takes lines.old text.now lines.new answers.new.items result }
+{
+    answers.clear();
+    let mut left = Some(text);
+    let mut number: usize = 0;
+    let mut outcome = Outcome::Answered;
+    'lines: while let Some(rest) = left {
+        let (line, behind) = cut_line(rest);
+        number = number.saturating_add(1);
+        match take_line(lines, line, scratch, answers) {
+            Ok(is_refusal) => outcome = outcome.after_answer(number, is_refusal),
+            Err(TextError::Syntax) => return Outcome::BadLine(number),
+            Err(TextError::Memory) => return Outcome::Memory,
+        }
+        left = behind;
+    }
+    outcome
+}
