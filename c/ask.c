@@ -1,4 +1,4 @@
-/* Asks the store about the body of `fn f(x) { let x = &x; x }`: what its expressions see, and what the last `x` means. */
+/* Asks the store about the body of `fn f(x) { let x = &x; x }` in one call: what its expressions see, and what the last `x` means. */
 #include "hir_expr_store.h"
 
 #include <stdio.h>
@@ -21,9 +21,9 @@ static const char TEXT[] =
     "pretty FunctionId(0)\n";
 
 int main(void) {
-    uint8_t answers[1024];
+    char answers[1024];
     hir_expr_store_report report;
-    uint32_t status = hir_expr_store_answer((const uint8_t *)TEXT, sizeof TEXT - 1, answers, sizeof answers, &report);
+    uint32_t status = hir_expr_store_answer(TEXT, sizeof TEXT - 1, answers, sizeof answers, &report);
 
     fwrite(answers, 1, report.written, stdout);
     printf("status %u, %zu of %zu bytes", (unsigned)status, report.written, report.length);

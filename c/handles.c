@@ -70,7 +70,7 @@ int main(void) {
     fetch(&first, 256);
 
     /* What is refused, and what is bad. */
-    ask(&first, "chain 0\nchain 9\nresolve 2 z\nof FunctionId(7)", 256);
+    ask(&first, "chain 0\nchain 9\nresolve 2 z\nof body FunctionId(7)", 256);
     ask(&first, "chain 0\nchian 0\nchain 0", 256);
     ask(&first, "chain", 256);
     ask(&first, "chain 0 1", 256);
