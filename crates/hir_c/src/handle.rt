@@ -23,7 +23,7 @@ impl Handle {
     }
 
     /// No session.
-    pub fn closed(alloc: Global) -> Handle
+    pub(crate) fn closed(alloc: Global) -> Handle
         ensures { result.slot.kept ≡ None }
     {
         Handle {

@@ -19,9 +19,9 @@ pub struct BufferedSession {
     ghost in_range: { fetched ≤ length answers.items },
 }
 
-/// What comes of a text that was asked.
+/// What comes of a text that was asked: how it was taken, and the first part of its answers.
 #[derive(Clone, Copy, Drop)]
-pub struct Asked {
+pub struct FirstPart {
     /// How its lines were taken.
     pub outcome: Outcome,
     /// How many bytes the answers have.
@@ -99,13 +99,13 @@ impl BufferedSession {
 
     /// Takes a text, and writes the first part of its answers, as many bytes as the buffer has room for; the
     /// rest is kept.
-    pub fn ask(&mut self, text: &[u8], buffer: &mut [u8]) -> Asked
+    pub fn ask(&mut self, text: &[u8], buffer: &mut [u8]) -> FirstPart
         ensures { Asks self.old text.now buffer.old self.new buffer.new result.outcome result.length result.written }
     {
         let outcome = self.take_text(text);
         let length = self.kept();
         let written = self.fetch(buffer);
-        Asked {
+        FirstPart {
             outcome,
             length,
             written,

@@ -17,7 +17,7 @@ mod texts;
 mod usages;
 
 pub use answers::{Answers, Entry, TextFault};
-pub use buffered::BufferedSession;
+pub use buffered::{BufferedSession, FirstPart};
 pub use hir_text_nodes::{Answer, TextError};
 pub use lines::Outcome;
 pub use questions::Asked;
