@@ -70,9 +70,6 @@ fn take_line<W: Sink>(
     output: &mut OutputBuffer,
     writer: &mut W,
 ) -> Result<bool, Halt> {
-    if std::str::from_utf8(line).is_err() {
-        return Err(Halt::BadLine);
-    }
     let Some(answer) = session.take_line(line)? else {
         return Ok(false);
     };

@@ -2,8 +2,8 @@
 //! library exports, and says what a caller owes.
 #![tactic(auto)]
 
-ghost use Rattle.std.specs.Prelude.{◌≡◌, None, is_some, true, false, cond, option_map};
-ghost use Rattle.hir_c.specs.Calls.{Tells, Opens, AsksKept, FetchesKept, Answers};
+ghost use Rattle.std.specs.Prelude.{◌≡◌, None, is_some, true, false, cond};
+ghost use Rattle.hir_c.specs.Calls.{Tells, Opens, AsksKept, Fetches, FetchesKept, Answers};
 
 mod handle;
 mod outcomes;
@@ -13,7 +13,7 @@ mod slot;
 
 pub use handle::Handle;
 use hir_text::{BufferedSession, Outcome};
-use outcomes::{blank, report_of, status_number};
+use outcomes::{blank, is_taken, report_of, status_number};
 pub use report::Report;
 pub use slot::Slot;
 use std::alloc::Global;
@@ -41,27 +41,24 @@ pub extern "C" fn hir_c_version() -> u32
     VERSION
 }
 
-/// A session that has taken the lines of a text, in a box; the report says how many bytes of answers it keeps.
-/// None where a line is bad or memory is refused.
-fn open(alloc: Global, text: &[u8]) -> (Option<Box<BufferedSession>>, Report, u32)
-    ensures { Opens text.now (option_map (λ b. b.value) result.0) result.1 result.2 }
+/// A handle with a session that has taken the lines of a text; the report says how many bytes of answers it
+/// keeps. A closed one where a line is bad or memory is refused.
+fn open(alloc: Global, text: &[u8]) -> (Handle, Report, u32)
+    ensures { Opens text.now result.0.slot.kept result.1 result.2 }
 {
     let Ok(mut session) = BufferedSession::new(alloc) else {
-        return (None, blank(), OUT_OF_MEMORY);
+        return (Handle::closed(alloc), blank(), OUT_OF_MEMORY);
     };
     let outcome = session.take_text(text);
     let status = status_number(outcome);
-    match outcome {
-        Outcome::BadLine(_) | Outcome::Memory => {
-            (None, report_of(0, 0, outcome, session.stop()), status)
-        }
-        Outcome::Answered | Outcome::Refused(_) => {
-            let report = report_of(session.kept(), 0, outcome, None);
-            match Box::new(alloc, session) {
-                Ok(session) => (Some(session), report, status),
-                Err(_) => (None, blank(), OUT_OF_MEMORY),
-            }
-        }
+    if !is_taken(outcome) {
+        let report = report_of(0, 0, outcome, session.stop());
+        return (Handle::closed(alloc), report, status);
+    }
+    let report = report_of(session.kept(), 0, outcome, None);
+    match Box::new(alloc, session) {
+        Ok(session) => (Handle::of(session), report, status),
+        Err(_) => (Handle::closed(alloc), blank(), OUT_OF_MEMORY),
     }
 }
 
@@ -80,11 +77,9 @@ pub extern "C" fn hir_c_open(
         *report = blank();
         return IS_OPEN;
     }
-    let (session, told, status) = open(alloc, text);
+    let (opened, told, status) = open(alloc, text);
+    *handle = opened;
     *report = told;
-    if let Some(session) = session {
-        *handle = Handle::of(session);
-    }
     status
 }
 
@@ -124,6 +119,15 @@ pub extern "C" fn hir_c_ask(
 }
 
 /// Writes the next part of the answers that are kept, as many bytes as the buffer has room for.
+fn fetch(session: &mut BufferedSession, buffer: &mut [u8]) -> Report
+    ensures { Fetches session.old buffer.old session.new buffer.new result }
+{
+    let length = session.kept();
+    let written = session.fetch(buffer);
+    report_of(length, written, Outcome::Answered, None)
+}
+
+/// Writes the next part of the answers that a handle keeps, as many bytes as the buffer has room for.
 #[unsafe(no_mangle)]
 pub extern "C" fn hir_c_fetch(
     alloc: Global,
@@ -135,9 +139,7 @@ pub extern "C" fn hir_c_fetch(
 {
     match handle.take(alloc) {
         Some(mut session) => {
-            let length = session.kept();
-            let written = session.fetch(buffer);
-            *report = report_of(length, written, Outcome::Answered, None);
+            *report = fetch(&mut session, buffer);
             *handle = Handle::of(session);
             ANSWERED
         }

@@ -1,7 +1,7 @@
 //! The numbers that C sees of an outcome, and the report of one.
 
 ghost use Rattle.std.specs.Prelude.{◌≡◌, false};
-ghost use Rattle.hir_c.specs.Report.{status_of, line_of, has_bad_line, NamesLine, IsBlank};
+ghost use Rattle.hir_c.specs.Report.{status_of, line_of, has_bad_line, is_taken, NamesLine, IsBlank};
 
 use crate::report::{Report, code_of};
 use hir_text::{Outcome, Stop};
@@ -15,6 +15,16 @@ pub(crate) fn status_number(outcome: Outcome) -> u32
         Outcome::Refused(_) => 1,
         Outcome::BadLine(_) => 2,
         Outcome::Memory => 3,
+    }
+}
+
+/// Whether all lines of a text were taken.
+pub(crate) fn is_taken(outcome: Outcome) -> bool
+    ensures { result ≡ is_taken outcome }
+{
+    match outcome {
+        Outcome::Answered | Outcome::Refused(_) => true,
+        Outcome::BadLine(_) | Outcome::Memory => false,
     }
 }
 
