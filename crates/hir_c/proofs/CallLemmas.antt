@@ -22,11 +22,29 @@ fetches_some was now old session buffer_old buffer_new report had has told =
 module _ (text : List ℕ) (fresh session : BufferedSession) (how : Outcome) (new : IsNew fresh.session) (taken : TakesText SessionTakes fresh.session text session.session (kept session) how)
     (report : Report) (written : report.written ≡ 0) (names : NamesLine how report) (status : ℕ) (says : status ≡ status_of how) where
   pub opens_not : is_taken how ≡ false → (now : Option BufferedSession) → now ≡ None → report.length ≡ 0 → Opens text now report status
-  opens_not is now none empty = inr (fresh, session, how, new, taken,
-      subst (λ (b : Bool). now ≡ cond b (Some session) None) (sym is) none,
-      subst (λ (b : Bool). report.length ≡ cond b (length (kept session)) 0) (sym is) empty, written, names, says)
+  opens_not is now none empty = inr (
+    fresh,
+    session,
+    how,
+    new,
+    taken,
+    subst (λ (b : Bool). now ≡ cond b (Some session) None) (sym is) none,
+    subst (λ (b : Bool). report.length ≡ cond b (length (kept session)) 0) (sym is) empty,
+    written,
+    names,
+    says,
+  )
 
   pub opens_taken : is_taken how ≡ true → (now : Option BufferedSession) → now ≡ Some session → report.length ≡ length (kept session) → Opens text now report status
-  opens_taken is now some size = inr (fresh, session, how, new, taken,
-      subst (λ (b : Bool). now ≡ cond b (Some session) None) (sym is) some,
-      subst (λ (b : Bool). report.length ≡ cond b (length (kept session)) 0) (sym is) size, written, names, says)
+  opens_taken is now some size = inr (
+    fresh,
+    session,
+    how,
+    new,
+    taken,
+    subst (λ (b : Bool). now ≡ cond b (Some session) None) (sym is) some,
+    subst (λ (b : Bool). report.length ≡ cond b (length (kept session)) 0) (sym is) size,
+    written,
+    names,
+    says,
+  )

@@ -43,7 +43,8 @@ impl Handle {
 
     /// Takes the session, and leaves none.
     pub(crate) fn take(&mut self, alloc: Global) -> Option<Box<BufferedSession>>
-        ensures taken { MatchOption result (self.old.slot.kept ≡ None) (λ b. self.old.slot.kept ≡ Some b.value) }
+        ensures taken { MatchOption result (self.old.slot.kept ≡ None)
+            (λ b. self.old.slot.kept ≡ Some b.value) }
         ensures closed { self.new.slot.kept ≡ None }
     {
         mem::replace(self, Handle::closed(alloc)).into_box()

@@ -1,5 +1,5 @@
-//! The expression store for C and for any language that calls C: `include/hir_expr_store.h` declares what this
-//! library exports, and says what a caller owes.
+//! The expression store for C and for any language that calls C: `include/hir_expr_store.h` declares what
+//! this library exports, and says what a caller owes.
 #![tactic(auto)]
 
 ghost use Rattle.std.specs.Prelude.{◌≡◌, None, is_some, true, false, cond};
@@ -70,8 +70,10 @@ pub extern "C" fn hir_c_open(
     text: &[u8],
     report: &mut Report,
 ) -> u32
-    ensures open { is_some handle.old.slot.kept ≡ true → (result ≡ 5) × (handle.new.slot.kept ≡ handle.old.slot.kept) }
-    ensures opens { is_some handle.old.slot.kept ≡ false → Opens text.now handle.new.slot.kept report.new result }
+    ensures open { is_some handle.old.slot.kept ≡ true
+        → (result ≡ 5) × (handle.new.slot.kept ≡ handle.old.slot.kept) }
+    ensures opens { is_some handle.old.slot.kept ≡ false
+        → Opens text.now handle.new.slot.kept report.new result }
 {
     if handle.is_open() {
         *report = blank();
@@ -102,7 +104,8 @@ pub extern "C" fn hir_c_ask(
     buffer: &mut [u8],
     report: &mut Report,
 ) -> u32
-    ensures { AsksKept handle.old.slot.kept text.now buffer.old handle.new.slot.kept buffer.new report.new result }
+    ensures { AsksKept handle.old.slot.kept text.now buffer.old
+        handle.new.slot.kept buffer.new report.new result }
 {
     match handle.take(alloc) {
         Some(mut session) => {
@@ -135,7 +138,8 @@ pub extern "C" fn hir_c_fetch(
     buffer: &mut [u8],
     report: &mut Report,
 ) -> u32
-    ensures { FetchesKept handle.old.slot.kept buffer.old handle.new.slot.kept buffer.new report.new result }
+    ensures { FetchesKept handle.old.slot.kept buffer.old
+        handle.new.slot.kept buffer.new report.new result }
 {
     match handle.take(alloc) {
         Some(mut session) => {

@@ -64,8 +64,8 @@ pub(crate) fn blank() -> Report
     }
 }
 
-/// The report of a text that was taken so: how many bytes its answers have, how many were written, and where the
-/// reading of a bad line stopped.
+/// The report of a text that was taken so: how many bytes its answers have, how many were written, and where
+/// the reading of a bad line stopped.
 pub(crate) fn report_of(
     length: usize,
     written: usize,

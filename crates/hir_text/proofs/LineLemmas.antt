@@ -19,8 +19,8 @@ free_before : (bytes : List ℕ) (k : ℕ) → IsFirstByte (is_byte 10) bytes (S
 free_before bytes k h =
     let first = h.0 in
     λ j d inside.
-        let below : j < k = omega (arith, inside, length-take k bytes) in
-        rw (get_or-take {A = ℕ} k bytes j d below, get_or_default bytes j d 0 (omega (arith, first.high))) (false_unless _ (first.before j (omega arith) below))
+    let below : j < k = omega (arith, inside, length-take k bytes) in
+    rw (get_or-take {A = ℕ} k bytes j d below, get_or_default bytes j d 0 (omega (arith, first.high))) (false_unless _ (first.before j (omega arith) below))
 
 -- the first line and its end, where the text has one
 pub first_line : (bytes : List ℕ) (k : ℕ) → IsFirstByte (is_byte 10) bytes (Some k)

@@ -100,7 +100,8 @@ impl BufferedSession {
     /// Takes a text, and writes the first part of its answers, as many bytes as the buffer has room for; the
     /// rest is kept.
     pub fn ask(&mut self, text: &[u8], buffer: &mut [u8]) -> FirstPart
-        ensures { Asks self.old text.now buffer.old self.new buffer.new result.outcome result.length result.written }
+        ensures { Asks self.old text.now buffer.old
+            self.new buffer.new result.outcome result.length result.written }
     {
         let outcome = self.take_text(text);
         let length = self.kept();

@@ -18,8 +18,8 @@ pub enum Reason {
 /// Where the reading of a bad line stopped, and why.
 #[derive(Clone, Copy, PartialEq, Eq, Debug, Drop)]
 pub struct Stop {
-    /// The place in the line, in bytes counted from 1: of the word that isn't what is wanted, or of the first
-    /// byte of it that isn't.
+    /// The place in the line, in bytes counted from 1: of the word that isn't what is wanted, or of the
+    /// first byte of it that isn't.
     pub column: usize,
     /// Why reading stopped there.
     pub reason: Reason,

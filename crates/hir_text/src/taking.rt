@@ -10,11 +10,7 @@ use hir_text_nodes::{Answer, TextError};
 
 /// Writes an answer as lines after the others; returns whether it is a refusal. Where memory is refused,
 /// nothing of it is written. What is in `scratch` is overwritten.
-fn add(
-    answer: &Answer,
-    scratch: &mut Vec<u8>,
-    answers: &mut Vec<u8>,
-) -> Result<bool, TextError>
+fn add(answer: &Answer, scratch: &mut Vec<u8>, answers: &mut Vec<u8>) -> Result<bool, TextError>
     ensures { Adds (Ok (Some answer.now)) answers.old.items answers.new.items result }
 {
     scratch.clear();

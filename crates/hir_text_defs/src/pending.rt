@@ -101,7 +101,7 @@ impl Pending {
         }
     }
 
-    /// Adds what a line of this kind says. The line is read to its end first, so that a bad one adds nothing.
+    /// Adds what a line of this kind says. The line is read to its end first: a bad one adds nothing.
     fn add(&mut self, alloc: Global, kind: Kind, words: &mut Words<'_>) -> Result<(), TextError> {
         match kind {
             Kind::Param => push(&mut self.params, last(read_param(words), words)),
@@ -127,7 +127,10 @@ impl Pending {
             }
             Kind::Where => push(&mut self.predicates, last(read_where(words, alloc), words)),
             Kind::WhereLifetime => {
-                push(&mut self.predicates, last(read_where_lifetime(words), words))
+                push(
+                    &mut self.predicates,
+                    last(read_where_lifetime(words), words),
+                )
             }
             Kind::Field => push(&mut self.fields, last(read_field(words, alloc), words)),
         }
