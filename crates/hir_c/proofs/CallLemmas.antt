@@ -1,5 +1,5 @@
 -- What a call leaves, from what it leaves in the session that it took.
-use Rattle.std.proofs.Common.{◌≡◌, ℕ, Bool, true, false, List, Option, None, Some, cond, length, refl, sym, ap, subst, inr}
+use Rattle.std.proofs.Common.{◌≡◌, ℕ, Bool, true, false, List, Option, None, Some, cond, length, refl, sym, subst, inr}
 use Rattle.hir_text.specs.declared.buffered.BufferedSession.{BufferedSession}
 use Rattle.hir_text.specs.declared.lines.Outcome.{Outcome}
 use Rattle.hir_text.specs.Buffered.{kept}

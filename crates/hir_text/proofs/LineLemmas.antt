@@ -1,12 +1,12 @@
--- The first line of a text, and an answer that is written line by line.
-use Rattle.std.proofs.Common.{◌≡◌, ◌+◌, ◌-◌, ◌<◌, ℕ, Bool, true, false, List, [], ◌∷◌, Option, None, Some, length, get_or, take, drop, ◌++◌, length-take, get_or-take, append_assoc, refl, sym, ap, ◌∙◌, arith}
+-- The first line of a text.
+use Rattle.std.proofs.Common.{◌≡◌, ◌+◌, ◌-◌, ◌<◌, ℕ, Bool, true, false, List, [], ◌∷◌, None, Some, length, get_or, take, drop, ◌++◌, length-take, get_or-take, refl, sym, ap, ◌∙◌, arith}
 use Rattle.std.specs.List.{All, slice_split}
 use Rattle.std.proofs.lemmas.Bool.{eqb-true}
 use Rattle.std.proofs.lemmas.List.{get_or_default, take_rest}
 use Rattle.std.proofs.lemmas.List.Splits.{slice_split_at, slice_split_none}
 use Rattle.std.proofs.lemmas.Grind.{common_steps}
 use Rattle.memchr.specs.Find.{is_byte, IsFirstByte}
-use Rattle.hir_text.specs.AnswerLines.{is_line_end, text_lines, space_of, marked_line, marked_lines, with_line}
+use Rattle.hir_text.specs.AnswerLines.{is_line_end, text_lines}
 
 false_unless : (b : Bool) → (b ≡ true → ⊥) → b ≡ false
 false_unless true h = absurd (h refl)
@@ -33,7 +33,3 @@ first_line bytes k h =
 -- a text without an end of a line is one line
 pub only_line : (bytes : List ℕ) → IsFirstByte (is_byte 10) bytes None → text_lines bytes ≡ bytes ∷ []
 only_line bytes h = slice_split_none is_line_end bytes (λ k d within. rw (get_or_default bytes k d 0 within) (false_unless _ (h k (omega arith) within)))
-
--- one more line of an answer is written
-pub one_written : (before : List ℕ) (mark : ℕ) (line : List ℕ) (lines : List (List ℕ)) → with_line before mark line ++ marked_lines 124 lines ≡ before ++ marked_lines mark (line ∷ lines)
-one_written before mark line lines = simp append_assoc refl

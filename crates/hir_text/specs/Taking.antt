@@ -1,6 +1,5 @@
 -- How a text is taken line by line: what state comes of it, and which answers.
-use Rattle.std.specs.Prelude.{◌≡◌, ℕ, ◌+◌, ◌-◌, ◌^◌, min, Bool, true, false, cond, List, [], ◌∷◌, ◌++◌, Option, None, Some, Result, Ok, Err, ◌⊎◌}
-use Rattle.hir_text_words.specs.declared.answer.Answer.{Answer}
+use Rattle.std.specs.Prelude.{◌≡◌, ℕ, ◌+◌, ◌-◌, ◌^◌, min, Bool, false, cond, List, [], ◌∷◌, ◌++◌, None, Some, Result, Ok, Err, ◌⊎◌}
 use Rattle.hir_text_words.specs.declared.text_error.TextError.{TextError}
 use Rattle.hir_text_words.specs.declared.text_error.TextError.TheVariants as stop
 use Rattle.hir_text.specs.declared.lines.Outcome.{Outcome}

@@ -1,4 +1,4 @@
-use Rattle.std.proofs.Common.{subst, Option, ℕ}
+use Rattle.std.proofs.Common.{subst}
 use Rattle.memchr.specs.Find.{is_byte, IsFirstByte}
 use Rattle.hir_text.proofs.LineLemmas.{first_line, only_line}
 use Rattle.hir_text.proofs.lines.cut_line.Goals as goal

@@ -1,4 +1,4 @@
-use Rattle.std.proofs.Common.{◌≡◌, ℕ, List, length, option_map}
+use Rattle.std.proofs.Common.{ℕ, List, length, option_map}
 use Rattle.hir_text.specs.declared.lines.Outcome.{Outcome}
 use Rattle.hir_text.specs.AnswerLines.{lines_left}
 use Rattle.hir_text.specs.Taking.{next_number, TakesLines, TakesText}
