@@ -1,12 +1,13 @@
 //! What is known of definitions: names, layouts, signatures and fields, which printed texts have.
 
-use crate::def::{AdtId, GenericDefId, LangItemTarget, NamedDef, VariantId};
+use crate::def::{GenericDefId, LangItemTarget, NamedDef, VariantId};
 use crate::fault::Missing;
 use crate::hir::{Expr, LifetimeRef, ModPath, Pat, Path, PathKind, TypeRef};
 use crate::ids::{CrateId, EnumId, EnumVariantId, StructId};
 use crate::name::Name;
 use crate::nodes::Nodes;
 use crate::notation::{Line, Notation};
+use crate::signature::{Signature, SignatureData, VariantFields};
 use std::collections::{BTreeSet, HashMap};
 use std::sync::atomic::{AtomicU64, Ordering};
 use std::sync::Arc;
@@ -227,9 +228,14 @@ impl Tables {
         self.add(Key::RawWords(edition), Entry::RawWords(words));
     }
 
-    /// The lines of a signature or of fields.
-    pub(crate) fn add_lines(&mut self, key: Key, lines: String) {
-        self.add(key, Entry::Lines(lines.into()));
+    /// The signature of its definition.
+    pub fn add_signature<D: SignatureData>(&mut self, signature: &Signature<D>) {
+        self.add(Key::Signature(signature.def()), Entry::Lines(signature.lines().into()));
+    }
+
+    /// The fields of their struct, union or variant.
+    pub fn add_fields(&mut self, fields: &VariantFields) {
+        self.add(Key::Fields(fields.variant()), Entry::Lines(fields.lines().into()));
     }
 
     fn entry(&self, key: Key) -> Option<&Entry> {
@@ -370,9 +376,4 @@ impl Tables {
         line.next_line();
         0
     }
-}
-
-/// The definition of a struct, as what has generic parameters.
-pub(crate) fn of_struct(id: StructId) -> GenericDefId {
-    GenericDefId::AdtId(AdtId::StructId(id))
 }
