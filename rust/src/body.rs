@@ -274,6 +274,6 @@ impl Batch<'_> {
     /// The body of this definition as text, with its head and its parameters.
     pub fn print_body(&mut self, def: impl Into<DefWithBodyId>, edition: Edition) -> Question<String> {
         let def = def.into();
-        self.push(print_body(def, def, edition))
+        self.push(&print_body(def, def, edition))
     }
 }

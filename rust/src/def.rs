@@ -12,6 +12,7 @@ macro_rules! definitions {
     ($($(#[$meta:meta])* $name:ident { $($(#[$variant_meta:meta])* $variant:ident($id:ident),)* })*) => {$(
         $(#[$meta])*
         #[derive(Clone, Copy, PartialEq, Eq, PartialOrd, Ord, Hash, Debug)]
+#[cfg_attr(hir_serde, derive(serde::Serialize, serde::Deserialize))]
         pub enum $name {
             $($(#[$variant_meta])* $variant($id),)*
         }
@@ -223,6 +224,7 @@ macros! { Macro2Id MacroRulesId ProcMacroId }
 
 /// A type or constant parameter of a definition.
 #[derive(Clone, Copy, PartialEq, Eq, PartialOrd, Ord, Hash, Debug)]
+#[cfg_attr(hir_serde, derive(serde::Serialize, serde::Deserialize))]
 pub struct TypeOrConstParamId {
     /// The definition.
     pub parent: GenericDefId,
@@ -232,10 +234,12 @@ pub struct TypeOrConstParamId {
 
 /// A type parameter of a definition. Nothing checks that the parameter is one of types.
 #[derive(Clone, Copy, PartialEq, Eq, PartialOrd, Ord, Hash, Debug)]
+#[cfg_attr(hir_serde, derive(serde::Serialize, serde::Deserialize))]
 pub struct TypeParamId(pub TypeOrConstParamId);
 
 /// A lifetime parameter of a definition.
 #[derive(Clone, Copy, PartialEq, Eq, PartialOrd, Ord, Hash, Debug)]
+#[cfg_attr(hir_serde, derive(serde::Serialize, serde::Deserialize))]
 pub struct LifetimeParamId {
     /// The definition.
     pub parent: GenericDefId,

@@ -73,6 +73,8 @@ mod prec;
 mod program;
 mod query;
 mod scopes;
+#[cfg(hir_serde)]
+mod serde;
 mod signature;
 mod source;
 mod source_questions;
@@ -106,7 +108,7 @@ pub use prec::ExprPrecedence;
 pub use scopes::{Expansion, ExprScopes, Frame, ScopeEntry};
 pub use signature::{
     FieldData, FieldsShape, FunctionData, FunctionSignature, GenericCounts, PlainSignature,
-    RawVisibility, RefusedSignature, Signature, SignatureData, StructData, StructSignature,
+    RawVisibility, RefusedFields, RefusedSignature, Signature, SignatureData, StructData, StructSignature,
     VariantFields,
 };
 pub use source::{

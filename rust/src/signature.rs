@@ -72,6 +72,7 @@ pub struct FieldData {
 }
 
 /// What the signature of a function has beside its generic parameters.
+#[allow(clippy::struct_excessive_bools)] // One for each word before `fn`, as in rust-analyzer's flags.
 #[derive(Clone, PartialEq, Eq, Hash, Debug)]
 #[cfg_attr(hir_serde, derive(serde::Serialize, serde::Deserialize))]
 pub struct FunctionData {
@@ -240,6 +241,9 @@ pub struct RefusedSignature<P> {
     /// The other parts.
     pub parts: P,
 }
+
+/// The parts of fields that were refused, and why.
+pub type RefusedFields = RefusedSignature<(FieldsShape, Vec<FieldData>)>;
 
 impl<P> fmt::Display for RefusedSignature<P> {
     fn fmt(&self, f: &mut fmt::Formatter<'_>) -> fmt::Result {
@@ -570,7 +574,7 @@ impl VariantFields {
         mut store: ExpressionStore,
         shape: FieldsShape,
         fields: Vec<FieldData>,
-    ) -> std::result::Result<VariantFields, Box<RefusedSignature<(FieldsShape, Vec<FieldData>)>>> {
+    ) -> std::result::Result<VariantFields, Box<RefusedFields>> {
         let variant = variant.into();
         let mut line = Line::new();
         for field in &fields {

@@ -57,6 +57,7 @@ impl fmt::Display for ExprOrPatId {
 
 /// The child of a node, as a visitor gets it.
 #[derive(Clone, Copy, PartialEq, Eq, Hash, Debug)]
+#[cfg_attr(hir_serde, derive(serde::Serialize, serde::Deserialize))]
 pub enum Child {
     /// An expression.
     Expr(ExprId),
@@ -433,22 +434,22 @@ questions! {
 impl crate::batch::Batch<'_> {
     /// An expression as text, in lines.
     pub fn print_expr(&mut self, expr: ExprId, edition: Edition) -> crate::batch::Question<String> {
-        self.push(print_expr(expr, edition))
+        self.push(&print_expr(expr, edition))
     }
 
     /// A pattern as text, in lines.
     pub fn print_pat(&mut self, pat: PatId, edition: Edition) -> crate::batch::Question<String> {
-        self.push(print_pat(pat, false, edition))
+        self.push(&print_pat(pat, false, edition))
     }
 
     /// A pattern as text, in one line.
     pub fn print_pat_oneline(&mut self, pat: PatId, edition: Edition) -> crate::batch::Question<String> {
-        self.push(print_pat(pat, true, edition))
+        self.push(&print_pat(pat, true, edition))
     }
 
     /// A path over the types, lifetimes and constants of the store as text.
     pub fn print_path(&mut self, path: &Path, edition: Edition) -> crate::batch::Question<String> {
-        self.push(print_path(path, edition))
+        self.push(&print_path(path, edition))
     }
 }
 

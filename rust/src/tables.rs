@@ -151,8 +151,8 @@ impl Default for Tables {
     }
 }
 
-/// The name of a variant of an enum belongs to the variant's own definition.
-fn named(target: LangItemTarget) -> Option<NamedDef> {
+/// The definition whose name a lang item is printed by.
+fn name_of(target: LangItemTarget) -> Option<NamedDef> {
     match target {
         LangItemTarget::ImplId(_) => None,
         LangItemTarget::EnumId(id) => Some(id.into()),
@@ -301,14 +301,14 @@ impl Tables {
         let exprs = nodes.exprs.values().filter_map(path_of_expr);
         let pats = nodes.pats.values().filter_map(path_of_pat);
         let types = nodes.types.values().filter_map(|ty| match ty {
-            TypeRef::Path(path) => Some(path),
+            TypeRef::Path(named) => Some(named),
             _ => None,
         });
-        for path in exprs.chain(pats).chain(types) {
-            match path {
-                Path::BarePath(path) => keys_of_mod_path(path, &mut keys),
-                Path::Normal(path) => keys_of_mod_path(&path.mod_path, &mut keys),
-                Path::LangItem(target, _) => keys.extend(named(*target).map(Key::Name)),
+        for named in exprs.chain(pats).chain(types) {
+            match named {
+                Path::BarePath(plain) => keys_of_mod_path(plain, &mut keys),
+                Path::Normal(normal) => keys_of_mod_path(&normal.mod_path, &mut keys),
+                Path::LangItem(target, _) => keys.extend(name_of(*target).map(Key::Name)),
             }
         }
         keys.extend(nodes.types.values().filter_map(|ty| match ty {
