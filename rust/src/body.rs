@@ -126,11 +126,11 @@ fn tail_of(
         write_param("self", param, &mut line);
     }
     if let Some(source) = self_source {
-        line.word("self-source");
+        line.keyword("self-source");
         source.write(&mut line);
         line.next_line();
     }
-    line.word("body ");
+    line.keyword("body ");
     def.write(&mut line);
     line.next_line();
     Tail {
@@ -241,7 +241,7 @@ fn print_body(def: DefWithBodyId, head: DefWithBodyId, edition: Edition) -> Quer
     Query::print("print-body ", |line| {
         def.write(line);
         if head != def {
-            line.word("as:");
+            line.keyword("as:");
             head.write(line);
         }
         line.word(edition.as_str());

@@ -147,7 +147,7 @@ impl sealed::Sealed for FunctionData {
     type Id = FunctionId;
 
     fn write(&self, id: FunctionId, line: &mut Line) {
-        line.word("function");
+        line.keyword("function");
         line.id(id);
         line.name(&self.name);
         line.ids(&self.params);
@@ -158,7 +158,7 @@ impl sealed::Sealed for FunctionData {
         line.flag(self.is_explicit_safe, "safe");
         write_abi(&self.abi, line);
         if let Some(indices) = &self.legacy_const_indices {
-            line.word("legacy:");
+            line.keyword("legacy:");
             line.joined_or_none(",", indices, |line, index| line.join(index));
         }
     }
@@ -172,7 +172,7 @@ impl sealed::Sealed for StructData {
     type Id = StructId;
 
     fn write(&self, id: StructId, line: &mut Line) {
-        line.word("struct");
+        line.keyword("struct");
         line.id(id);
         line.name(&self.name);
         line.word(self.shape.as_str());
@@ -188,7 +188,7 @@ impl sealed::Sealed for () {
     type Id = PlainDef;
 
     fn write(&self, id: PlainDef, line: &mut Line) {
-        line.word("plain ");
+        line.keyword("plain ");
         id.write(line);
     }
 }
@@ -550,15 +550,15 @@ pub struct VariantFields {
 
 /// As after `field`.
 fn write_field(field: &FieldData, line: &mut Line) {
-    line.word("field");
+    line.keyword("field");
     line.name(&field.name);
     line.id(field.type_ref);
     match &field.visibility {
-        RawVisibility::Public => line.word("pub"),
-        RawVisibility::PubCrate => line.word("pub(crate)"),
-        RawVisibility::PubSelf => line.word("pub(self)"),
+        RawVisibility::Public => line.keyword("pub"),
+        RawVisibility::PubCrate => line.keyword("pub(crate)"),
+        RawVisibility::PubSelf => line.keyword("pub(self)"),
         RawVisibility::Module(path) => {
-            line.word("pub(in:");
+            line.keyword("pub(in:");
             join_mod_path(path, line);
             line.join(')');
         }
@@ -581,7 +581,7 @@ impl VariantFields {
             write_field(field, &mut line);
             line.next_line();
         }
-        line.word("variant");
+        line.keyword("variant");
         line.word(variant);
         line.word(shape.as_str());
         line.next_line();

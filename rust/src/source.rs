@@ -353,14 +353,14 @@ impl Sources {
         write_back("map-field-back", &self.fields_back, line);
         write_back("map-pat-field-back", &self.pat_fields_back, line);
         for (binding, pat) in &self.definitions {
-            line.word("definition");
+            line.keyword("definition");
             line.id(*binding);
             line.id(*pat);
             line.next_line();
         }
         write_map("expansion", &self.expansions, line, |id, line| line.id(*id));
         for diagnostic in &self.diagnostics {
-            line.word("diagnostic");
+            line.keyword("diagnostic");
             diagnostic.write(line);
             line.next_line();
         }

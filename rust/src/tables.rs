@@ -330,23 +330,23 @@ impl Tables {
         };
         match key {
             Key::RawWords(edition) => {
-                line.word("raw-words");
+                line.keyword("raw-words");
                 line.word(edition.as_str());
             }
             Key::Name(def) => {
-                line.word("name ");
+                line.keyword("name ");
                 def.write(line);
             }
             Key::Crate(id) => {
-                line.word("crate-name");
+                line.keyword("crate-name");
                 line.id(id);
             }
             Key::Parent(id) => {
-                line.word("parent");
+                line.keyword("parent");
                 line.id(id);
             }
             Key::Repr(id) => {
-                line.word("repr");
+                line.keyword("repr");
                 line.id(id);
             }
             Key::Signature(_) | Key::Fields(_) => {}
