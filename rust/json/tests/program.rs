@@ -25,7 +25,7 @@ fn body() -> Value {
         "store": {
             "exprs": [path("x"), path("y"), { "Tuple": { "exprs": [0, 1] } }],
             "pats": [{ "Bind": { "id": 0, "subpat": null } }],
-            "bindings": [{ "name": "x", "mode": "Unannotated", "problems": null, "hygiene": null }],
+            "bindings": [{ "name": "x" }],
             "roots": [2]
         },
         "body": { "def": { "FunctionId": 0 }, "params": [0] },
