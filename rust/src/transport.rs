@@ -111,6 +111,7 @@ pub(crate) fn answer_into(text: &[u8], buffer: &mut [u8]) -> Result<Report, Sess
 }
 
 /// The version of the library that is linked; `None` where none is.
+#[allow(clippy::unnecessary_wraps)] // A build without a library has none.
 pub(crate) fn library_version() -> Option<u32> {
     #[cfg(hir_c)]
     return Some(ffi::version());
