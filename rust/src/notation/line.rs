@@ -5,10 +5,12 @@ use crate::ids::Id;
 use crate::name::Name;
 use std::fmt::{Display, Write};
 
-/// A line while it is written.
+/// A line while it is written, with the lines before it.
 #[derive(Clone, Default, Debug)]
 pub struct Line {
     text: String,
+    /// Where the line begins.
+    start: usize,
 }
 
 impl Line {
@@ -16,6 +18,7 @@ impl Line {
     pub const fn new() -> Line {
         Line {
             text: String::new(),
+            start: 0,
         }
     }
 
@@ -23,7 +26,20 @@ impl Line {
     pub fn behind(word: &str) -> Line {
         Line {
             text: String::from(word),
+            start: 0,
         }
+    }
+
+    /// Ends the line, and begins the next one.
+    pub fn next_line(&mut self) {
+        self.text.push('\n');
+        self.start = self.text.len();
+    }
+
+    /// Takes the lines of a text, each with its end, before the next line.
+    pub(crate) fn lines(&mut self, text: &str) {
+        self.text.push_str(text);
+        self.start = self.text.len();
     }
 
     /// What was written.
@@ -36,9 +52,9 @@ impl Line {
         self.text
     }
 
-    /// Begins a word: with a space, where something stands before it.
+    /// Begins a word: with a space, where the line has something before it.
     pub fn begin(&mut self) {
-        if !self.text.is_empty() {
+        if self.text.len() > self.start {
             self.text.push(' ');
         }
     }
@@ -47,6 +63,31 @@ impl Line {
     pub fn word(&mut self, word: impl Display) {
         self.begin();
         self.join(word);
+    }
+
+    /// A word that is a text.
+    pub fn keyword(&mut self, word: &str) {
+        self.begin();
+        self.text.push_str(word);
+    }
+
+    /// A text, after the last word without a space.
+    pub fn join_str(&mut self, part: &str) {
+        self.text.push_str(part);
+    }
+
+    /// A number, after the last word without a space. Most of what lines have is numbers, and formatting takes twice as long.
+    fn join_number(&mut self, number: u32) {
+        let (mut digits, mut rest, mut at) = ([b'0'; 10], number, 10);
+        loop {
+            at -= 1;
+            digits[at] += u8::try_from(rest % 10).unwrap_or(0);
+            rest /= 10;
+            if rest == 0 {
+                break;
+            }
+        }
+        self.text.extend(digits[at..].iter().copied().map(char::from));
     }
 
     /// What comes behind the last word without a space.
@@ -58,25 +99,26 @@ impl Line {
     /// A word, where this is so.
     pub fn flag(&mut self, is_so: bool, word: &str) {
         if is_so {
-            self.word(word);
+            self.keyword(word);
         }
     }
 
     /// The number of a node, as a word.
     pub fn id<I: Id>(&mut self, id: I) {
-        self.word(id.into_raw());
+        self.begin();
+        self.join_number(id.into_raw());
     }
 
     /// The number of a node, behind the last word without a space.
     pub fn join_id<I: Id>(&mut self, id: I) {
-        self.join(id.into_raw());
+        self.join_number(id.into_raw());
     }
 
     /// The number of a node or `-`, behind the last word without a space.
     pub fn join_opt_id<I: Id>(&mut self, id: Option<I>) {
         match id {
             Some(id) => self.join_id(id),
-            None => self.join('-'),
+            None => self.text.push('-'),
         }
     }
 
@@ -89,7 +131,7 @@ impl Line {
     /// A word that begins with this and ends with the number of a node, where there is one.
     pub fn prefixed_id<I: Id>(&mut self, start: &str, id: Option<I>) {
         if let Some(id) = id {
-            self.word(start);
+            self.keyword(start);
             self.join_id(id);
         }
     }
@@ -104,7 +146,7 @@ impl Line {
     pub fn joined<T>(&mut self, between: &str, items: &[T], write: impl Fn(&mut Line, &T)) {
         for (at, item) in items.iter().enumerate() {
             if at > 0 {
-                self.join(between);
+                self.text.push_str(between);
             }
             write(self, item);
         }
@@ -113,7 +155,7 @@ impl Line {
     /// The same, or `-` for none.
     pub fn joined_or_none<T>(&mut self, between: &str, items: &[T], write: impl Fn(&mut Line, &T)) {
         if items.is_empty() {
-            self.join('-');
+            self.text.push('-');
         }
         self.joined(between, items, write);
     }
@@ -121,7 +163,7 @@ impl Line {
     /// A name, bare or in quotes, behind the last word without a space.
     pub fn join_name(&mut self, name: &Name) {
         if is_bare(name.as_str()) {
-            self.join(name);
+            self.text.push_str(name.as_str());
         } else {
             self.join_quoted(name.as_str());
         }
@@ -180,6 +222,21 @@ impl Line {
                 self.join(format_args!("\\u{{{:02x}}}", u32::from(c)));
             }
             _ => self.text.push(c),
+        }
+    }
+}
+
+#[cfg(test)]
+mod tests {
+    use super::Line;
+    use crate::ids::ExprId;
+
+    #[test]
+    fn numbers_are_written_in_decimal() {
+        for number in [0, 1, 9, 10, 99, 100, 254, 255, 256, 260, 999, 65_535, 65_536, 1_234_567_890, u32::MAX] {
+            let mut line = Line::new();
+            line.join_id(ExprId::from_raw(number));
+            assert_eq!(line.as_str(), number.to_string());
         }
     }
 }
