@@ -5,6 +5,16 @@ use std::marker::PhantomData;
 use std::ops::Index;
 
 /// A list of nodes. Each has the id of its place, and keeps it.
+///
+/// ```
+/// use hir_expr_store::hir::Expr;
+/// use hir_expr_store::{Arena, ExprId};
+///
+/// let mut arena: Arena<ExprId, Expr> = Arena::new();
+/// let id = arena.alloc(Expr::Missing);
+/// assert_eq!(arena[id], Expr::Missing);
+/// assert_eq!(arena.get(ExprId::from_raw(1)), None);
+/// ```
 #[derive(Clone, PartialEq, Eq, Debug)]
 pub struct Arena<I, T> {
     nodes: Vec<T>,
@@ -20,7 +30,7 @@ impl<I: Id, T> Arena<I, T> {
         }
     }
 
-    /// Adds a node, and answers its id.
+    /// Adds a node, and returns its id.
     ///
     /// # Panics
     ///
@@ -42,7 +52,7 @@ impl<I: Id, T> Arena<I, T> {
         self.nodes.is_empty()
     }
 
-    /// The node with this id, where it is there.
+    /// The node with this id, where it exists.
     pub fn get(&self, id: I) -> Option<&T> {
         self.nodes.get(usize::try_from(id.into_raw()).ok()?)
     }
@@ -50,6 +60,11 @@ impl<I: Id, T> Arena<I, T> {
     /// The nodes with their ids, in the order of these.
     pub fn iter(&self) -> impl Iterator<Item = (I, &T)> + '_ {
         (0..).map(I::from_raw).zip(&self.nodes)
+    }
+
+    /// The nodes, in the order of their ids.
+    pub fn as_slice(&self) -> &[T] {
+        &self.nodes
     }
 
     /// The nodes, in the order of their ids.
@@ -64,7 +79,7 @@ impl<I: Id, T> Default for Arena<I, T> {
     }
 }
 
-/// The node with this id, which has to be there.
+/// The node with this id, which has to exist.
 impl<I: Id, T> Index<I> for Arena<I, T> {
     type Output = T;
 

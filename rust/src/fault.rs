@@ -1,17 +1,16 @@
-//! Why a builder, a body or a question is refused.
+//! Why a builder, a body or a signature is refused, and what tables lack.
 
 use crate::def::{
     DefWithBodyId, GenericDefId, LifetimeParamId, NamedDef, TypeOrConstParamId, TypeParamId,
     VariantId,
 };
 use crate::ids::{BlockId, CrateId, EnumVariantId, ExprId, Id, PatId, TypeRefId};
-use crate::lines::{Answer, Outcome, Status};
-use crate::notation::{Notation, Words};
+use crate::notation::{Line, Notation, Words};
 use std::error::Error;
 use std::fmt;
 
-/// A node that a fault names.
-#[derive(Clone, Copy, PartialEq, Eq, Hash, Debug)]
+/// A node that has a parent and children, and that a fault may name.
+#[derive(Clone, Copy, PartialEq, Eq, PartialOrd, Ord, Hash, Debug)]
 pub enum NodeId {
     /// An expression.
     Expr(ExprId),
@@ -19,6 +18,24 @@ pub enum NodeId {
     Pat(PatId),
     /// A type.
     TypeRef(TypeRefId),
+}
+
+impl From<ExprId> for NodeId {
+    fn from(id: ExprId) -> NodeId {
+        NodeId::Expr(id)
+    }
+}
+
+impl From<PatId> for NodeId {
+    fn from(id: PatId) -> NodeId {
+        NodeId::Pat(id)
+    }
+}
+
+impl From<TypeRefId> for NodeId {
+    fn from(id: TypeRefId) -> NodeId {
+        NodeId::TypeRef(id)
+    }
 }
 
 /// The id, as `ExprId(3)`.
@@ -79,7 +96,7 @@ pub enum BodyFault {
 }
 
 /// What the tables lack.
-#[derive(Clone, Copy, PartialEq, Eq, Debug)]
+#[derive(Clone, Copy, PartialEq, Eq, Hash, Debug)]
 pub enum Missing {
     /// Whether the definition has a name, and which.
     Name(NamedDef),
@@ -101,147 +118,108 @@ pub enum Missing {
     DefMap(BlockId),
 }
 
-/// Why there are no answers at all.
-#[derive(Clone, PartialEq, Eq, Debug)]
-pub enum CallFault {
-    /// Out of memory.
-    OutOfMemory,
-    /// The library doesn't read this line: it is of another version than the package, or the line has what the grammar has no words for,
-    /// as a path with more than 255 places for arguments that aren't those of its segments.
-    BadLine(String),
-    /// The library's answer isn't one that this package reads: they are of two versions.
-    BadAnswer(String),
+/// Why parts don't make a signature or the fields of a variant: the first of its faults, in this order.
+#[derive(Clone, Copy, PartialEq, Eq, Debug)]
+pub enum SignatureFault {
+    /// A type, a lifetime or a constant that it names isn't in the store.
+    IdOutOfRange,
+    /// A bound of a predicate names a type that isn't a path.
+    NotAPath,
 }
 
-/// Why a builder isn't accepted.
-#[derive(Clone, PartialEq, Eq, Debug)]
-pub enum FinishError {
-    /// It has this fault.
-    Fault(FinishFault),
-    /// The library wasn't asked to the end.
-    Call(CallFault),
-}
-
-/// Why parts don't make a body.
-#[derive(Clone, PartialEq, Eq, Debug)]
-pub enum BodyError {
-    /// They have this fault.
-    Fault(BodyFault),
-    /// The library wasn't asked to the end.
-    Call(CallFault),
-}
-
-/// Why a question is refused.
-#[derive(Clone, PartialEq, Eq, Debug)]
-pub enum Refusal {
-    /// An id isn't there, or what is asked has no body.
-    Unknown,
-    /// The expression has no scope: it isn't reached.
-    Unreached,
-    /// The expression isn't a closure that the body reaches.
-    NotAClosure,
-    /// More scopes or entries are needed than can be numbered.
-    Full,
-    /// The tables lack this.
-    Missing(Missing),
-    /// The library's answer isn't one that this package reads: they are of two versions, or the question is of another batch.
-    BadAnswer(String),
-}
-
-/// Its name and, behind a space, the node or the index, as the library writes it.
+/// What is wrong, in a sentence.
 impl fmt::Display for FinishFault {
     fn fmt(&self, f: &mut fmt::Formatter<'_>) -> fmt::Result {
         match self {
-            FinishFault::NoRoots => write!(f, "NoRoots"),
-            FinishFault::IdOutOfRange(node) => write!(f, "IdOutOfRange {node}"),
-            FinishFault::NotAPath(node) => write!(f, "NotAPath {node}"),
-            FinishFault::NoReturnType(node) => write!(f, "NoReturnType {node}"),
-            FinishFault::NoSelfArgument(node) => write!(f, "NoSelfArgument {node}"),
-            FinishFault::ArgumentLists(node) => write!(f, "ArgumentLists {node}"),
-            FinishFault::SharedChild(node) => write!(f, "SharedChild {node}"),
-            FinishFault::Cycle(node) => write!(f, "Cycle {node}"),
-            FinishFault::RootOutOfRange(index) => write!(f, "RootOutOfRange {index}"),
-            FinishFault::RootRepeated(index) => write!(f, "RootRepeated {index}"),
-            FinishFault::RootUnderRoot(index) => write!(f, "RootUnderRoot {index}"),
-            FinishFault::RootEnds(index) => write!(f, "RootEnds {index}"),
+            FinishFault::NoRoots => {
+                write!(f, "there are nodes of a body, but no list of roots was begun")
+            }
+            FinishFault::IdOutOfRange(node) => write!(f, "{node} names an id that doesn't exist"),
+            FinishFault::NotAPath(node) => {
+                write!(f, "{node} names as the path of a bound a type that isn't a path")
+            }
+            FinishFault::NoReturnType(node) => {
+                write!(f, "{node} is a function type without a return type")
+            }
+            FinishFault::NoSelfArgument(node) => {
+                write!(f, "{node} has generic arguments that lack their self type")
+            }
+            FinishFault::ArgumentLists(node) => {
+                write!(f, "{node} has a path without one list of arguments for each segment")
+            }
+            FinishFault::SharedChild(node) => write!(f, "{node} is a child more than once"),
+            FinishFault::Cycle(node) => write!(f, "{node} is on a cycle, or a descendant of one"),
+            FinishFault::RootOutOfRange(index) => {
+                write!(f, "root {index} is an expression that doesn't exist")
+            }
+            FinishFault::RootRepeated(index) => write!(f, "root {index} repeats an earlier root"),
+            FinishFault::RootUnderRoot(index) => {
+                write!(f, "root {index} is a descendant of another root")
+            }
+            FinishFault::RootEnds(index) => write!(
+                f,
+                "an end of root {index} is past its arena, or less than that of the root before"
+            ),
         }
     }
 }
 
-/// Its name and, behind a space, the index, as the library writes it.
+/// What is wrong, in a sentence. Parameters are counted from 0.
 impl fmt::Display for BodyFault {
     fn fmt(&self, f: &mut fmt::Formatter<'_>) -> fmt::Result {
         match self {
-            BodyFault::NoRoot => write!(f, "NoRoot"),
-            BodyFault::SelfOutOfRange => write!(f, "SelfOutOfRange"),
-            BodyFault::ParamOutOfRange(index) => write!(f, "ParamOutOfRange {index}"),
-            BodyFault::ParamRepeated(index) => write!(f, "ParamRepeated {index}"),
-            BodyFault::ParamUnder(index) => write!(f, "ParamUnder {index}"),
-            BodyFault::RootInParam => write!(f, "RootInParam"),
+            BodyFault::NoRoot => write!(f, "the store of the body has no root"),
+            BodyFault::SelfOutOfRange => {
+                write!(f, "the self parameter has a binding that doesn't exist")
+            }
+            BodyFault::ParamOutOfRange(index) => {
+                write!(f, "parameter {index} has a pattern that doesn't exist")
+            }
+            BodyFault::ParamRepeated(index) => {
+                write!(f, "parameter {index} has the pattern of an earlier parameter")
+            }
+            BodyFault::ParamUnder(index) => write!(
+                f,
+                "parameter {index} is a descendant of another parameter or of the last root"
+            ),
+            BodyFault::RootInParam => write!(f, "the last root is a descendant of a parameter"),
         }
     }
 }
 
-/// What is missing, as `Missing(Name(FunctionId(0)))`, as the library writes it.
+/// What is missing, in words.
 impl fmt::Display for Missing {
     fn fmt(&self, f: &mut fmt::Formatter<'_>) -> fmt::Result {
         match self {
-            Missing::Name(def) => write!(f, "Missing(Name({def}))"),
-            Missing::Variant(id) => write!(f, "Missing(Variant({id}))"),
-            Missing::Crate(id) => write!(f, "Missing(Crate({}))", id.into_raw()),
-            Missing::Signature(def) => write!(f, "Missing(Signature({def}))"),
-            Missing::Body(def) => write!(f, "Missing(Body({def}))"),
-            Missing::Fields(def) => write!(f, "Missing(Fields({def}))"),
+            Missing::Name(def) => write!(f, "no name of {def}"),
+            Missing::Variant(id) => write!(f, "no enum of {id}"),
+            Missing::Crate(id) => write!(f, "no name of {id}"),
+            Missing::Signature(def) => write!(f, "no signature of {def}"),
+            Missing::Body(def) => write!(f, "no body of {def}"),
+            Missing::Fields(def) => write!(f, "no fields of {def}"),
             Missing::TypeParam(TypeParamId(id)) => {
                 let number = id.local_id.into_raw();
-                write!(f, "Missing(TypeParam({} {number}))", id.parent)
+                write!(f, "no type parameter {number} of {}", id.parent)
             }
             Missing::LifetimeParam(id) => {
                 let number = id.local_id.into_raw();
-                write!(f, "Missing(LifetimeParam({} {number}))", id.parent)
+                write!(f, "no lifetime parameter {number} of {}", id.parent)
             }
-            Missing::DefMap(id) => write!(f, "Missing(DefMap({}))", id.into_raw()),
+            Missing::DefMap(id) => write!(f, "no definition map of {id}"),
         }
     }
 }
 
-impl fmt::Display for CallFault {
+/// What is wrong, in a sentence.
+impl fmt::Display for SignatureFault {
     fn fmt(&self, f: &mut fmt::Formatter<'_>) -> fmt::Result {
         match self {
-            CallFault::OutOfMemory => write!(f, "out of memory"),
-            CallFault::BadLine(line) => write!(f, "the library doesn't read the line {line:?}"),
-            CallFault::BadAnswer(answer) => write!(f, "{answer:?} is no answer to what was asked"),
-        }
-    }
-}
-
-impl fmt::Display for FinishError {
-    fn fmt(&self, f: &mut fmt::Formatter<'_>) -> fmt::Result {
-        match self {
-            FinishError::Fault(fault) => fmt::Display::fmt(fault, f),
-            FinishError::Call(fault) => fmt::Display::fmt(fault, f),
-        }
-    }
-}
-
-impl fmt::Display for BodyError {
-    fn fmt(&self, f: &mut fmt::Formatter<'_>) -> fmt::Result {
-        match self {
-            BodyError::Fault(fault) => fmt::Display::fmt(fault, f),
-            BodyError::Call(fault) => fmt::Display::fmt(fault, f),
-        }
-    }
-}
-
-impl fmt::Display for Refusal {
-    fn fmt(&self, f: &mut fmt::Formatter<'_>) -> fmt::Result {
-        match self {
-            Refusal::Unknown => write!(f, "an id isn't there, or there is no body"),
-            Refusal::Unreached => write!(f, "the expression isn't reached"),
-            Refusal::NotAClosure => write!(f, "the expression is no closure that the body reaches"),
-            Refusal::Full => write!(f, "more scopes or entries are needed than can be numbered"),
-            Refusal::Missing(missing) => fmt::Display::fmt(missing, f),
-            Refusal::BadAnswer(answer) => write!(f, "{answer:?} is no answer to what was asked"),
+            SignatureFault::IdOutOfRange => {
+                write!(f, "the signature names an id that doesn't exist")
+            }
+            SignatureFault::NotAPath => {
+                write!(f, "the signature names as the path of a bound a type that isn't a path")
+            }
         }
     }
 }
@@ -252,7 +230,7 @@ macro_rules! errors {
     )*};
 }
 
-errors! { FinishFault BodyFault Missing CallFault FinishError BodyError Refusal }
+errors! { FinishFault BodyFault SignatureFault Missing }
 
 fn read_node(words: &mut Words<'_>) -> Option<NodeId> {
     words.expect(" ")?;
@@ -265,6 +243,36 @@ fn read_node(words: &mut Words<'_>) -> Option<NodeId> {
         PatId::NAME => Some(NodeId::Pat(PatId::from_raw(number))),
         TypeRefId::NAME => Some(NodeId::TypeRef(TypeRefId::from_raw(number))),
         _ => None,
+    }
+}
+
+impl NodeId {
+    /// The node of `expr:E`, `pat:P` or `type:T`, which comes next.
+    pub(crate) fn read_word(words: &mut Words<'_>) -> Option<NodeId> {
+        let kind = words.keyword();
+        words.expect(":")?;
+        match kind {
+            "expr" => Some(NodeId::Expr(words.id()?)),
+            "pat" => Some(NodeId::Pat(words.id()?)),
+            "type" => Some(NodeId::TypeRef(words.id()?)),
+            _ => None,
+        }
+    }
+}
+
+/// `expr:E`, `pat:P` or `type:T`
+impl Notation for NodeId {
+    fn write(&self, line: &mut Line) {
+        match self {
+            NodeId::Expr(id) => line.word(format_args!("expr:{}", id.into_raw())),
+            NodeId::Pat(id) => line.word(format_args!("pat:{}", id.into_raw())),
+            NodeId::TypeRef(id) => line.word(format_args!("type:{}", id.into_raw())),
+        }
+    }
+
+    fn read(words: &mut Words<'_>) -> Option<NodeId> {
+        words.begin()?;
+        NodeId::read_word(words)
     }
 }
 
@@ -345,89 +353,94 @@ impl Missing {
     }
 }
 
-impl Refusal {
-    /// The refusal of this text.
-    pub(crate) fn from_text(text: &str) -> Refusal {
+impl SignatureFault {
+    /// The fault of this text.
+    pub(crate) fn from_text(text: &str) -> Option<SignatureFault> {
         match text {
-            "unknown" => Refusal::Unknown,
-            "unreached" => Refusal::Unreached,
-            "NotAClosure" => Refusal::NotAClosure,
-            "Full" => Refusal::Full,
-            _ => match Missing::from_text(text) {
-                Some(missing) => Refusal::Missing(missing),
-                None => Refusal::BadAnswer(String::from(text)),
-            },
+            "IdOutOfRange" => Some(SignatureFault::IdOutOfRange),
+            "NotAPath" => Some(SignatureFault::NotAPath),
+            _ => None,
         }
-    }
-}
-
-/// The answers of a text, where each of its lines was read.
-pub(crate) fn checked(text: &str, outcome: &Outcome) -> Result<Vec<Answer>, CallFault> {
-    match outcome.status {
-        Status::Answered | Status::Refused(_) => Ok(outcome.split()),
-        Status::BadLine(number) => {
-            let line = text.split('\n').nth(number.saturating_sub(1));
-            Err(CallFault::BadLine(String::from(line.unwrap_or(""))))
-        }
-        Status::OutOfMemory => Err(CallFault::OutOfMemory),
     }
 }
 
 #[cfg(test)]
 mod tests {
-    use super::{BodyFault, FinishFault, Missing};
+    use super::{BodyFault, FinishFault, Missing, NodeId, SignatureFault};
+    use crate::def::{NamedDef, TypeOrConstParamId, TypeParamId};
+    use crate::ids::{
+        ExprId, LocalTypeOrConstParamId, MacroRulesId, PatId, StructId, TypeRefId,
+    };
+    use crate::def::MacroId;
 
-    /// Texts of the library.
-    const FINISH: [&str; 12] = [
-        "NoRoots",
-        "IdOutOfRange ExprId(0)",
-        "NotAPath TypeRefId(3)",
-        "NoReturnType TypeRefId(4)",
-        "NoSelfArgument PatId(7)",
-        "ArgumentLists PatId(1)",
-        "SharedChild ExprId(2)",
-        "Cycle PatId(9)",
-        "RootOutOfRange 0",
-        "RootRepeated 5",
-        "RootUnderRoot 1",
-        "RootEnds 2",
-    ];
-
-    const BODY: [&str; 6] = [
-        "NoRoot",
-        "SelfOutOfRange",
-        "ParamOutOfRange 1",
-        "ParamRepeated 4",
-        "ParamUnder 0",
-        "RootInParam",
-    ];
-
-    const MISSING: [&str; 9] = [
-        "Missing(Name(MacroRulesId(0)))",
-        "Missing(Variant(EnumVariantId(1)))",
-        "Missing(Crate(2))",
-        "Missing(Signature(StructId(3)))",
-        "Missing(Body(EnumVariantId(4)))",
-        "Missing(Fields(UnionId(5)))",
-        "Missing(TypeParam(StructId(6) 1))",
-        "Missing(LifetimeParam(TraitId(7) 2))",
-        "Missing(DefMap(8))",
-    ];
-
-    /// Each text is read, and written as it was.
-    fn come_back<T: ToString>(texts: &[&str], read: impl Fn(&str) -> Option<T>) {
-        for text in texts {
-            assert_eq!(read(text).map(|it| it.to_string()).as_deref(), Some(*text));
+    #[test]
+    fn faults_are_read() {
+        let expr = NodeId::Expr(ExprId::from_raw(0));
+        let pat = NodeId::Pat(PatId::from_raw(7));
+        let ty = NodeId::TypeRef(TypeRefId::from_raw(3));
+        let texts = [
+            ("NoRoots", FinishFault::NoRoots),
+            ("IdOutOfRange ExprId(0)", FinishFault::IdOutOfRange(expr)),
+            ("NotAPath TypeRefId(3)", FinishFault::NotAPath(ty)),
+            ("NoReturnType TypeRefId(3)", FinishFault::NoReturnType(ty)),
+            ("NoSelfArgument PatId(7)", FinishFault::NoSelfArgument(pat)),
+            ("ArgumentLists PatId(7)", FinishFault::ArgumentLists(pat)),
+            ("SharedChild ExprId(0)", FinishFault::SharedChild(expr)),
+            ("Cycle PatId(7)", FinishFault::Cycle(pat)),
+            ("RootOutOfRange 0", FinishFault::RootOutOfRange(0)),
+            ("RootRepeated 5", FinishFault::RootRepeated(5)),
+            ("RootUnderRoot 1", FinishFault::RootUnderRoot(1)),
+            ("RootEnds 2", FinishFault::RootEnds(2)),
+        ];
+        for (text, fault) in texts {
+            assert_eq!(FinishFault::from_text(text), Some(fault), "{text}");
         }
+        assert_eq!(FinishFault::from_text("NoRoots 1"), None);
+        assert_eq!(SignatureFault::from_text("NotAPath"), Some(SignatureFault::NotAPath));
     }
 
     #[test]
-    fn faults_have_the_library_s_texts() {
-        come_back(&FINISH, FinishFault::from_text);
-        come_back(&BODY, BodyFault::from_text);
-        come_back(&MISSING, Missing::from_text);
-        assert_eq!(FinishFault::from_text("NoRoots 1"), None);
+    fn faults_of_bodies_are_read() {
+        let texts = [
+            ("NoRoot", BodyFault::NoRoot),
+            ("SelfOutOfRange", BodyFault::SelfOutOfRange),
+            ("ParamOutOfRange 1", BodyFault::ParamOutOfRange(1)),
+            ("ParamRepeated 4", BodyFault::ParamRepeated(4)),
+            ("ParamUnder 0", BodyFault::ParamUnder(0)),
+            ("RootInParam", BodyFault::RootInParam),
+        ];
+        for (text, fault) in texts {
+            assert_eq!(BodyFault::from_text(text), Some(fault), "{text}");
+        }
         assert_eq!(BodyFault::from_text("ParamUnder"), None);
+    }
+
+    /// Texts of the library, and what each says.
+    const MISSING: [(&str, &str); 9] = [
+        ("Missing(Name(MacroRulesId(0)))", "no name of MacroRulesId(0)"),
+        ("Missing(Variant(EnumVariantId(1)))", "no enum of EnumVariantId(1)"),
+        ("Missing(Crate(2))", "no name of CrateId(2)"),
+        ("Missing(Signature(StructId(3)))", "no signature of StructId(3)"),
+        ("Missing(Body(EnumVariantId(4)))", "no body of EnumVariantId(4)"),
+        ("Missing(Fields(UnionId(5)))", "no fields of UnionId(5)"),
+        ("Missing(TypeParam(StructId(6) 1))", "no type parameter 1 of StructId(6)"),
+        ("Missing(LifetimeParam(TraitId(7) 2))", "no lifetime parameter 2 of TraitId(7)"),
+        ("Missing(DefMap(8))", "no definition map of BlockId(8)"),
+    ];
+
+    #[test]
+    fn what_is_missing_is_read() {
+        for (text, words) in MISSING {
+            let missing = Missing::from_text(text);
+            assert_eq!(missing.map(|it| it.to_string()).as_deref(), Some(words), "{text}");
+        }
         assert_eq!(Missing::from_text("Missing(Name(ImplId(0)))"), None);
+        let name = NamedDef::MacroId(MacroId::MacroRulesId(MacroRulesId::from_raw(0)));
+        assert_eq!(Missing::from_text(MISSING[0].0), Some(Missing::Name(name)));
+        let param = TypeParamId(TypeOrConstParamId {
+            parent: crate::def::AdtId::StructId(StructId::from_raw(6)).into(),
+            local_id: LocalTypeOrConstParamId::from_raw(1),
+        });
+        assert_eq!(Missing::from_text(MISSING[6].0), Some(Missing::TypeParam(param)));
     }
 }

@@ -1,8 +1,9 @@
-//! The call of the proved library: the one file with `unsafe` code.
+//! A session of the C library: the one file with `unsafe` code.
 //!
-//! Nothing checks a call from Rust against the library's contract. What it asks of a caller is in `include/hir_expr_store.h`, and each
-//! `unsafe` below says how that is met.
+//! Nothing checks a call from Rust against the library's contract. What it requires of a caller is in `include/hir_expr_store.h`, and
+//! each `unsafe` below says how that is met.
 
+use crate::transport::{Report, Status};
 use std::ffi::c_void;
 use std::ptr;
 
@@ -13,10 +14,46 @@ struct RawReport {
     length: usize,
     written: usize,
     line: usize,
+    column: usize,
+    reason: u32,
+}
+
+/// A handle: `hir_expr_store_handle` of the header. The library knows it by its address.
+#[repr(C)]
+struct RawHandle {
+    is_open: bool,
+    at: *mut c_void,
 }
 
 extern "C" {
-    fn hir_expr_store_answer(
+    fn hir_c_open(
+        handle: *mut RawHandle,
+        text: *const u8,
+        text_length: usize,
+        report: *mut RawReport,
+    ) -> u32;
+
+    fn hir_c_ask(
+        handle: *mut RawHandle,
+        text: *const u8,
+        text_length: usize,
+        buffer: *mut u8,
+        buffer_length: usize,
+        report: *mut RawReport,
+    ) -> u32;
+
+    fn hir_c_fetch(
+        handle: *mut RawHandle,
+        buffer: *mut u8,
+        buffer_length: usize,
+        report: *mut RawReport,
+    ) -> u32;
+
+    fn hir_c_close(handle: *mut RawHandle) -> u32;
+
+    fn hir_c_version() -> u32;
+
+    fn hir_c_answer(
         text: *const u8,
         text_length: usize,
         buffer: *mut u8,
@@ -29,57 +66,121 @@ extern "C" {
     fn free(block: *mut c_void);
 }
 
-/// How a text was answered.
-#[derive(Clone, Copy, PartialEq, Eq, Debug)]
-pub enum Status {
-    /// Each line was read, and no question was refused.
-    Answered,
-    /// Each line was read, and the question in the line of this number is the first that was refused.
-    Refused(usize),
-    /// The line of this number, counted from 1, is none of the grammar: the answers are those of the lines before it.
-    BadLine(usize),
-    /// Out of memory: the answers are a front of those of the lines before.
-    OutOfMemory,
+/// What a call returned and reported.
+fn report(status: u32, raw: &RawReport) -> Report {
+    Report {
+        status: match status {
+            0 => Status::Answered,
+            1 => Status::Refused(raw.line),
+            2 => Status::BadLine(raw.line),
+            3 => Status::OutOfMemory,
+            _ => Status::Gone,
+        },
+        length: raw.length,
+        written: raw.written,
+    }
 }
 
-/// What was answered into a buffer.
-#[derive(Clone, Copy, PartialEq, Eq, Debug)]
-pub struct Report {
-    /// How the text was answered.
-    pub status: Status,
-    /// How many bytes the answers have.
-    pub length: usize,
-    /// How many of them were written: the lesser of `length` and the buffer's length.
-    pub written: usize,
+/// The number of the library's version.
+pub(crate) fn version() -> u32 {
+    // SAFETY: the call takes nothing, and the declaration is that of the header.
+    unsafe { hir_c_version() }
 }
 
-/// Answers the questions of a text of lines into a buffer, as far as it goes.
-pub fn answer_into(text: &[u8], buffer: &mut [u8]) -> Report {
-    let mut report = RawReport::default();
-    // SAFETY: the declaration above is that of the header. Each pointer and its length are those of a Rust slice or of a local value, so
-    // they aren't null, don't overlap and stay valid for the call, and no slice has 2^63 bytes or more.
+/// Answers the questions of a text into a buffer, as far as it goes, by a session of its own.
+pub(crate) fn answer_into(text: &[u8], buffer: &mut [u8]) -> Report {
+    let mut raw = RawReport::default();
+    // SAFETY: the declaration is that of the header. Each pointer and its length are those of a Rust slice or of a local value, so they
+    // aren't null, don't overlap and stay valid for the call, and no slice has 2^63 bytes or more.
     let status = unsafe {
-        hir_expr_store_answer(
+        hir_c_answer(
             text.as_ptr(),
             text.len(),
             buffer.as_mut_ptr(),
             buffer.len(),
-            ptr::from_mut(&mut report),
+            ptr::from_mut(&mut raw),
         )
     };
-    Report {
-        status: match status {
-            0 => Status::Answered,
-            1 => Status::Refused(report.line),
-            2 => Status::BadLine(report.line),
-            _ => Status::OutOfMemory,
-        },
-        length: report.length,
-        written: report.written,
+    report(status, &raw)
+}
+
+/// An open session of the library.
+pub(crate) struct Library {
+    /// In a box, since the library knows a handle by its address, and a `Library` may be moved.
+    handle: Box<RawHandle>,
+}
+
+// SAFETY: a handle may be used by any thread, by one at a time (the header says so): the library keeps nothing of a thread's own, and its
+// memory is of `malloc`. Each call takes `&mut self`, so no two threads are in a call on one handle. It isn't `Sync`, and needn't be:
+// the one call that takes `&self` is none of these.
+unsafe impl Send for Library {}
+
+impl Library {
+    /// A session that has taken no line. `None` where there is no memory for one.
+    pub(crate) fn open() -> Option<Library> {
+        let mut handle = Box::new(RawHandle {
+            is_open: false,
+            at: ptr::null_mut(),
+        });
+        let mut raw = RawReport::default();
+        let text: &[u8] = b"";
+        // SAFETY: the handle is closed, as the call requires, and stays at its address until it is closed. The pointers are those of a
+        // slice, of a box and of a local value: not null, valid for the call and apart.
+        let status = unsafe {
+            hir_c_open(
+                ptr::from_mut(handle.as_mut()),
+                text.as_ptr(),
+                text.len(),
+                ptr::from_mut(&mut raw),
+            )
+        };
+        // A handle that isn't open needs no closing.
+        (status == 0).then_some(Library { handle })
+    }
+
+    /// Takes the lines of a text, and writes their answers to a buffer, as far as it goes; the rest is kept.
+    pub(crate) fn ask_into(&mut self, text: &[u8], buffer: &mut [u8]) -> Report {
+        let mut raw = RawReport::default();
+        // SAFETY: the handle is the one that `open` opened, at the same address, and nobody else uses it, as it is borrowed mutably. The
+        // other pointers and lengths are those of slices and of a local value, as in `answer_into`.
+        let status = unsafe {
+            hir_c_ask(
+                ptr::from_mut(self.handle.as_mut()),
+                text.as_ptr(),
+                text.len(),
+                buffer.as_mut_ptr(),
+                buffer.len(),
+                ptr::from_mut(&mut raw),
+            )
+        };
+        report(status, &raw)
+    }
+
+    /// Writes the next part of what was kept to a buffer.
+    pub(crate) fn fetch_into(&mut self, buffer: &mut [u8]) -> Report {
+        let mut raw = RawReport::default();
+        // SAFETY: as in `ask_into`.
+        let status = unsafe {
+            hir_c_fetch(
+                ptr::from_mut(self.handle.as_mut()),
+                buffer.as_mut_ptr(),
+                buffer.len(),
+                ptr::from_mut(&mut raw),
+            )
+        };
+        report(status, &raw)
     }
 }
 
-/// What the library's calls for memory answer: whether there is memory, and where.
+impl Drop for Library {
+    fn drop(&mut self) {
+        // SAFETY: the handle is the one that `open` opened, at the same address, and isn't used afterwards. The status says only whether
+        // it was open.
+        unsafe { hir_c_close(ptr::from_mut(self.handle.as_mut())) };
+    }
+}
+
+/// What the library's calls for memory return: whether there is memory, and where.
 #[repr(C)]
 pub struct Block {
     is_there: bool,
@@ -90,7 +191,7 @@ impl Block {
     fn new(at: *mut c_void) -> Block {
         Block {
             is_there: !at.is_null(),
-            // What isn't there is never used; the library takes no null pointer.
+            // Where there is no memory the pointer is never used; the library takes no null pointer.
             at: if at.is_null() {
                 ptr::NonNull::dangling().as_ptr()
             } else {
@@ -100,7 +201,7 @@ impl Block {
     }
 }
 
-/// As many bytes as are asked of the allocator: one at least, as many as the alignment where none are.
+/// As many bytes as are taken from the allocator: one at least, as many as the alignment where none are wanted.
 const fn size_of(size: usize, align: usize) -> usize {
     if size == 0 {
         align

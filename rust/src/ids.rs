@@ -3,7 +3,7 @@
 use std::fmt;
 use std::hash::Hash;
 
-/// A number that stands for something, as a node of an arena.
+/// The number of something, as of a node of an arena.
 pub trait Id: Copy + Eq + Ord + Hash + fmt::Debug {
     /// The name of the type.
     const NAME: &'static str;
@@ -110,4 +110,8 @@ ids! {
     LocalTypeOrConstParamId;
     /// A lifetime parameter among those of its definition.
     LocalLifetimeParamId;
+    /// A file, or the text that a macro call expanded to.
+    HirFileId;
+    /// A macro call.
+    MacroCallId;
 }

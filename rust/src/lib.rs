@@ -1,93 +1,106 @@
-//! The proved expression store, asked from Rust.
+//! The proved expression store, in hand from Rust.
 //!
-//! The store holds lowered function bodies: expressions, patterns, bindings, labels, types and lifetimes under numbered ids, under the
-//! names of rust-analyzer's `hir_def`. What a store accepts, what a name means, what a closure captures and how a node is printed is
-//! computed by a library whose functions are proved to meet their contracts. This package writes lines of text for that library, and reads
-//! its answers: it is tested, and not proved.
+//! A store holds lowered function bodies: expressions, patterns, bindings, labels, types and lifetimes under numbered ids, under the names
+//! of rust-analyzer's `hir_def`. What a store accepts, what a name resolves to, what a closure captures and how a node is printed is
+//! computed by functions that are proved to meet their contracts, in a session that a store holds: a handle of the C library, or a process
+//! of the program `hir_ask`. This package is tested, and not proved.
 //!
-//! The body of `fn f(x) { let x = &x; x }`, and what the last `x` means:
+//! The body of `fn f(x) { let x = &x; x }`, and what the last `x` resolves to:
 //!
 //! ```
-//! use hir_expr_store::hir::{Binding, Expr, Mutability, Pat, Path, Rawness, Statement, Unsafe};
-//! use hir_expr_store::{Batch, Body, ExpressionStoreBuilder, FunctionId, HygieneId, Name, Param};
+//! use hir_expr_store::hir::Mutability;
+//! use hir_expr_store::{Edition, ExpressionStoreBuilder, FunctionId, HirError, Tables, make};
 //!
-//! # fn main() -> Result<(), Box<dyn std::error::Error>> {
-//! let x = Name::new("x");
+//! # fn main() -> Result<(), HirError> {
 //! let mut builder = ExpressionStoreBuilder::new();
-//! let param = builder.alloc_binding(Binding::new(x.clone()));
-//! let param_pat = builder.alloc_pat(Pat::Bind { id: param, subpat: None });
-//! let shadow = builder.alloc_binding(Binding::new(x.clone()));
-//! let shadow_pat = builder.alloc_pat(Pat::Bind { id: shadow, subpat: None });
-//! let outer = builder.alloc_expr(Expr::Path(Path::from_name(x.clone())));
-//! let by_ref = builder.alloc_expr(Expr::Ref {
-//!     expr: outer,
-//!     rawness: Rawness::Ref,
-//!     mutability: Mutability::Shared,
-//! });
-//! let inner = builder.alloc_expr(Expr::Path(Path::from_name(x.clone())));
-//! let root = builder.alloc_expr(Expr::Block {
-//!     id: None,
-//!     statements: vec![Statement::Let {
-//!         pat: shadow_pat,
-//!         type_ref: None,
-//!         initializer: Some(by_ref),
-//!         else_branch: None,
-//!     }],
-//!     tail: Some(inner),
-//!     label: None,
-//!     unsafe_: Unsafe::No,
-//! });
-//! builder.push_root(root);
-//! let store = builder.finish()?;
+//! let param = make::bind(&mut builder, "x");
+//! let outer = make::local(&mut builder, "x");
+//! let value = make::reference(&mut builder, outer, Mutability::Shared);
+//! let shadow = make::bind(&mut builder, "x");
+//! let inner = make::local(&mut builder, "x");
+//! let root = make::block(&mut builder, vec![make::let_(shadow, value)], inner);
 //!
-//! let f = FunctionId::from_raw(0).into();
-//! let body = Body::new(f, store, vec![Param::new(param_pat)], None)?;
-//! let mut batch = Batch::of_body(&body);
-//! let at_outer = batch.resolve(outer, &x, HygieneId::ROOT);
-//! let at_inner = batch.resolve(inner, &x, HygieneId::ROOT);
-//! let names = batch.chain(inner);
-//! let answers = batch.ask()?;
-//! assert_eq!(answers.get(at_outer), Ok(Some(param)));
-//! assert_eq!(answers.get(at_inner), Ok(Some(shadow)));
-//! assert_eq!(answers.get(names), Ok(vec![x.clone(), x]));
+//! let f = FunctionId::from_raw(0);
+//! let body = make::body(f, builder, &[param], root)?;
+//! let scopes = body.scopes()?;
+//! assert_eq!(scopes.binding_at(outer)?, body.bound_by(param));
+//! assert_eq!(scopes.binding_at(inner)?, body.bound_by(shadow));
+//!
+//! let mut tables = Tables::new();
+//! tables.add_name(f, Some(&"f".into()));
+//! let text = body.print(&tables, Edition::Edition2021)?;
+//! assert_eq!(text, "fn f(x) {\n    let x = &x;\n    x\n}");
 //! # Ok(())
 //! # }
 //! ```
+//!
+//! | You want to | Use |
+//! |---|---|
+//! | build nodes | [`ExpressionStoreBuilder`] with the calls of [`make`] or the types of [`hir`] |
+//! | have them tested | [`finish`](ExpressionStoreBuilder::finish): an [`ExpressionStore`], or the builder back with its first fault |
+//! | make a body | [`Body::new`]: a body, or its parts back with their first fault |
+//! | walk over nodes | [`children`](ExpressionStore::children), [`parent`](ExpressionStore::parent), [`walk_pats`](ExpressionStore::walk_pats) and the like |
+//! | resolve names | [`scopes`](ExpressionStore::scopes) |
+//! | find uses, captures, renames | [`usages`](Body::usages), [`captures`](Body::captures), [`rename`](Body::rename) |
+//! | print | [`Body::print`], [`print_expr`](ExpressionStore::print_expr), with [`Tables`] |
+//! | ask much at once | a [`Batch`] |
+//! | send lines of your own | [`lines`] |
+//!
+//! A session is a process where the variable `HIR_ASK_PROGRAM` names the program, else a handle of the library, where the package was
+//! built with one.
 
 pub mod hir;
 pub mod lines;
+pub mod make;
 pub mod notation;
 
-mod ancestors;
 mod arena;
 mod batch;
 mod body;
+mod builder;
 mod def;
+mod error;
 mod fault;
+#[cfg(hir_c)]
 #[allow(unsafe_code)]
 mod ffi;
 mod ids;
+mod link;
 mod name;
+mod nodes;
+mod prec;
+mod program;
+mod query;
+mod scopes;
+mod source;
+mod source_questions;
 mod store;
 mod tables;
-mod uses;
+mod transport;
+mod usages;
 
 pub use arena::Arena;
-pub use batch::{Answers, Batch, Child, Edition, Frame, Question, ScopeEntry};
+pub use batch::{Answers, Batch, Question};
 pub use body::{Body, Param, RefusedBody};
+pub use builder::{ExpressionStoreBuilder, Refused};
 pub use def::{
     AdtId, DefWithBodyId, GenericDefId, LangItemTarget, LifetimeParamId, MacroId, NamedDef,
     TypeOrConstParamId, TypeParamId, VariantId,
 };
-pub use fault::{
-    BodyError, BodyFault, CallFault, FinishError, FinishFault, Missing, NodeId, Refusal,
-};
+pub use error::{HirError, Result, SessionError};
+pub use fault::{BodyFault, FinishFault, Missing, NodeId, SignatureFault};
 pub use ids::{
-    BindingId, BlockId, ConstId, CrateId, EnumId, EnumVariantId, ExprId, FunctionId, Id, ImplId,
-    LabelId, LifetimeRefId, LocalLifetimeParamId, LocalTypeOrConstParamId, Macro2Id, MacroDefId,
-    MacroRulesId, PatId, ProcMacroId, StaticId, StructId, TraitId, TypeAliasId, TypeRefId, UnionId,
+    BindingId, BlockId, ConstId, CrateId, EnumId, EnumVariantId, ExprId, FunctionId, HirFileId, Id,
+    ImplId, LabelId, LifetimeRefId, LocalLifetimeParamId, LocalTypeOrConstParamId, Macro2Id,
+    MacroCallId, MacroDefId, MacroRulesId, PatId, ProcMacroId, StaticId, StructId, TraitId,
+    TypeAliasId, TypeRefId, UnionId,
 };
 pub use name::{HygieneId, Name};
-pub use store::{ExprOrPatId, ExpressionStore, ExpressionStoreBuilder, Refused};
-pub use tables::Tables;
-pub use uses::{RenameFault, Usage};
+pub use prec::ExprPrecedence;
+pub use scopes::{Expansion, ExprScopes, Frame, ScopeEntry};
+pub use source::{
+    ExpressionStoreDiagnostics, InFile, MissingBodyItemKind, Source, SyntaxNodePtr, TextRange,
+};
+pub use store::{Child, ExprOrPatId, ExpressionStore};
+pub use tables::{Edition, Repr, Tables};
+pub use usages::{RenameFault, Usage, Usages};

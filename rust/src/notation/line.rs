@@ -5,10 +5,12 @@ use crate::ids::Id;
 use crate::name::Name;
 use std::fmt::{Display, Write};
 
-/// A line while it is written.
+/// A line while it is written, with the lines before it.
 #[derive(Clone, Default, Debug)]
 pub struct Line {
     text: String,
+    /// Where the line begins.
+    start: usize,
 }
 
 impl Line {
@@ -16,6 +18,7 @@ impl Line {
     pub const fn new() -> Line {
         Line {
             text: String::new(),
+            start: 0,
         }
     }
 
@@ -23,7 +26,20 @@ impl Line {
     pub fn behind(word: &str) -> Line {
         Line {
             text: String::from(word),
+            start: 0,
         }
+    }
+
+    /// Ends the line, and begins the next one.
+    pub fn next_line(&mut self) {
+        self.text.push('\n');
+        self.start = self.text.len();
+    }
+
+    /// Takes the lines of a text, each with its end, before the next line.
+    pub(crate) fn lines(&mut self, text: &str) {
+        self.text.push_str(text);
+        self.start = self.text.len();
     }
 
     /// What was written.
@@ -36,9 +52,9 @@ impl Line {
         self.text
     }
 
-    /// Begins a word: with a space, where something stands before it.
+    /// Begins a word: with a space, where the line has something before it.
     pub fn begin(&mut self) {
-        if !self.text.is_empty() {
+        if self.text.len() > self.start {
             self.text.push(' ');
         }
     }

@@ -254,6 +254,20 @@ impl<'a> Words<'a> {
         Some(items)
     }
 
+    /// All up to this mark, which is taken too.
+    pub fn next_part(&mut self, mark: char) -> Option<&'a str> {
+        let count = self.rest.find(mark)?;
+        let part = self.take(count);
+        self.take(mark.len_utf8());
+        Some(part)
+    }
+
+    /// A text in quotes, as the next word.
+    pub fn next_quoted(&mut self) -> Option<String> {
+        self.begin()?;
+        self.quoted()
+    }
+
     /// Whether a name, bare or in quotes, comes next.
     pub fn is_at_name(&self) -> bool {
         self.is_at("\"") || self.rest.bytes().next().is_some_and(begins_name)

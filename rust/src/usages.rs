@@ -1,10 +1,15 @@
-//! Questions on the uses of a body's variables: where each is used, which names are visible, and whether one may get another name.
+//! The uses of a body's variables: where each is used, and whether it may get another name.
 
-use crate::batch::{read_entry, read_ids, read_words, Batch, Edition, Question, ScopeEntry};
-use crate::ids::{BindingId, ExprId, Id};
+use crate::body::Body;
+use crate::error::{HirError, Result};
+use crate::ids::{BindingId, Id};
+use crate::lines::Answer;
 use crate::name::Name;
-use crate::notation::{Line, Words};
-use crate::store::{id_line, ExprOrPatId};
+use crate::notation::Words;
+use crate::query::{questions, read_answer, read_ids, read_words, Query};
+use crate::store::ExprOrPatId;
+use crate::tables::{Edition, Tables};
+use std::collections::HashMap;
 use std::error::Error;
 use std::fmt;
 
@@ -73,72 +78,166 @@ impl fmt::Display for RenameFault {
 
 impl Error for RenameFault {}
 
-impl Batch<'_> {
-    /// The uses of the body, each with the binding that it resolves to, in the order in which scopes are made.
-    pub fn usages(&mut self) -> Question<Vec<Usage>> {
-        self.push(String::from("usages"), |text| read_words(text, read_usage))
+/// The uses of a body: one list, asked once.
+///
+/// ```
+/// use hir_expr_store::{ExpressionStoreBuilder, FunctionId, make};
+///
+/// # fn main() -> Result<(), hir_expr_store::HirError> {
+/// // fn f(x, y) { (x, z, x, ) }
+/// let mut builder = ExpressionStoreBuilder::new();
+/// let params = [make::bind(&mut builder, "x"), make::bind(&mut builder, "y")];
+/// let paths = ["x", "z", "x"].map(|name| make::local(&mut builder, name));
+/// let root = make::tuple(&mut builder, &paths);
+/// let body = make::body(FunctionId::from_raw(0), builder, &params, root)?;
+///
+/// let usages = body.usages()?;
+/// assert_eq!(usages.of(body.bound_by(params[0]).unwrap()), [paths[0].into(), paths[2].into()]);
+/// assert_eq!(usages.unresolved(), [paths[1].into()]);
+/// assert_eq!(usages.unused(), [body.bound_by(params[1]).unwrap()]);
+/// # Ok(())
+/// # }
+/// ```
+#[derive(Clone, PartialEq, Eq, Debug)]
+pub struct Usages {
+    usages: Vec<Usage>,
+    of: HashMap<BindingId, Vec<ExprOrPatId>>,
+    unresolved: Vec<ExprOrPatId>,
+    unused: Vec<BindingId>,
+}
+
+impl Usages {
+    fn new(usages: Vec<Usage>, unused: Vec<BindingId>) -> Usages {
+        let mut of: HashMap<BindingId, Vec<ExprOrPatId>> = HashMap::new();
+        let mut unresolved = Vec::new();
+        for usage in &usages {
+            match usage.binding {
+                Some(binding) => of.entry(binding).or_default().push(usage.path),
+                None => unresolved.push(usage.path),
+            }
+        }
+        Usages {
+            usages,
+            of,
+            unresolved,
+            unused,
+        }
+    }
+
+    /// All uses, in the order of the walk that makes scopes.
+    pub fn iter(&self) -> std::slice::Iter<'_, Usage> {
+        self.usages.iter()
     }
 
     /// The uses that resolve to a binding.
-    pub fn usages_of(&mut self, binding: BindingId) -> Question<Vec<ExprOrPatId>> {
-        self.push(id_line("usages-of", binding), read_paths)
+    pub fn of(&self, binding: BindingId) -> &[ExprOrPatId] {
+        self.of.get(&binding).map_or(&[], Vec::as_slice)
     }
 
-    /// The uses that resolve to no local variable.
-    pub fn unresolved(&mut self) -> Question<Vec<ExprOrPatId>> {
-        self.push(String::from("unresolved"), read_paths)
+    /// The uses that resolve to no variable.
+    pub fn unresolved(&self) -> &[ExprOrPatId] {
+        &self.unresolved
     }
 
     /// The bindings of the body that no use resolves to.
-    pub fn unused(&mut self) -> Question<Vec<BindingId>> {
-        self.push(String::from("unused"), read_ids)
-    }
-
-    /// The variables that a name at an expression may resolve to, innermost first: of each name and hygiene the one that isn't hidden.
-    pub fn visible(&mut self, expr: ExprId) -> Question<Vec<ScopeEntry>> {
-        self.push(id_line("visible", expr), |text| {
-            read_words(text, read_entry)
-        })
-    }
-
-    /// The uses that get a new name together with their binding, or why the binding may not have it.
-    ///
-    /// It may have it exactly where each use of the body would resolve afterwards to what it resolves to now, and no binding of one frame
-    /// with it has the same name. Whether the name is a keyword or that of an item is for the caller to see to.
-    pub fn rename(
-        &mut self,
-        binding: BindingId,
-        name: &Name,
-    ) -> Question<Result<Vec<ExprOrPatId>, RenameFault>> {
-        self.push_or(
-            rename_line("rename", binding, name).into_string(),
-            |text| Some(Ok(read_paths(text)?)),
-            |text| Some(Err(RenameFault::from_text(text)?)),
-        )
-    }
-
-    /// The body as text in which the binding and its uses have a new name, or why the binding may not have it.
-    pub fn print_renamed(
-        &mut self,
-        binding: BindingId,
-        name: &Name,
-        edition: Edition,
-    ) -> Question<Result<String, RenameFault>> {
-        let mut line = rename_line("print-renamed", binding, name);
-        line.word(edition.as_str());
-        self.push_or(
-            line.into_string(),
-            |text| Some(Ok(String::from(text))),
-            |text| Some(Err(RenameFault::from_text(text)?)),
-        )
+    pub fn unused(&self) -> &[BindingId] {
+        &self.unused
     }
 }
 
-fn rename_line(word: &str, binding: BindingId, name: &Name) -> Line {
-    let mut line = Line::behind(word);
-    line.id(binding);
-    line.name(name);
-    line
+impl<'a> IntoIterator for &'a Usages {
+    type Item = &'a Usage;
+    type IntoIter = std::slice::Iter<'a, Usage>;
+
+    fn into_iter(self) -> std::slice::Iter<'a, Usage> {
+        self.iter()
+    }
+}
+
+fn read_usages(text: &str) -> Option<Vec<Usage>> {
+    read_words(text, read_usage)
+}
+
+fn usages_of(answers: &[Answer]) -> Result<Usages> {
+    match answers {
+        [usages, unused] => Ok(Usages::new(
+            read_answer(read_usages, usages)?,
+            read_answer(read_ids, unused)?,
+        )),
+        _ => Err(HirError::bad_answer("")),
+    }
+}
+
+fn renamed_query(binding: BindingId, name: &Name, edition: Edition) -> Query<String> {
+    Query::print("print-renamed", |line| {
+        line.id(binding);
+        line.name(name);
+        line.word(edition.as_str());
+    })
+}
+
+impl Body {
+    /// The uses of the body.
+    pub fn usages(&self) -> Result<Usages> {
+        usages_of(&self.store().ask_lines("usages\nunused\n", 2)?)
+    }
+
+    /// The body as text in which the binding and its uses have a new name.
+    pub fn renamed(&self, binding: BindingId, name: &Name, tables: &Tables, edition: Edition) -> Result<String> {
+        self.store().ask_with(tables, &renamed_query(binding, name, edition))
+    }
+}
+
+questions! {
+    { impl Body }
+
+    /// The uses that get a new name together with their binding; `HirError::Rename` says why the binding may not have it.
+    ///
+    /// It may have it exactly where each use of the body would resolve afterwards to what it resolves to now, and no binding of one frame
+    /// with it has the same name. Whether the name is a keyword or that of an item is for the caller to see to.
+    fn rename(&self, binding: BindingId, name: &Name) -> Vec<ExprOrPatId> {
+        Query::of(
+            "rename",
+            |line| {
+                line.id(binding);
+                line.name(name);
+            },
+            read_paths,
+        )
+    }
+
+    /// The variables from outside that a closure's code uses, in the order of their first use.
+    fn captures(&self, closure: crate::ids::ExprId) -> Vec<BindingId> {
+        Query::id("captures", closure, read_ids)
+    }
+}
+
+/// The questions on uses, each by itself.
+impl crate::batch::Batch<'_> {
+    /// The uses of the body, each with the binding that it resolves to, in the order of the walk that makes scopes.
+    pub fn usages(&mut self) -> crate::batch::Question<Vec<Usage>> {
+        self.push(Query::new("usages", read_usages))
+    }
+
+    /// The uses that resolve to a binding.
+    pub fn usages_of(&mut self, binding: BindingId) -> crate::batch::Question<Vec<ExprOrPatId>> {
+        self.push(Query::id("usages-of", binding, read_paths))
+    }
+
+    /// The uses that resolve to no variable.
+    pub fn unresolved(&mut self) -> crate::batch::Question<Vec<ExprOrPatId>> {
+        self.push(Query::new("unresolved", read_paths))
+    }
+
+    /// The bindings of the body that no use resolves to.
+    pub fn unused(&mut self) -> crate::batch::Question<Vec<BindingId>> {
+        self.push(Query::new("unused", read_ids))
+    }
+
+    /// The body as text in which the binding and its uses have a new name.
+    pub fn renamed(&mut self, binding: BindingId, name: &Name, edition: Edition) -> crate::batch::Question<String> {
+        self.push(renamed_query(binding, name, edition))
+    }
 }
 
 fn read_path(words: &mut Words<'_>) -> Option<ExprOrPatId> {
