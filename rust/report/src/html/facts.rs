@@ -108,7 +108,7 @@ impl Facts {
         for binding in &unseen {
             // A name that no source has: what it is refused for is no matter of the name.
             questions.push((binding.id, None, batch.rename(binding.id, &Name::new("<new>"))));
-            for name in names.iter().filter(|name| ***name != binding.name) {
+            for name in &names {
                 questions.push((binding.id, Some(*name), batch.rename(binding.id, name)));
             }
         }

@@ -8,7 +8,8 @@
   const input = byId("name");
   const verdict = byId("verdict");
   const facts = JSON.parse(byId("facts").textContent);
-  const HELP = "Point at a name, at the bars of a closure or at a jump. Keys: Tab goes to the next, ← and → to the other uses, Enter to a new name, F to the functions, Esc back.";
+  const HELP = "Point at a name, at the bars of a closure or at a jump.";
+  const KEYS = " Tab: the next · ← →: the other uses · Enter: a new name · F: functions · Esc: back";
 
   // 1. What is marked: by its binding, by its use, by its closure, by what a jump leaves, and where fields begin
 
@@ -80,6 +81,9 @@
 
   // 3. What is lit: what is pointed at, else what is selected
 
+  const keys = document.createElement("span");
+  keys.className = "keys";
+  keys.textContent = KEYS;
   let lit = [];
   let selected = null;
   const light = (element) => {
@@ -88,7 +92,8 @@
     for (const other of lit) other.classList.add("lit");
     if (element) element.classList.add("at");
     if (element && !lit.includes(element)) lit = [...lit, element];
-    about.textContent = element ? textOf(element) : HELP;
+    if (element) about.replaceChildren(textOf(element));
+    else about.replaceChildren(HELP, keys);
   };
 
   // 4. Renames
