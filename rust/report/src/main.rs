@@ -27,6 +27,7 @@ mod text;
 
 use files::Progress;
 use findings::{ask, Findings};
+use hir_expr_store::lines;
 use html::Facts;
 use renames::Request;
 use std::error::Error;
@@ -283,8 +284,16 @@ fn run(task: &Task) -> ExitCode {
     }
 }
 
+/// What the arguments ask for, where there is something to ask.
+fn begin() -> Result<Task, String> {
+    let task = task(env::args().skip(1))?;
+    // Else each function of each file would say it.
+    lines::answer("").map_err(|error| error.to_string())?;
+    Ok(task)
+}
+
 fn main() -> ExitCode {
-    match task(env::args().skip(1)) {
+    match begin() {
         Ok(task) => run(&task),
         Err(error) => {
             eprintln!("hir-report: {error}");

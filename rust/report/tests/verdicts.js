@@ -80,8 +80,9 @@ const said = (f, id, name) => {
 };
 
 const named = functions.flatMap((facts, f) => facts.bindings.map(([, , line, column], id) => ({ f, id, line, column })));
-const bindings = named.filter(({ line }) => line !== undefined);
-// Two functions at one place, one in a macro's pattern or in the other, are the program's to tell apart.
+const isSelf = ({ f, id }) => functions[f].bindings[id][0] === "self";
+// Of `self` there is one thing to say, so it is asked of seldom.
+const bindings = named.filter((it) => it.line !== undefined && (!isSelf(it) || random(16) === 0));
 const ofFunction = ({ f }) => {
   const { bindings, uses, macros, items } = functions[f];
   const names = [...bindings, ...uses, ...macros, ...items].map(([name]) => name);

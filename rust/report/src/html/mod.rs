@@ -173,7 +173,10 @@ pub fn page(file: &str, source: &str, functions: &[Function<'_>]) -> Result<Stri
     let title = escaped(file.rsplit('/').next().unwrap_or(file));
     let nodes: usize = functions.iter().map(|(found, _)| found.nodes).sum();
     let lines = source.lines().count();
-    let counts = format!("{lines} lines, {} functions, {nodes} nodes", functions.len());
+    let counts = format!(
+        "{lines} lines, {} functions<span class=\"keys\">, {nodes} nodes</span>",
+        functions.len()
+    );
     let mut out = String::new();
     write_head(&title, &counts, &mut out)?;
     write_source(source, functions, &mut out)?;

@@ -119,11 +119,11 @@
     }
   };
 
-  const link = (text, line, column, element) => {
+  const link = (line, column, element) => {
     const button = document.createElement("button");
     button.type = "button";
     button.className = "place";
-    button.textContent = `${text}${line}:${column}`;
+    button.textContent = `${line}:${column}`;
     button.addEventListener("click", () => {
       const target = element || byId(`L${line}`);
       target.scrollIntoView({ block: "center", inline: "nearest" });
@@ -135,33 +135,39 @@
   const placeOfUse = (at, usage) => {
     const [, , , line, column] = facts[at].uses[usage];
     const [element] = byUse.get(`${at}.${usage}`) || [];
-    return link("", line, column, element);
+    return link(line, column, element);
   };
 
   const placeOfBinding = (at, id) => {
     const [, , line, column] = facts[at].bindings[id];
     if (line === undefined) return "nowhere";
     const [element] = byBinding.get(`${at}.${id}`) || [];
-    return link("", line, column, element);
+    return link(line, column, element);
+  };
+
+  const code = (text) => {
+    const element = document.createElement("code");
+    element.textContent = text;
+    return element;
   };
 
   // Why a binding may not have a name, as text and places.
   const conflict = (at, id, name, { reason, usage, other }) => {
-    const old = facts[at].bindings[id][0];
+    const old = code(facts[at].bindings[id][0]);
     switch (reason) {
       case "NotBound":
-        return [`${old} is in no scope.`];
+        return [old, " is in no scope."];
       case "IsSelf":
-        return ["self has no other name."];
+        return [code("self"), " has no other name."];
       case "SameFrame":
-        return [`${old} is bound together with the ${name} of `, placeOfBinding(at, other), "."];
+        return [old, " is bound together with ", code(name), " of ", placeOfBinding(at, other), "."];
       case "Hidden":
-        return [`The use of ${old} at `, placeOfUse(at, usage), ` would resolve to the ${name} of `, placeOfBinding(at, other), "."];
+        return ["the use of ", old, " at ", placeOfUse(at, usage), " would resolve to ", code(name), " of ", placeOfBinding(at, other), "."];
       case "InConstant":
-        return [`The ${name} at `, placeOfUse(at, usage), ` is in a constant, where ${old} may not be used.`];
+        return [code(name), " at ", placeOfUse(at, usage), " is in a constant, where ", old, " may not be used."];
       default: {
-        const now = other === NONE ? ["no variable"] : [`the ${name} of `, placeOfBinding(at, other)];
-        return [`The ${name} at `, placeOfUse(at, usage), " resolves to ", ...now, `, and would resolve to ${old}.`];
+        const now = other === NONE ? ["no variable"] : [code(name), " of ", placeOfBinding(at, other)];
+        return [code(name), " at ", placeOfUse(at, usage), " resolves to ", ...now, ", and would resolve to ", old, "."];
       }
     }
   };
@@ -178,7 +184,7 @@
   };
 
   const aboutWarnings = (warnings) =>
-    warnings.flatMap(([what, line, column]) => [document.createElement("br"), "Warning, ", link("", line, column), `: ${what}.`]);
+    warnings.flatMap(([what, line, column]) => [document.createElement("br"), "Warning at ", link(line, column), `: ${what}.`]);
 
   const judge = () => {
     restore();
@@ -186,7 +192,7 @@
     const text = input.value.trim();
     if (binding === null || text === "") return say("", "");
     const name = nameOf(text);
-    if (name === null) return say("no", `${text} is no name of a variable.`);
+    if (name === null) return say("no", code(text), " is no name of a variable.");
     const [at, id] = split(binding);
     const fault = faultOf(facts[at], id, name);
     if (fault !== null) {
