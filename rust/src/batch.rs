@@ -109,7 +109,7 @@ impl<'a> Batch<'a> {
         self.ends.is_empty()
     }
 
-    pub(crate) fn push<T>(&mut self, query: Query<T>) -> Question<T> {
+    pub(crate) fn push<T>(&mut self, query: &Query<T>) -> Question<T> {
         let index = self.ends.len();
         if query.prints {
             self.prints.push(index);

@@ -13,7 +13,6 @@ use crate::store::ExpressionStore;
 use crate::tables::{Edition, Tables};
 use std::fmt;
 use std::ops::Deref;
-use std::sync::OnceLock;
 
 /// A parameter as the body has it, and as the user wrote it.
 ///
@@ -161,11 +160,9 @@ impl Body {
     ) -> std::result::Result<Body, Box<RefusedBody>> {
         let def = def.into();
         let tail = tail_of(def, &params, self_param, self_source);
-        let claimed = store.link.claim(&store.nodes, tail, fault);
+        let claimed = store.claim(tail, fault);
         let error = match (claimed, store.expr_roots().last().copied()) {
             (Ok(()), Some(root)) => {
-                // The scopes of a body aren't those that its store had by itself.
-                store.scope_counts = OnceLock::new();
                 return Ok(Body {
                     def,
                     store,
@@ -277,6 +274,6 @@ impl Batch<'_> {
     /// The body of this definition as text, with its head and its parameters.
     pub fn print_body(&mut self, def: impl Into<DefWithBodyId>, edition: Edition) -> Question<String> {
         let def = def.into();
-        self.push(print_body(def, def, edition))
+        self.push(&print_body(def, def, edition))
     }
 }

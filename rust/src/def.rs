@@ -12,6 +12,7 @@ macro_rules! definitions {
     ($($(#[$meta:meta])* $name:ident { $($(#[$variant_meta:meta])* $variant:ident($id:ident),)* })*) => {$(
         $(#[$meta])*
         #[derive(Clone, Copy, PartialEq, Eq, PartialOrd, Ord, Hash, Debug)]
+#[cfg_attr(hir_serde, derive(serde::Serialize, serde::Deserialize))]
         pub enum $name {
             $($(#[$variant_meta])* $variant($id),)*
         }
@@ -69,6 +70,24 @@ definitions! {
         ImplId(ImplId),
         /// A static.
         StaticId(StaticId),
+        /// A trait.
+        TraitId(TraitId),
+        /// A type alias.
+        TypeAliasId(TypeAliasId),
+    }
+
+    /// A definition whose signature is its generic parameters alone.
+    PlainDef {
+        /// An enum.
+        EnumId(EnumId),
+        /// A union.
+        UnionId(UnionId),
+        /// A constant.
+        ConstId(ConstId),
+        /// A static.
+        StaticId(StaticId),
+        /// An impl.
+        ImplId(ImplId),
         /// A trait.
         TraitId(TraitId),
         /// A type alias.
@@ -158,8 +177,54 @@ definitions! {
     }
 }
 
+/// The definition, as what has generic parameters.
+impl From<PlainDef> for GenericDefId {
+    fn from(def: PlainDef) -> GenericDefId {
+        match def {
+            PlainDef::EnumId(id) => GenericDefId::AdtId(id.into()),
+            PlainDef::UnionId(id) => GenericDefId::AdtId(id.into()),
+            PlainDef::ConstId(id) => id.into(),
+            PlainDef::StaticId(id) => id.into(),
+            PlainDef::ImplId(id) => id.into(),
+            PlainDef::TraitId(id) => id.into(),
+            PlainDef::TypeAliasId(id) => id.into(),
+        }
+    }
+}
+
+macro_rules! adts {
+    ($($id:ident)*) => {$(
+        impl From<$id> for GenericDefId {
+            fn from(id: $id) -> GenericDefId {
+                GenericDefId::AdtId(id.into())
+            }
+        }
+    )*};
+}
+
+adts! { StructId UnionId EnumId }
+
+macro_rules! macros {
+    ($($id:ident)*) => {$(
+        impl From<$id> for NamedDef {
+            fn from(id: $id) -> NamedDef {
+                NamedDef::MacroId(id.into())
+            }
+        }
+
+        impl From<$id> for LangItemTarget {
+            fn from(id: $id) -> LangItemTarget {
+                LangItemTarget::MacroId(id.into())
+            }
+        }
+    )*};
+}
+
+macros! { Macro2Id MacroRulesId ProcMacroId }
+
 /// A type or constant parameter of a definition.
 #[derive(Clone, Copy, PartialEq, Eq, PartialOrd, Ord, Hash, Debug)]
+#[cfg_attr(hir_serde, derive(serde::Serialize, serde::Deserialize))]
 pub struct TypeOrConstParamId {
     /// The definition.
     pub parent: GenericDefId,
@@ -169,10 +234,12 @@ pub struct TypeOrConstParamId {
 
 /// A type parameter of a definition. Nothing checks that the parameter is one of types.
 #[derive(Clone, Copy, PartialEq, Eq, PartialOrd, Ord, Hash, Debug)]
+#[cfg_attr(hir_serde, derive(serde::Serialize, serde::Deserialize))]
 pub struct TypeParamId(pub TypeOrConstParamId);
 
 /// A lifetime parameter of a definition.
 #[derive(Clone, Copy, PartialEq, Eq, PartialOrd, Ord, Hash, Debug)]
+#[cfg_attr(hir_serde, derive(serde::Serialize, serde::Deserialize))]
 pub struct LifetimeParamId {
     /// The definition.
     pub parent: GenericDefId,

@@ -62,6 +62,8 @@ pub enum SessionError {
     },
     /// There is no memory for a session.
     OutOfMemory,
+    /// The library that is linked has this version, and the package is for another.
+    Version(u32),
     /// The session is gone: the process that it was has ended, or a pipe to it is broken.
     Gone(String),
     /// This line isn't one of the grammar: it has what the grammar has no words for, as a path with more than 255 places for arguments that
@@ -85,6 +87,9 @@ impl fmt::Display for SessionError {
                 write!(f, "the program {program} can't be started: {error}")
             }
             SessionError::OutOfMemory => write!(f, "there is no memory for a session"),
+            SessionError::Version(version) => {
+                write!(f, "the library that is linked has version {version}, which isn't this package's")
+            }
             SessionError::Gone(why) => write!(f, "the session is gone: {why}"),
             SessionError::BadLine(line) => write!(f, "the line {line:?} isn't one of the grammar"),
             SessionError::BadAnswer(answer) => {

@@ -11,6 +11,7 @@ use std::fmt;
 
 /// A node that has a parent and children, and that a fault may name.
 #[derive(Clone, Copy, PartialEq, Eq, PartialOrd, Ord, Hash, Debug)]
+#[cfg_attr(hir_serde, derive(serde::Serialize, serde::Deserialize))]
 pub enum NodeId {
     /// An expression.
     Expr(ExprId),

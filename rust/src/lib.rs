@@ -64,6 +64,7 @@ mod fault;
 #[cfg(hir_c)]
 #[allow(unsafe_code)]
 mod ffi;
+mod generics;
 mod ids;
 mod link;
 mod name;
@@ -72,6 +73,9 @@ mod prec;
 mod program;
 mod query;
 mod scopes;
+#[cfg(hir_serde)]
+mod serde;
+mod signature;
 mod source;
 mod source_questions;
 mod store;
@@ -84,11 +88,15 @@ pub use batch::{Answers, Batch, Question};
 pub use body::{Body, Param, RefusedBody};
 pub use builder::{ExpressionStoreBuilder, Refused};
 pub use def::{
-    AdtId, DefWithBodyId, GenericDefId, LangItemTarget, LifetimeParamId, MacroId, NamedDef,
+    AdtId, DefWithBodyId, GenericDefId, LangItemTarget, LifetimeParamId, MacroId, NamedDef, PlainDef,
     TypeOrConstParamId, TypeParamId, VariantId,
 };
 pub use error::{HirError, Result, SessionError};
 pub use fault::{BodyFault, FinishFault, Missing, NodeId, SignatureFault};
+pub use generics::{
+    ConstParamData, GenericParams, LifetimeBoundType, LifetimeParamData, TypeOrConstParamData,
+    TypeParamData, TypeParamProvenance, WherePredicate,
+};
 pub use ids::{
     BindingId, BlockId, ConstId, CrateId, EnumId, EnumVariantId, ExprId, FunctionId, HirFileId, Id,
     ImplId, LabelId, LifetimeRefId, LocalLifetimeParamId, LocalTypeOrConstParamId, Macro2Id,
@@ -98,6 +106,11 @@ pub use ids::{
 pub use name::{HygieneId, Name};
 pub use prec::ExprPrecedence;
 pub use scopes::{Expansion, ExprScopes, Frame, ScopeEntry};
+pub use signature::{
+    FieldData, FieldsShape, FunctionData, FunctionSignature, GenericCounts, PlainSignature,
+    RawVisibility, RefusedFields, RefusedSignature, Signature, SignatureData, StructData, StructSignature,
+    VariantFields,
+};
 pub use source::{
     ExpressionStoreDiagnostics, InFile, MissingBodyItemKind, Source, SyntaxNodePtr, TextRange,
 };

@@ -214,6 +214,11 @@ impl Link {
         }
     }
 
+    /// The lines that make what owns the store, or the store where nothing does.
+    pub(crate) fn tail(&self) -> &str {
+        self.tail.as_str()
+    }
+
     /// The session. A thread that panicked may have left an answer behind, so it is then opened anew.
     fn lock(&self) -> MutexGuard<'_, State> {
         self.state.lock().unwrap_or_else(|poisoned| {

@@ -21,7 +21,7 @@ pub(crate) struct Ends {
 /// The nodes and roots of a builder and of a store.
 #[derive(Clone, PartialEq, Eq, Debug, Default)]
 #[cfg_attr(hir_serde, derive(serde::Serialize, serde::Deserialize))]
-#[cfg_attr(hir_serde, serde(default))]
+#[cfg_attr(hir_serde, serde(default, deny_unknown_fields))]
 pub(crate) struct Nodes {
     pub exprs: Arena<ExprId, Expr>,
     pub pats: Arena<PatId, Pat>,
@@ -34,9 +34,9 @@ pub(crate) struct Nodes {
     pub roots: Vec<ExprId>,
     /// For each root how many nodes there were when it was listed.
     pub ends: Vec<Ends>,
-    #[cfg_attr(hir_serde, serde(with = "crate::pairs"))]
+    #[cfg_attr(hir_serde, serde(with = "crate::serde::pairs"))]
     pub binding_owners: BTreeMap<BindingId, ExprId>,
-    #[cfg_attr(hir_serde, serde(with = "crate::pairs"))]
+    #[cfg_attr(hir_serde, serde(with = "crate::serde::pairs"))]
     pub hygiene: BTreeMap<ExprOrPatId, HygieneId>,
     pub block_scopes: Vec<BlockId>,
     pub sources: Sources,
@@ -69,6 +69,20 @@ impl Nodes {
         self.has_roots = true;
         self.roots.push(expr);
         self.ends.push(self.sizes());
+    }
+
+    /// Gives roots without ends those of all nodes, so that they may be left out of data; an error where there are ends of other roots.
+    #[cfg(hir_serde)]
+    pub(crate) fn mend(&mut self) -> Result<(), &'static str> {
+        self.has_roots |= !self.roots.is_empty();
+        if self.ends.is_empty() {
+            self.ends = vec![self.sizes(); self.roots.len()];
+        }
+        if self.ends.len() == self.roots.len() {
+            Ok(())
+        } else {
+            Err("there are as many ends as roots, or none")
+        }
     }
 
     fn sizes(&self) -> Ends {

@@ -8,6 +8,7 @@
 /// assert!(ExprPrecedence::Sum < ExprPrecedence::Product);
 /// ```
 #[derive(Clone, Copy, PartialEq, Eq, PartialOrd, Ord, Hash, Debug)]
+#[cfg_attr(hir_serde, derive(serde::Serialize, serde::Deserialize))]
 pub enum ExprPrecedence {
     /// `return`, `break`, `yield`, closures and the like.
     Jump,

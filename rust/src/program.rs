@@ -165,8 +165,8 @@ impl Program {
     /// Takes the lines of a text, and writes their answers to a buffer, as far as it goes; the rest is kept.
     pub(crate) fn ask_into(&mut self, text: &[u8], buffer: &mut [u8]) -> Result<Report, SessionError> {
         let before = self.lines;
-        let count = text.iter().filter(|byte| **byte == b'\n').count();
-        self.lines += count + usize::from(!text.is_empty() && !text.ends_with(b"\n")) + 1;
+        let ends = text.split(|byte| *byte == b'\n').count() - 1;
+        self.lines += ends + usize::from(!text.is_empty() && !text.ends_with(b"\n")) + 1;
         let status = if self.send(text)? {
             match first_refusal(&self.kept) {
                 Some(index) => Status::Refused(line_of_answer(text, index)),

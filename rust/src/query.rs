@@ -70,7 +70,7 @@ macro_rules! questions {
             $(
                 $(#[$meta])*
                 pub fn $name(&mut self $(, $arg: $ty)*) -> $crate::batch::Question<$result> {
-                    self.push($query)
+                    self.push(&$query)
                 }
             )*
         }

@@ -10,6 +10,7 @@ use crate::store::{ExprOrPatId, ExpressionStore};
 
 /// A scope of a chain: what it is the scope of, and what it binds.
 #[derive(Clone, PartialEq, Eq, Debug, Default)]
+#[cfg_attr(hir_serde, derive(serde::Serialize, serde::Deserialize))]
 pub struct Frame {
     /// The block with items of its own.
     pub block: Option<BlockId>,
@@ -23,6 +24,7 @@ pub struct Frame {
 
 /// A variable in a scope.
 #[derive(Clone, PartialEq, Eq, Hash, Debug)]
+#[cfg_attr(hir_serde, derive(serde::Serialize, serde::Deserialize))]
 pub struct ScopeEntry {
     /// Its name.
     pub name: Name,
@@ -34,6 +36,7 @@ pub struct ScopeEntry {
 
 /// An expansion of a macro that a body defines: a name of its hygiene may also resolve where the macro is defined.
 #[derive(Clone, Copy, PartialEq, Eq, Hash, Debug)]
+#[cfg_attr(hir_serde, derive(serde::Serialize, serde::Deserialize))]
 pub struct Expansion {
     /// The macro.
     pub macro_def: MacroDefId,
@@ -93,12 +96,11 @@ fn read_counts(text: &str) -> Option<ScopeCounts> {
 impl ExpressionStore {
     /// The scopes of the body that the store is of; of a store that is no body's, those that it has by itself.
     pub fn scopes(&self) -> Result<ExprScopes<'_>> {
-        let counts = match self.scope_counts.get() {
-            Some(counts) => *counts,
-            None => {
-                let counts = self.ask(&Query::new("scope-counts", read_counts))?;
-                *self.scope_counts.get_or_init(|| counts)
-            }
+        let counts = if let Some(counts) = self.scope_counts.get() {
+            *counts
+        } else {
+            let counts = self.ask(&Query::new("scope-counts", read_counts))?;
+            *self.scope_counts.get_or_init(|| counts)
         };
         Ok(ExprScopes {
             store: self,

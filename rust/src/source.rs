@@ -283,35 +283,35 @@ impl Notation for ExpressionStoreDiagnostics {
 /// The entries of a source map, as they were made: of entries for one key the last.
 #[derive(Clone, PartialEq, Eq, Debug, Default)]
 #[cfg_attr(hir_serde, derive(serde::Serialize, serde::Deserialize))]
-#[cfg_attr(hir_serde, serde(default))]
+#[cfg_attr(hir_serde, serde(default, deny_unknown_fields))]
 pub(crate) struct Sources {
-    #[cfg_attr(hir_serde, serde(with = "crate::pairs"))]
+    #[cfg_attr(hir_serde, serde(with = "crate::serde::pairs"))]
     pub exprs: BTreeMap<Source, ExprOrPatId>,
-    #[cfg_attr(hir_serde, serde(with = "crate::pairs"))]
+    #[cfg_attr(hir_serde, serde(with = "crate::serde::pairs"))]
     pub exprs_back: BTreeMap<ExprId, Source>,
-    #[cfg_attr(hir_serde, serde(with = "crate::pairs"))]
+    #[cfg_attr(hir_serde, serde(with = "crate::serde::pairs"))]
     pub pats: BTreeMap<Source, ExprOrPatId>,
-    #[cfg_attr(hir_serde, serde(with = "crate::pairs"))]
+    #[cfg_attr(hir_serde, serde(with = "crate::serde::pairs"))]
     pub pats_back: BTreeMap<PatId, Source>,
-    #[cfg_attr(hir_serde, serde(with = "crate::pairs"))]
+    #[cfg_attr(hir_serde, serde(with = "crate::serde::pairs"))]
     pub labels: BTreeMap<Source, LabelId>,
-    #[cfg_attr(hir_serde, serde(with = "crate::pairs"))]
+    #[cfg_attr(hir_serde, serde(with = "crate::serde::pairs"))]
     pub labels_back: BTreeMap<LabelId, Source>,
-    #[cfg_attr(hir_serde, serde(with = "crate::pairs"))]
+    #[cfg_attr(hir_serde, serde(with = "crate::serde::pairs"))]
     pub types: BTreeMap<Source, TypeRefId>,
-    #[cfg_attr(hir_serde, serde(with = "crate::pairs"))]
+    #[cfg_attr(hir_serde, serde(with = "crate::serde::pairs"))]
     pub types_back: BTreeMap<TypeRefId, Source>,
-    #[cfg_attr(hir_serde, serde(with = "crate::pairs"))]
+    #[cfg_attr(hir_serde, serde(with = "crate::serde::pairs"))]
     pub lifetimes: BTreeMap<Source, LifetimeRefId>,
-    #[cfg_attr(hir_serde, serde(with = "crate::pairs"))]
+    #[cfg_attr(hir_serde, serde(with = "crate::serde::pairs"))]
     pub lifetimes_back: BTreeMap<LifetimeRefId, Source>,
-    #[cfg_attr(hir_serde, serde(with = "crate::pairs"))]
+    #[cfg_attr(hir_serde, serde(with = "crate::serde::pairs"))]
     pub fields_back: BTreeMap<ExprId, Source>,
-    #[cfg_attr(hir_serde, serde(with = "crate::pairs"))]
+    #[cfg_attr(hir_serde, serde(with = "crate::serde::pairs"))]
     pub pat_fields_back: BTreeMap<PatId, Source>,
     /// In the order in which they were added.
     pub definitions: Vec<(BindingId, PatId)>,
-    #[cfg_attr(hir_serde, serde(with = "crate::pairs"))]
+    #[cfg_attr(hir_serde, serde(with = "crate::serde::pairs"))]
     pub expansions: BTreeMap<Source, MacroCallId>,
     /// In the order in which they were added.
     pub diagnostics: Vec<ExpressionStoreDiagnostics>,

@@ -8,11 +8,11 @@ use crate::hir::{
     TypeBound, TypeRef,
 };
 use crate::ids::{BindingId, BlockId, ExprId, Id, LabelId, LifetimeRefId, PatId, TypeRefId};
-use crate::link::Link;
 use crate::lines::Answer;
+use crate::link::{Link, Tail};
 use crate::name::HygieneId;
 use crate::nodes::Nodes;
-use crate::notation::{Notation, Words};
+use crate::notation::{Line, Notation, Words};
 use crate::prec::ExprPrecedence;
 use crate::query::{
     questions, read_answer, read_bool, read_id, read_ids, read_opt, read_opt_id, read_words, Query,
@@ -57,6 +57,7 @@ impl fmt::Display for ExprOrPatId {
 
 /// The child of a node, as a visitor gets it.
 #[derive(Clone, Copy, PartialEq, Eq, Hash, Debug)]
+#[cfg_attr(hir_serde, derive(serde::Serialize, serde::Deserialize))]
 pub enum Child {
     /// An expression.
     Expr(ExprId),
@@ -189,6 +190,22 @@ impl ExpressionStore {
     /// The answers to questions that look definitions up.
     pub(crate) fn ask_lines_with(&self, tables: &Tables, lines: &[&str]) -> Result<Vec<Answer>> {
         self.link.ask_with(&self.nodes, tables, lines)
+    }
+
+    /// Makes it that of an owner, or says why it isn't one's.
+    pub(crate) fn claim(&mut self, tail: Tail, fault: fn(&str) -> HirError) -> Result<()> {
+        self.link.claim(&self.nodes, tail, fault)?;
+        // The scopes of an owner aren't those that its store had by itself.
+        self.scope_counts = OnceLock::new();
+        Ok(())
+    }
+
+    /// The lines that make it and what owns it.
+    pub(crate) fn owned_lines(&self) -> String {
+        let mut line = Line::new();
+        self.nodes.write(&mut line);
+        line.lines(self.link.tail());
+        line.into_string()
     }
 
     /// An expression as text, in lines.
@@ -417,22 +434,22 @@ questions! {
 impl crate::batch::Batch<'_> {
     /// An expression as text, in lines.
     pub fn print_expr(&mut self, expr: ExprId, edition: Edition) -> crate::batch::Question<String> {
-        self.push(print_expr(expr, edition))
+        self.push(&print_expr(expr, edition))
     }
 
     /// A pattern as text, in lines.
     pub fn print_pat(&mut self, pat: PatId, edition: Edition) -> crate::batch::Question<String> {
-        self.push(print_pat(pat, false, edition))
+        self.push(&print_pat(pat, false, edition))
     }
 
     /// A pattern as text, in one line.
     pub fn print_pat_oneline(&mut self, pat: PatId, edition: Edition) -> crate::batch::Question<String> {
-        self.push(print_pat(pat, true, edition))
+        self.push(&print_pat(pat, true, edition))
     }
 
     /// A path over the types, lifetimes and constants of the store as text.
     pub fn print_path(&mut self, path: &Path, edition: Edition) -> crate::batch::Question<String> {
-        self.push(print_path(path, edition))
+        self.push(&print_path(path, edition))
     }
 }
 

@@ -1,12 +1,13 @@
 //! What is known of definitions: names, layouts, signatures and fields, which printed texts have.
 
-use crate::def::{AdtId, GenericDefId, LangItemTarget, NamedDef, VariantId};
+use crate::def::{GenericDefId, LangItemTarget, NamedDef, VariantId};
 use crate::fault::Missing;
 use crate::hir::{Expr, LifetimeRef, ModPath, Pat, Path, PathKind, TypeRef};
 use crate::ids::{CrateId, EnumId, EnumVariantId, StructId};
 use crate::name::Name;
 use crate::nodes::Nodes;
 use crate::notation::{Line, Notation};
+use crate::signature::{Signature, SignatureData, VariantFields};
 use std::collections::{BTreeSet, HashMap};
 use std::sync::atomic::{AtomicU64, Ordering};
 use std::sync::Arc;
@@ -150,8 +151,8 @@ impl Default for Tables {
     }
 }
 
-/// The name of a variant of an enum belongs to the variant's own definition.
-fn named(target: LangItemTarget) -> Option<NamedDef> {
+/// The definition whose name a lang item is printed by.
+fn name_of(target: LangItemTarget) -> Option<NamedDef> {
     match target {
         LangItemTarget::ImplId(_) => None,
         LangItemTarget::EnumId(id) => Some(id.into()),
@@ -227,9 +228,14 @@ impl Tables {
         self.add(Key::RawWords(edition), Entry::RawWords(words));
     }
 
-    /// The lines of a signature or of fields.
-    pub(crate) fn add_lines(&mut self, key: Key, lines: String) {
-        self.add(key, Entry::Lines(lines.into()));
+    /// The signature of its definition.
+    pub fn add_signature<D: SignatureData>(&mut self, signature: &Signature<D>) {
+        self.add(Key::Signature(signature.def()), Entry::Lines(signature.lines().into()));
+    }
+
+    /// The fields of their struct, union or variant.
+    pub fn add_fields(&mut self, fields: &VariantFields) {
+        self.add(Key::Fields(fields.variant()), Entry::Lines(fields.lines().into()));
     }
 
     fn entry(&self, key: Key) -> Option<&Entry> {
@@ -295,14 +301,14 @@ impl Tables {
         let exprs = nodes.exprs.values().filter_map(path_of_expr);
         let pats = nodes.pats.values().filter_map(path_of_pat);
         let types = nodes.types.values().filter_map(|ty| match ty {
-            TypeRef::Path(path) => Some(path),
+            TypeRef::Path(named) => Some(named),
             _ => None,
         });
-        for path in exprs.chain(pats).chain(types) {
-            match path {
-                Path::BarePath(path) => keys_of_mod_path(path, &mut keys),
-                Path::Normal(path) => keys_of_mod_path(&path.mod_path, &mut keys),
-                Path::LangItem(target, _) => keys.extend(named(*target).map(Key::Name)),
+        for named in exprs.chain(pats).chain(types) {
+            match named {
+                Path::BarePath(plain) => keys_of_mod_path(plain, &mut keys),
+                Path::Normal(normal) => keys_of_mod_path(&normal.mod_path, &mut keys),
+                Path::LangItem(target, _) => keys.extend(name_of(*target).map(Key::Name)),
             }
         }
         keys.extend(nodes.types.values().filter_map(|ty| match ty {
@@ -370,9 +376,4 @@ impl Tables {
         line.next_line();
         0
     }
-}
-
-/// The definition of a struct, as what has generic parameters.
-pub(crate) fn of_struct(id: StructId) -> GenericDefId {
-    GenericDefId::AdtId(AdtId::StructId(id))
 }

@@ -47,8 +47,16 @@ fn program() -> Option<OsString> {
     env::var_os(PROGRAM).filter(|name| !name.is_empty())
 }
 
+/// The version of the library that this package calls.
+#[cfg(hir_c)]
+const VERSION: u32 = 1;
+
 #[cfg(hir_c)]
 fn open_library() -> Result<Transport, SessionError> {
+    let version = ffi::version();
+    if version != VERSION {
+        return Err(SessionError::Version(version));
+    }
     match Library::open() {
         Some(library) => Ok(Transport::Library(library)),
         None => Err(SessionError::OutOfMemory),

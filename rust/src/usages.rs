@@ -15,6 +15,7 @@ use std::fmt;
 
 /// A use: an expression that is a path of one name, or such a path in the target of an assignment.
 #[derive(Clone, Copy, PartialEq, Eq, Hash, Debug)]
+#[cfg_attr(hir_serde, derive(serde::Serialize, serde::Deserialize))]
 pub struct Usage {
     /// The path.
     pub path: ExprOrPatId,
@@ -24,6 +25,7 @@ pub struct Usage {
 
 /// Why a binding may not get a name: the first reason, and of the last two that of the first use in the order of the walk over the body.
 #[derive(Clone, Copy, PartialEq, Eq, Hash, Debug)]
+#[cfg_attr(hir_serde, derive(serde::Serialize, serde::Deserialize))]
 pub enum RenameFault {
     /// No scope of the body has an entry of the binding.
     NotBound,
@@ -100,7 +102,7 @@ impl Error for RenameFault {}
 /// ```
 #[derive(Clone, PartialEq, Eq, Debug)]
 pub struct Usages {
-    usages: Vec<Usage>,
+    all: Vec<Usage>,
     of: HashMap<BindingId, Vec<ExprOrPatId>>,
     unresolved: Vec<ExprOrPatId>,
     unused: Vec<BindingId>,
@@ -117,7 +119,7 @@ impl Usages {
             }
         }
         Usages {
-            usages,
+            all: usages,
             of,
             unresolved,
             unused,
@@ -126,7 +128,7 @@ impl Usages {
 
     /// All uses, in the order of the walk that makes scopes.
     pub fn iter(&self) -> std::slice::Iter<'_, Usage> {
-        self.usages.iter()
+        self.all.iter()
     }
 
     /// The uses that resolve to a binding.
@@ -216,27 +218,27 @@ questions! {
 impl crate::batch::Batch<'_> {
     /// The uses of the body, each with the binding that it resolves to, in the order of the walk that makes scopes.
     pub fn usages(&mut self) -> crate::batch::Question<Vec<Usage>> {
-        self.push(Query::new("usages", read_usages))
+        self.push(&Query::new("usages", read_usages))
     }
 
     /// The uses that resolve to a binding.
     pub fn usages_of(&mut self, binding: BindingId) -> crate::batch::Question<Vec<ExprOrPatId>> {
-        self.push(Query::id("usages-of", binding, read_paths))
+        self.push(&Query::id("usages-of", binding, read_paths))
     }
 
     /// The uses that resolve to no variable.
     pub fn unresolved(&mut self) -> crate::batch::Question<Vec<ExprOrPatId>> {
-        self.push(Query::new("unresolved", read_paths))
+        self.push(&Query::new("unresolved", read_paths))
     }
 
     /// The bindings of the body that no use resolves to.
     pub fn unused(&mut self) -> crate::batch::Question<Vec<BindingId>> {
-        self.push(Query::new("unused", read_ids))
+        self.push(&Query::new("unused", read_ids))
     }
 
     /// The body as text in which the binding and its uses have a new name.
     pub fn renamed(&mut self, binding: BindingId, name: &Name, edition: Edition) -> crate::batch::Question<String> {
-        self.push(renamed_query(binding, name, edition))
+        self.push(&renamed_query(binding, name, edition))
     }
 }
 

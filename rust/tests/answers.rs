@@ -9,9 +9,9 @@ use hir_expr_store::hir::{
     Statement, TraitBoundModifier, TypeBound, TypeRef,
 };
 use hir_expr_store::{
-    Batch, BindingId, Body, BodyError, BodyFault, Child, Edition, ExprId, ExprOrPatId,
-    ExpressionStoreBuilder, FinishError, FinishFault, Frame, FunctionId, HygieneId, Missing, Name,
-    NamedDef, NodeId, Param, Refusal, ScopeEntry, StructId, Tables, TypeRefId,
+    Batch, BindingId, Body, BodyFault, Child, Edition, ExprId, ExprOrPatId,
+    ExpressionStoreBuilder, FinishFault, Frame, FunctionId, HirError, HygieneId, Missing, Name,
+    NamedDef, NodeId, Param, ScopeEntry, SessionError, StructId, Tables, TypeRefId,
 };
 use nodes::{bind, block, f, local};
 
@@ -91,8 +91,8 @@ fn closures_capture_what_they_use() -> Outcome {
     let unreached = batch.chain(ExprId::from_raw(1000));
     let answers = batch.ask()?;
     assert_eq!(answers.get(captures), Ok(vec![it.a]));
-    assert_eq!(answers.get(no_closure), Err(Refusal::NotAClosure));
-    assert_eq!(answers.get(absent), Err(Refusal::NotAClosure));
+    assert_eq!(answers.get(no_closure), Err(HirError::NotAClosure));
+    assert_eq!(answers.get(absent), Err(HirError::NotAClosure));
     for (a, d) in meanings {
         assert_eq!(answers.get(a), Ok(Some(it.a)));
         assert_eq!(answers.get(d), Ok(Some(it.d)));
@@ -123,7 +123,7 @@ fn closures_capture_what_they_use() -> Outcome {
             ..Frame::default()
         })
     );
-    assert_eq!(answers.get(unreached), Err(Refusal::Unreached));
+    assert_eq!(answers.get(unreached), Err(HirError::Unreached));
     Ok(())
 }
 
@@ -147,7 +147,7 @@ fn nodes_have_children_and_roots() -> Outcome {
     );
     assert_eq!(answers.get(root), Ok(it.body.root_expr()));
     assert_eq!(answers.get(of_binding), Ok(it.body.root_expr()));
-    assert_eq!(answers.get(absent), Err(Refusal::Unknown));
+    assert_eq!(answers.get(absent), Err(HirError::UnknownId));
     Ok(())
 }
 
@@ -156,16 +156,16 @@ fn bodies_are_printed_with_their_names() -> Outcome {
     let it = closure()?;
     let mut tables = Tables::new();
     let mut unnamed = Batch::of_body(&it.body);
-    let text = unnamed.print_body(Edition::Edition2021);
+    let text = unnamed.print_body(f(), Edition::Edition2021);
     assert_eq!(
         unnamed.ask()?.get(text),
-        Err(Refusal::Missing(Missing::Name(NamedDef::FunctionId(
+        Err(HirError::Missing(Missing::Name(NamedDef::FunctionId(
             FunctionId::from_raw(0)
         ))))
     );
     tables.add_name(FunctionId::from_raw(0), Some(&"f".into()));
     let mut named = Batch::of_body(&it.body).with_tables(&tables);
-    let text = named.print_body(Edition::Edition2021);
+    let text = named.print_body(f(), Edition::Edition2021);
     let closure = named.print_expr(it.at, Edition::Edition2024);
     let answers = named.ask()?;
     assert_eq!(
@@ -176,7 +176,7 @@ fn bodies_are_printed_with_their_names() -> Outcome {
     Ok(())
 }
 
-fn fault_of(builder: ExpressionStoreBuilder) -> FinishError {
+fn fault_of(builder: ExpressionStoreBuilder) -> HirError {
     builder.finish().unwrap_err().error
 }
 
@@ -185,7 +185,7 @@ fn builders_are_refused_by_their_first_fault() {
     let expr = |number| NodeId::Expr(ExprId::from_raw(number));
     let mut builder = ExpressionStoreBuilder::new();
     local(&mut builder, "a");
-    assert_eq!(fault_of(builder), FinishError::Fault(FinishFault::NoRoots));
+    assert_eq!(fault_of(builder), HirError::Store(FinishFault::NoRoots));
 
     let mut builder = ExpressionStoreBuilder::new();
     let a = local(&mut builder, "a");
@@ -193,7 +193,7 @@ fn builders_are_refused_by_their_first_fault() {
     builder.begin_roots();
     assert_eq!(
         fault_of(builder),
-        FinishError::Fault(FinishFault::SharedChild(expr(0)))
+        HirError::Store(FinishFault::SharedChild(expr(0)))
     );
 
     let mut builder = ExpressionStoreBuilder::new();
@@ -203,7 +203,7 @@ fn builders_are_refused_by_their_first_fault() {
     builder.begin_roots();
     assert_eq!(
         fault_of(builder),
-        FinishError::Fault(FinishFault::Cycle(expr(0)))
+        HirError::Store(FinishFault::Cycle(expr(0)))
     );
 
     let mut builder = ExpressionStoreBuilder::new();
@@ -214,7 +214,7 @@ fn builders_are_refused_by_their_first_fault() {
     let refused = builder.finish().unwrap_err();
     assert_eq!(
         refused.error,
-        FinishError::Fault(FinishFault::IdOutOfRange(expr(0)))
+        HirError::Store(FinishFault::IdOutOfRange(expr(0)))
     );
     assert_eq!(refused.builder.exprs().len(), 1);
 
@@ -222,7 +222,7 @@ fn builders_are_refused_by_their_first_fault() {
     builder.push_root(ExprId::from_raw(3));
     assert_eq!(
         fault_of(builder),
-        FinishError::Fault(FinishFault::RootOutOfRange(0))
+        HirError::Store(FinishFault::RootOutOfRange(0))
     );
 
     let mut builder = ExpressionStoreBuilder::new();
@@ -234,7 +234,7 @@ fn builders_are_refused_by_their_first_fault() {
     let node = NodeId::TypeRef(TypeRefId::from_raw(1));
     assert_eq!(
         fault_of(builder),
-        FinishError::Fault(FinishFault::NotAPath(node))
+        HirError::Store(FinishFault::NotAPath(node))
     );
 }
 
@@ -248,7 +248,7 @@ fn what_the_grammar_has_no_words_for_is_refused() {
     };
     builder.alloc_expr(Expr::Path(Path::Normal(Box::new(path))));
     builder.begin_roots();
-    assert!(matches!(fault_of(builder), FinishError::Call(_)));
+    assert!(matches!(fault_of(builder), HirError::Session(SessionError::BadLine(_))));
 }
 
 #[test]
@@ -260,16 +260,16 @@ fn bodies_are_refused_by_their_first_fault() -> Outcome {
     let store = builder.finish()?;
     let twice = vec![Param::new(a_pat), Param::new(a_pat)];
     let refused = Body::new(f(), store, twice, None).unwrap_err();
-    assert_eq!(refused.error, BodyError::Fault(BodyFault::ParamRepeated(1)));
+    assert_eq!(refused.error, HirError::Body(BodyFault::ParamRepeated(1)));
     let absent = Some(Param::new(BindingId::from_raw(9)));
     let refused = Body::new(f(), refused.store, Vec::new(), absent).unwrap_err();
-    assert_eq!(refused.error, BodyError::Fault(BodyFault::SelfOutOfRange));
+    assert_eq!(refused.error, HirError::Body(BodyFault::SelfOutOfRange));
     let body = Body::new(f(), refused.store, vec![Param::new(a_pat)], None)?;
     assert_eq!(body.root_expr(), root);
 
     let empty = ExpressionStoreBuilder::new().finish()?;
     let refused = Body::new(f(), empty, Vec::new(), None).unwrap_err();
-    assert_eq!(refused.error, BodyError::Fault(BodyFault::NoRoot));
+    assert_eq!(refused.error, HirError::Body(BodyFault::NoRoot));
     Ok(())
 }
 

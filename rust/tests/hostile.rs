@@ -1,4 +1,4 @@
-//! Hostile texts over the C call: noise, a line of 10 MB, absent ids, and a buffer of every length.
+//! Hostile texts: noise, a line of 10 MB, absent ids, and a buffer of every length, in one call and in a session.
 
 use hir_expr_store::lines::{answer, answer_into, Status};
 use std::fmt::Write;
@@ -9,7 +9,7 @@ const GUARD: u8 = 0xa5;
 /// The answers in a buffer of this length, behind which nothing may be written.
 fn answered(text: &[u8], length: usize) -> (Vec<u8>, usize) {
     let mut memory = vec![GUARD; length + 64];
-    let report = answer_into(text, &mut memory[..length]);
+    let report = answer_into(text, &mut memory[..length]).unwrap();
     assert_eq!(report.written, report.length.min(length));
     assert!(memory[report.written..].iter().all(|byte| *byte == GUARD));
     memory.truncate(report.written);
@@ -122,20 +122,20 @@ fn lines_of_words_in_any_order_are_answered() {
 #[test]
 fn bytes_that_are_no_text_are_a_bad_line() {
     let mut buffer = [0; 100];
-    let report = answer_into(b"nodes\n# \xff\nnodes\n", &mut buffer);
+    let report = answer_into(b"nodes\n# \xff\nnodes\n", &mut buffer).unwrap();
     assert_eq!(report.status, Status::BadLine(2));
     assert_eq!(
         &buffer[..report.written],
         b"= exprs 0 pats 0 bindings 0 labels 0 types 0 lifetimes 0\n"
     );
-    assert_eq!(answer_into(b"\xff", &mut buffer).status, Status::BadLine(1));
+    assert_eq!(answer_into(b"\xff", &mut buffer).unwrap().status, Status::BadLine(1));
     // The bad line is the first that is bad.
     assert_eq!(
-        answer_into(b"noise\n\xff", &mut buffer).status,
+        answer_into(b"noise\n\xff", &mut buffer).unwrap().status,
         Status::BadLine(1)
     );
     assert_eq!(
-        answer_into(b"nodes\n\n\xc3", &mut buffer).status,
+        answer_into(b"nodes\n\n\xc3", &mut buffer).unwrap().status,
         Status::BadLine(3)
     );
 }
@@ -144,13 +144,13 @@ fn bytes_that_are_no_text_are_a_bad_line() {
 fn a_line_of_10_mb_is_read() {
     let size = 10_000_000;
     let name = "n".repeat(size);
-    let outcome = answer(&format!("expr path {name}\nroots\nprint-expr 0\n"));
+    let outcome = answer(&format!("expr path {name}\nroots\nprint-expr 0\n")).unwrap();
     assert_eq!(outcome.status, Status::Answered);
     assert_eq!(outcome.answers.len(), size + 3);
-    let outcome = answer(&"x".repeat(size));
+    let outcome = answer(&"x".repeat(size)).unwrap();
     assert_eq!(outcome.status, Status::BadLine(1));
     let list = vec!["0"; size / 2].join(",");
-    let outcome = answer(&format!("expr missing\nexpr tuple {list}\nroots\nnodes\n"));
+    let outcome = answer(&format!("expr missing\nexpr tuple {list}\nroots\nnodes\n")).unwrap();
     assert_eq!(outcome.answers, "! SharedChild ExprId(0)\n");
 }
 
@@ -166,7 +166,7 @@ fn a_deep_tree_is_printed() {
         "root {depth}\nbody FunctionId(0)\nchain 0\nprint-expr {depth}"
     )
     .unwrap();
-    let outcome = answer(&text);
+    let outcome = answer(&text).unwrap();
     assert_eq!(outcome.status, Status::Answered);
     assert!(outcome.answers.ends_with(".await.await\n"));
 }
@@ -178,7 +178,7 @@ fn absent_ids_are_refused() {
         "expr missing\nroots\nchildren {most}\nprecedence 7\nchain {most}\ncaptures {most}\nroot-of expr:{most}\n\
          walk-pats {most}\nresolve {most} a\nprint-expr {most}\nprint-pat {most}\nowner-of {most}\nhygiene-of pat:{most}\n"
     );
-    let outcome = answer(&text);
+    let outcome = answer(&text).unwrap();
     assert_eq!(outcome.status, Status::Refused(3));
     assert_eq!(outcome.answers.lines().count(), 11);
 }
@@ -186,12 +186,12 @@ fn absent_ids_are_refused() {
 #[test]
 fn threads_don_t_disturb_each_other() {
     let text = "bind x\npat bind 0 -\nexpr path x\nroot 0\nparam 0\nbody FunctionId(0)\nchain 0\nresolve 0 x\n";
-    let wanted = answer(text);
+    let wanted = answer(text).unwrap();
     std::thread::scope(|scope| {
         for _ in 0..8 {
             scope.spawn(|| {
                 for _ in 0..200 {
-                    assert_eq!(answer(text), wanted);
+                    assert_eq!(answer(text).unwrap(), wanted);
                 }
             });
         }

@@ -4,7 +4,7 @@ mod common;
 
 use common::{is_of_answer, rows};
 use hir_expr_store::hir::{Binding, Expr, Label, LifetimeRef, Pat, TypeRef};
-use hir_expr_store::lines::answer;
+use hir_expr_store::lines::Session;
 use hir_expr_store::notation::Notation;
 use std::collections::BTreeSet;
 
@@ -98,14 +98,14 @@ fn rewritten(line: &str) -> Option<Option<String>> {
 }
 
 /// Whether the library makes the same node of two lines: it writes one line for both.
-fn are_equal(line: &str, written: &str) -> bool {
+fn are_equal(line: &str, written: &str, session: &mut Session) -> bool {
     let arena = match line.split_once(' ') {
         Some(("bind", _)) => "binding",
         Some((word, _)) => word,
         None => return false,
     };
-    let text = format!("{line}\n{written}\nroots\nline {arena}:0\nline {arena}:1\n");
-    match answer(&text).split().as_slice() {
+    let text = format!("begin\n{line}\n{written}\nroots\nline {arena}:0\nline {arena}:1\n");
+    match session.ask(&text).unwrap().as_slice() {
         [first, second] => !first.is_refusal && first == second,
         _ => false,
     }
@@ -125,6 +125,7 @@ fn each_node_is_read_and_written() {
     let mut forms = BTreeSet::new();
     let mut differences = BTreeSet::new();
     let (mut count, mut others) = (0, 0);
+    let mut session = Session::open().unwrap();
     for row in rows() {
         for line in row.lines.iter().filter(|line| !is_of_answer(line)) {
             let Some(written) = rewritten(line) else {
@@ -135,7 +136,7 @@ fn each_node_is_read_and_written() {
             match written {
                 Some(written) if written == *line => {}
                 // Characters in quotes may be written in several ways.
-                Some(written) if line.contains('"') && are_equal(line, &written) => others += 1,
+                Some(written) if line.contains('"') && are_equal(line, &written, &mut session) => others += 1,
                 written => {
                     differences.insert(format!("{}: {line} -> {written:?}", row.place));
                 }

@@ -1,9 +1,9 @@
-//! Each row of `crates/hir_golden/data`, asked over the C call, but for the lines that only golden cases have.
+//! Each row of `crates/hir_golden/data`, asked over a session, but for the lines that only golden cases have.
 
 mod common;
 
 use common::{is_of_answer, rows};
-use hir_expr_store::lines::{answer, Status};
+use hir_expr_store::lines::{answer, Answer, Session, Status};
 
 /// How often something stands there, and what, behind the mark of a line that stands for more than it has.
 fn counted(behind: Option<&str>) -> Option<(u32, &str)> {
@@ -109,6 +109,22 @@ fn split_answers(answers: &str) -> Vec<String> {
     split
 }
 
+/// The answer of a session, as its lines.
+fn joined(answer: &Answer) -> String {
+    let mut text = String::new();
+    let mut mark = if answer.is_refusal { '!' } else { '=' };
+    for line in answer.text.split('\n') {
+        text.push(mark);
+        if !line.is_empty() {
+            text.push(' ');
+        }
+        text.push_str(line);
+        text.push('\n');
+        mark = '|';
+    }
+    text
+}
+
 /// The text of these lines, with all that they stand for.
 fn text_of(lines: &[String]) -> String {
     let mut text = String::new();
@@ -137,7 +153,7 @@ fn each_row_has_its_answers() {
     let rows = rows();
     for row in &rows {
         let asked = without_probes(&text_of(&row.lines));
-        let outcome = answer(&asked.text);
+        let outcome = answer(&asked.text).unwrap();
         let is_read = matches!(outcome.status, Status::Answered | Status::Refused(_));
         let came = split_answers(&outcome.answers);
         let agree = came.len() == asked.wanted.len()
@@ -153,5 +169,33 @@ fn each_row_has_its_answers() {
     }
     assert!(rows.len() > 1000, "{} rows", rows.len());
     assert!(compared > 3000, "{compared} answers");
+    assert!(differences.is_empty(), "{differences:#?}");
+}
+
+/// The place after so many of the lines of a text.
+fn place_of(text: &str, count: usize) -> usize {
+    text.split_inclusive('\n').take(count).map(str::len).sum()
+}
+
+#[test]
+fn a_session_answers_a_row_in_parts() {
+    let mut differences = Vec::new();
+    for (number, row) in rows().iter().enumerate() {
+        let asked = without_probes(&text_of(&row.lines));
+        let cut = place_of(&asked.text, number % (asked.text.lines().count() + 1));
+        let (front, rest) = asked.text.split_at(cut);
+        let mut session = Session::open().unwrap();
+        let mut came = session.ask(front).unwrap();
+        came.extend(session.ask(rest).unwrap());
+        let agree = came.len() == asked.wanted.len()
+            && asked
+                .wanted
+                .iter()
+                .zip(&came)
+                .all(|(wanted, came)| wanted.as_ref().is_none_or(|it| *it == joined(came)));
+        if !agree {
+            differences.push(format!("{}", row.place));
+        }
+    }
     assert!(differences.is_empty(), "{differences:#?}");
 }

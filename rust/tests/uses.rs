@@ -9,7 +9,7 @@ use hir_expr_store::hir::{
 };
 use hir_expr_store::{
     Batch, BindingId, Body, Edition, ExprId, ExprOrPatId, ExpressionStoreBuilder, FunctionId,
-    HygieneId, LabelId, Missing, Name, NamedDef, NodeId, Param, PatId, Refusal, RenameFault,
+    HirError, HygieneId, LabelId, Missing, Name, NamedDef, NodeId, Param, PatId, RenameFault,
     ScopeEntry, Tables, Usage,
 };
 use nodes::{bind, block, f, local};
@@ -66,8 +66,8 @@ fn uses_resolve_to_the_nearest_binding() -> Outcome {
     let of_absent = batch.usages_of(BindingId::from_raw(9));
     let unresolved = batch.unresolved();
     let unused = batch.unused();
-    let visible = batch.visible(tuple);
-    let unreached = batch.visible(ExprId::from_raw(1000));
+    let visible = batch.visible_names(tuple);
+    let unreached = batch.visible_names(ExprId::from_raw(1000));
     let to_y = batch.rename(x, &"y".into());
     let to_z = batch.rename(x, &"z".into());
     let of_shadow = batch.rename(shadow, &"y".into());
@@ -90,21 +90,32 @@ fn uses_resolve_to_the_nearest_binding() -> Outcome {
     assert_eq!(answers.get(unresolved)?, [ExprOrPatId::ExprId(at_z)]);
     assert_eq!(answers.get(unused)?, []);
     assert_eq!(answers.get(visible)?, [entry("x", shadow), entry("y", y)]);
-    assert_eq!(answers.get(unreached), Err(Refusal::Unreached));
-    assert_eq!(answers.get(to_y)?, Ok(vec![ExprOrPatId::ExprId(at_x)]));
+    assert_eq!(answers.get(unreached), Err(HirError::Unreached));
+    assert_eq!(answers.get(to_y)?, [ExprOrPatId::ExprId(at_x)]);
     assert_eq!(
-        answers.get(to_z)?,
-        Err(RenameFault::Captures {
+        answers.get(to_z),
+        Err(HirError::Rename(RenameFault::Captures {
             usage: ExprOrPatId::ExprId(at_z),
             was: None
-        })
+        }))
     );
-    assert_eq!(
-        answers.get(of_shadow)?,
-        Ok(vec![ExprOrPatId::ExprId(at_shadow)])
-    );
-    assert_eq!(answers.get(absent)?, Err(RenameFault::NotBound));
-    assert_eq!(answers.get(to_other)?, Ok(vec![ExprOrPatId::ExprId(at_x)]));
+    assert_eq!(answers.get(of_shadow)?, [ExprOrPatId::ExprId(at_shadow)]);
+    assert_eq!(answers.get(absent), Err(HirError::Rename(RenameFault::NotBound)));
+    assert_eq!(answers.get(to_other)?, [ExprOrPatId::ExprId(at_x)]);
+
+    let all = body.usages()?;
+    assert_eq!(all.iter().copied().collect::<Vec<_>>(), answers.get(usages)?);
+    for binding in [x, y, shadow, BindingId::from_raw(9)] {
+        let wanted: Vec<ExprOrPatId> = all
+            .iter()
+            .filter(|usage| usage.binding == Some(binding))
+            .map(|usage| usage.path)
+            .collect();
+        assert_eq!(all.of(binding), wanted);
+    }
+    assert_eq!(all.unresolved(), answers.get(unresolved)?);
+    assert_eq!(all.unused(), answers.get(unused)?);
+    assert_eq!(body.scopes()?.visible_names(tuple)?, answers.get(visible)?);
     Ok(())
 }
 
@@ -172,7 +183,9 @@ fn renames_are_refused_with_the_first_reason() -> Outcome {
     let unused = batch.unused();
     let answers = batch.ask()?;
     for (question, (binding, name, wanted)) in questions.into_iter().zip(wanted) {
-        assert_eq!(answers.get(question)?, wanted, "{binding} to {name}");
+        let wanted = wanted.map_err(HirError::Rename);
+        assert_eq!(answers.get(question), wanted, "{binding} to {name}");
+        assert_eq!(body.rename(binding, &name.into()), wanted);
     }
     assert_eq!(answers.get(unused)?, [y]);
     Ok(())
@@ -197,18 +210,19 @@ fn renamed_bodies_are_printed() -> Outcome {
     let body = Body::new(f(), builder.finish()?, vec![Param::new(record)], None)?;
 
     let mut unnamed = Batch::of_body(&body);
-    let text = unnamed.print_renamed(x, &"y".into(), Edition::Edition2021);
+    let text = unnamed.renamed(x, &"y".into(), Edition::Edition2021);
     let missing = Missing::Name(NamedDef::FunctionId(FunctionId::from_raw(0)));
-    assert_eq!(unnamed.ask()?.get(text), Err(Refusal::Missing(missing)));
+    assert_eq!(unnamed.ask()?.get(text), Err(HirError::Missing(missing)));
     let mut tables = Tables::new();
     tables.add_name(FunctionId::from_raw(0), Some(&"f".into()));
     let mut batch = Batch::of_body(&body).with_tables(&tables);
-    let text = batch.print_renamed(x, &"y".into(), Edition::Edition2021);
-    let to_self = batch.print_renamed(x, &"self".into(), Edition::Edition2021);
+    let text = batch.renamed(x, &"y".into(), Edition::Edition2021);
+    let to_self = batch.renamed(x, &"self".into(), Edition::Edition2021);
     let answers = batch.ask()?;
     let wanted = "fn f(P {\n    x: y,\n}) {\n    y\n}";
-    assert_eq!(answers.get(text)?.as_deref(), Ok(wanted));
-    assert_eq!(answers.get(to_self)?, Err(RenameFault::IsSelf));
+    assert_eq!(answers.get(text)?, wanted);
+    assert_eq!(answers.get(to_self), Err(HirError::Rename(RenameFault::IsSelf)));
+    assert_eq!(body.renamed(x, &"y".into(), &tables, Edition::Edition2021)?, wanted);
     Ok(())
 }
 
@@ -222,11 +236,11 @@ fn a_store_without_a_body_has_no_uses() -> Outcome {
     let usages = batch.usages();
     let unused = batch.unused();
     let rename = batch.rename(BindingId::from_raw(0), &Name::new("y"));
-    let visible = batch.visible(at_x);
+    let visible = batch.visible_names(at_x);
     let answers = batch.ask()?;
-    assert_eq!(answers.get(usages), Err(Refusal::Unknown));
-    assert_eq!(answers.get(unused), Err(Refusal::Unknown));
-    assert_eq!(answers.get(rename), Err(Refusal::Unknown));
+    assert_eq!(answers.get(usages), Err(HirError::UnknownId));
+    assert_eq!(answers.get(unused), Err(HirError::UnknownId));
+    assert_eq!(answers.get(rename), Err(HirError::UnknownId));
     assert_eq!(answers.get(visible)?, []);
     Ok(())
 }

@@ -4,6 +4,7 @@ use crate::name::{HygieneId, Name};
 
 /// A label of a block or a loop.
 #[derive(Clone, PartialEq, Eq, Debug)]
+#[cfg_attr(hir_serde, derive(serde::Serialize, serde::Deserialize))]
 pub struct Label {
     /// Its name, with the `'` at its front.
     pub name: Name,
@@ -11,6 +12,7 @@ pub struct Label {
 
 /// The words before the name of a binding.
 #[derive(Clone, Copy, PartialEq, Eq, Debug, Default)]
+#[cfg_attr(hir_serde, derive(serde::Serialize, serde::Deserialize))]
 pub enum BindingAnnotation {
     /// None.
     #[default]
@@ -37,6 +39,7 @@ impl BindingAnnotation {
 
 /// What is wrong with a binding of a pattern.
 #[derive(Clone, Copy, PartialEq, Eq, Debug)]
+#[cfg_attr(hir_serde, derive(serde::Serialize, serde::Deserialize))]
 pub enum BindingProblems {
     /// Its pattern binds the name more than once.
     BoundMoreThanOnce,
@@ -48,6 +51,7 @@ pub enum BindingProblems {
 
 /// A variable that a pattern brings into scope.
 #[derive(Clone, PartialEq, Eq, Debug)]
+#[cfg_attr(hir_serde, derive(serde::Serialize, serde::Deserialize))]
 pub struct Binding {
     /// Its name.
     pub name: Name,

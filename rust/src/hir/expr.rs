@@ -6,6 +6,7 @@ use crate::name::Name;
 
 /// What comes behind the fields of a record literal.
 #[derive(Clone, Copy, PartialEq, Eq, Debug)]
+#[cfg_attr(hir_serde, derive(serde::Serialize, serde::Deserialize))]
 pub enum RecordSpread {
     /// Nothing.
     None,
@@ -17,6 +18,7 @@ pub enum RecordSpread {
 
 /// Whether a block is unsafe.
 #[derive(Clone, Copy, PartialEq, Eq, Debug)]
+#[cfg_attr(hir_serde, derive(serde::Serialize, serde::Deserialize))]
 pub enum Unsafe {
     /// It is.
     Yes,
@@ -26,6 +28,7 @@ pub enum Unsafe {
 
 /// The word that a loop was written with.
 #[derive(Clone, Copy, PartialEq, Eq, Debug)]
+#[cfg_attr(hir_serde, derive(serde::Serialize, serde::Deserialize))]
 pub enum LoopSource {
     /// `loop`
     Loop,
@@ -37,6 +40,7 @@ pub enum LoopSource {
 
 /// The place of a field in a type, as `offset_of!` asks for it.
 #[derive(Clone, PartialEq, Eq, Debug)]
+#[cfg_attr(hir_serde, derive(serde::Serialize, serde::Deserialize))]
 pub struct OffsetOf {
     /// The type.
     pub container: TypeRefId,
@@ -46,6 +50,7 @@ pub struct OffsetOf {
 
 /// The words before a coroutine.
 #[derive(Clone, Copy, PartialEq, Eq, Hash, Debug)]
+#[cfg_attr(hir_serde, derive(serde::Serialize, serde::Deserialize))]
 pub enum CoroutineKind {
     /// `async`
     Async,
@@ -57,6 +62,7 @@ pub enum CoroutineKind {
 
 /// Where a coroutine comes from.
 #[derive(Clone, Copy, PartialEq, Eq, Hash, Debug)]
+#[cfg_attr(hir_serde, derive(serde::Serialize, serde::Deserialize))]
 pub enum CoroutineSource {
     /// A block, as `async {}`.
     Block,
@@ -68,6 +74,7 @@ pub enum CoroutineSource {
 
 /// Whether a coroutine may be moved once it has begun.
 #[derive(Clone, Copy, PartialEq, Eq, Hash, Debug)]
+#[cfg_attr(hir_serde, derive(serde::Serialize, serde::Deserialize))]
 pub enum Movability {
     /// It may not.
     Static,
@@ -77,6 +84,7 @@ pub enum Movability {
 
 /// What a closure expression makes.
 #[derive(Clone, Copy, PartialEq, Eq, Hash, Debug)]
+#[cfg_attr(hir_serde, derive(serde::Serialize, serde::Deserialize))]
 pub enum ClosureKind {
     /// A closure.
     Closure,
@@ -95,6 +103,7 @@ pub enum ClosureKind {
 
 /// How a closure takes the variables around it.
 #[derive(Clone, Copy, PartialEq, Eq, Debug)]
+#[cfg_attr(hir_serde, derive(serde::Serialize, serde::Deserialize))]
 pub enum CaptureBy {
     /// By value: `move`.
     Value,
@@ -104,6 +113,7 @@ pub enum CaptureBy {
 
 /// An array.
 #[derive(Clone, PartialEq, Eq, Debug)]
+#[cfg_attr(hir_serde, derive(serde::Serialize, serde::Deserialize))]
 pub enum Array {
     /// `[a, b]`
     ElementList {
@@ -121,6 +131,7 @@ pub enum Array {
 
 /// An arm of a match.
 #[derive(Clone, PartialEq, Eq, Debug)]
+#[cfg_attr(hir_serde, derive(serde::Serialize, serde::Deserialize))]
 pub struct MatchArm {
     /// Its pattern.
     pub pat: PatId,
@@ -132,6 +143,7 @@ pub struct MatchArm {
 
 /// A field of a record literal.
 #[derive(Clone, PartialEq, Eq, Debug)]
+#[cfg_attr(hir_serde, derive(serde::Serialize, serde::Deserialize))]
 pub struct RecordLitField {
     /// Its name.
     pub name: Name,
@@ -141,6 +153,7 @@ pub struct RecordLitField {
 
 /// An item among statements.
 #[derive(Clone, Copy, PartialEq, Eq, Debug)]
+#[cfg_attr(hir_serde, derive(serde::Serialize, serde::Deserialize))]
 pub enum Item {
     /// The definition of a macro, which later statements see.
     MacroDef(MacroDefId),
@@ -150,6 +163,7 @@ pub enum Item {
 
 /// A statement of a block.
 #[derive(Clone, PartialEq, Eq, Debug)]
+#[cfg_attr(hir_serde, derive(serde::Serialize, serde::Deserialize))]
 pub enum Statement {
     /// `let`
     Let {
@@ -175,6 +189,7 @@ pub enum Statement {
 
 /// An expression.
 #[derive(Clone, PartialEq, Eq, Debug)]
+#[cfg_attr(hir_serde, derive(serde::Serialize, serde::Deserialize))]
 pub enum Expr {
     /// Nothing was there.
     Missing,

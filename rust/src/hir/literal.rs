@@ -2,6 +2,7 @@
 
 /// A type of signed numbers.
 #[derive(Clone, Copy, PartialEq, Eq, Hash, Debug)]
+#[cfg_attr(hir_serde, derive(serde::Serialize, serde::Deserialize))]
 pub enum BuiltinInt {
     /// `isize`
     Isize,
@@ -19,6 +20,7 @@ pub enum BuiltinInt {
 
 /// A type of unsigned numbers.
 #[derive(Clone, Copy, PartialEq, Eq, Hash, Debug)]
+#[cfg_attr(hir_serde, derive(serde::Serialize, serde::Deserialize))]
 pub enum BuiltinUint {
     /// `usize`
     Usize,
@@ -36,6 +38,7 @@ pub enum BuiltinUint {
 
 /// A type of floating point numbers.
 #[derive(Clone, Copy, PartialEq, Eq, Hash, Debug)]
+#[cfg_attr(hir_serde, derive(serde::Serialize, serde::Deserialize))]
 pub enum BuiltinFloat {
     /// `f16`
     F16,
@@ -49,6 +52,7 @@ pub enum BuiltinFloat {
 
 /// A floating point number, kept as its text, so that it is rounded once, by whoever reads it as a number.
 #[derive(Clone, PartialEq, Eq, Debug)]
+#[cfg_attr(hir_serde, derive(serde::Serialize, serde::Deserialize))]
 pub struct FloatTypeWrapper(String);
 
 impl FloatTypeWrapper {
@@ -65,6 +69,7 @@ impl FloatTypeWrapper {
 
 /// A literal. A number may have its type written behind it.
 #[derive(Clone, PartialEq, Eq, Debug)]
+#[cfg_attr(hir_serde, derive(serde::Serialize, serde::Deserialize))]
 pub enum Literal {
     /// A text.
     String(String),

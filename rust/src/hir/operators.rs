@@ -2,6 +2,7 @@
 
 /// Operators on numbers and bits. Each may also come before `=`.
 #[derive(Clone, Copy, PartialEq, Eq, Hash, Debug)]
+#[cfg_attr(hir_serde, derive(serde::Serialize, serde::Deserialize))]
 pub enum ArithOp {
     /// `+`
     Add,
@@ -27,6 +28,7 @@ pub enum ArithOp {
 
 /// Operators on truth values, which don't compute their right side where the left side decides.
 #[derive(Clone, Copy, PartialEq, Eq, Hash, Debug)]
+#[cfg_attr(hir_serde, derive(serde::Serialize, serde::Deserialize))]
 pub enum LogicOp {
     /// `&&`
     And,
@@ -36,6 +38,7 @@ pub enum LogicOp {
 
 /// Which side of a comparison has to be the smaller.
 #[derive(Clone, Copy, PartialEq, Eq, Hash, Debug)]
+#[cfg_attr(hir_serde, derive(serde::Serialize, serde::Deserialize))]
 pub enum Ordering {
     /// `<` and `<=`
     Less,
@@ -45,6 +48,7 @@ pub enum Ordering {
 
 /// Comparisons.
 #[derive(Clone, Copy, PartialEq, Eq, Hash, Debug)]
+#[cfg_attr(hir_serde, derive(serde::Serialize, serde::Deserialize))]
 pub enum CmpOp {
     /// `==`, or `!=` where it is negated.
     Eq {
@@ -62,6 +66,7 @@ pub enum CmpOp {
 
 /// Operators between two expressions.
 #[derive(Clone, Copy, PartialEq, Eq, Hash, Debug)]
+#[cfg_attr(hir_serde, derive(serde::Serialize, serde::Deserialize))]
 pub enum BinaryOp {
     /// `&&` or `||`
     LogicOp(LogicOp),
@@ -78,6 +83,7 @@ pub enum BinaryOp {
 
 /// Operators of ranges.
 #[derive(Clone, Copy, PartialEq, Eq, Hash, Debug)]
+#[cfg_attr(hir_serde, derive(serde::Serialize, serde::Deserialize))]
 pub enum RangeOp {
     /// `..`, without the end.
     Exclusive,
@@ -87,6 +93,7 @@ pub enum RangeOp {
 
 /// Operators before an expression.
 #[derive(Clone, Copy, PartialEq, Eq, Hash, Debug)]
+#[cfg_attr(hir_serde, derive(serde::Serialize, serde::Deserialize))]
 pub enum UnaryOp {
     /// `*`
     Deref,

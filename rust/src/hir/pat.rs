@@ -6,6 +6,7 @@ use crate::name::Name;
 
 /// A field of a record pattern.
 #[derive(Clone, PartialEq, Eq, Debug)]
+#[cfg_attr(hir_serde, derive(serde::Serialize, serde::Deserialize))]
 pub struct RecordFieldPat {
     /// Its name.
     pub name: Name,
@@ -15,6 +16,7 @@ pub struct RecordFieldPat {
 
 /// A pattern.
 #[derive(Clone, PartialEq, Eq, Debug)]
+#[cfg_attr(hir_serde, derive(serde::Serialize, serde::Deserialize))]
 pub enum Pat {
     /// Nothing was there.
     Missing,

@@ -6,6 +6,7 @@ use crate::name::Name;
 
 /// Where a path begins.
 #[derive(Clone, Copy, PartialEq, Eq, Hash, Debug)]
+#[cfg_attr(hir_serde, derive(serde::Serialize, serde::Deserialize))]
 pub enum PathKind {
     /// At a name that is in scope.
     Plain,
@@ -26,6 +27,7 @@ impl PathKind {
 
 /// A path without arguments: where it begins, and its segments.
 #[derive(Clone, PartialEq, Eq, Hash, Debug)]
+#[cfg_attr(hir_serde, derive(serde::Serialize, serde::Deserialize))]
 pub struct ModPath {
     /// Where it begins.
     pub kind: PathKind,
@@ -58,6 +60,7 @@ impl ModPath {
 
 /// A path.
 #[derive(Clone, PartialEq, Eq, Hash, Debug)]
+#[cfg_attr(hir_serde, derive(serde::Serialize, serde::Deserialize))]
 pub enum Path {
     /// A path with neither generic arguments nor a type anchor, as most are.
     BarePath(ModPath),
@@ -113,6 +116,7 @@ impl Path {
 ///
 /// There is one place for each segment: `Vec::<u8>::new` has the places `[Some([u8]), None]`. A store refuses a path with fewer or more.
 #[derive(Clone, PartialEq, Eq, Hash, Debug)]
+#[cfg_attr(hir_serde, derive(serde::Serialize, serde::Deserialize))]
 pub struct NormalPath {
     /// For each segment its arguments, if it has any.
     pub generic_args: Vec<Option<GenericArgs>>,
@@ -124,6 +128,7 @@ pub struct NormalPath {
 
 /// How generic arguments were written.
 #[derive(Clone, Copy, PartialEq, Eq, Hash, Debug, Default)]
+#[cfg_attr(hir_serde, derive(serde::Serialize, serde::Deserialize))]
 pub enum GenericArgsParentheses {
     /// Without parentheses.
     #[default]
@@ -136,6 +141,7 @@ pub enum GenericArgsParentheses {
 
 /// The generic arguments of one segment, as the `<u8, Item = T>` of `Iter<u8, Item = T>`.
 #[derive(Clone, PartialEq, Eq, Hash, Debug, Default)]
+#[cfg_attr(hir_serde, derive(serde::Serialize, serde::Deserialize))]
 pub struct GenericArgs {
     /// The types, lifetimes and constants.
     pub args: Vec<GenericArg>,
@@ -149,6 +155,7 @@ pub struct GenericArgs {
 
 /// The binding or bounds of one associated type, as the `Item = T` of `Iterator<Item = T>`.
 #[derive(Clone, PartialEq, Eq, Hash, Debug)]
+#[cfg_attr(hir_serde, derive(serde::Serialize, serde::Deserialize))]
 pub struct AssociatedTypeBinding {
     /// The name of the associated type, as `Item`.
     pub name: Name,
@@ -162,6 +169,7 @@ pub struct AssociatedTypeBinding {
 
 /// One generic argument.
 #[derive(Clone, Copy, PartialEq, Eq, Hash, Debug)]
+#[cfg_attr(hir_serde, derive(serde::Serialize, serde::Deserialize))]
 pub enum GenericArg {
     /// A type.
     Ty(TypeRefId),
@@ -173,6 +181,7 @@ pub enum GenericArg {
 
 /// A constant in a type or an argument list: an expression that sees no local variables.
 #[derive(Clone, Copy, PartialEq, Eq, Hash, Debug)]
+#[cfg_attr(hir_serde, derive(serde::Serialize, serde::Deserialize))]
 pub struct ConstRef {
     /// The expression.
     pub expr: ExprId,
@@ -180,6 +189,7 @@ pub struct ConstRef {
 
 /// The id of a type that is a path. `finish` refuses a bound with any other type.
 #[derive(Clone, Copy, PartialEq, Eq, PartialOrd, Ord, Hash, Debug)]
+#[cfg_attr(hir_serde, derive(serde::Serialize, serde::Deserialize))]
 pub struct PathId(TypeRefId);
 
 impl PathId {
@@ -196,6 +206,7 @@ impl PathId {
 
 /// A bound: what a type has to be or to outlive.
 #[derive(Clone, PartialEq, Eq, Hash, Debug)]
+#[cfg_attr(hir_serde, derive(serde::Serialize, serde::Deserialize))]
 pub enum TypeBound {
     /// A trait, perhaps behind `?`.
     Path(PathId, TraitBoundModifier),
@@ -211,6 +222,7 @@ pub enum TypeBound {
 
 /// What a bound `use<..>` lists.
 #[derive(Clone, PartialEq, Eq, Hash, Debug)]
+#[cfg_attr(hir_serde, derive(serde::Serialize, serde::Deserialize))]
 pub enum UseArgRef {
     /// A type or constant parameter, by its name.
     Name(Name),
@@ -220,6 +232,7 @@ pub enum UseArgRef {
 
 /// The modifier before the trait of a bound.
 #[derive(Clone, Copy, PartialEq, Eq, Hash, Debug)]
+#[cfg_attr(hir_serde, derive(serde::Serialize, serde::Deserialize))]
 pub enum TraitBoundModifier {
     /// None.
     None,

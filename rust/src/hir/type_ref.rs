@@ -7,6 +7,7 @@ use crate::name::Name;
 
 /// Whether what is behind a reference or a pointer may be written.
 #[derive(Clone, Copy, PartialEq, Eq, Hash, Debug)]
+#[cfg_attr(hir_serde, derive(serde::Serialize, serde::Deserialize))]
 pub enum Mutability {
     /// It may only be read.
     Shared,
@@ -32,6 +33,7 @@ impl Mutability {
 
 /// Whether `&` makes a pointer or a reference.
 #[derive(Clone, Copy, PartialEq, Eq, Hash, Debug)]
+#[cfg_attr(hir_serde, derive(serde::Serialize, serde::Deserialize))]
 pub enum Rawness {
     /// A pointer: `&raw`.
     RawPtr,
@@ -57,6 +59,7 @@ impl Rawness {
 
 /// A calling convention.
 #[derive(Clone, PartialEq, Eq, Hash, Debug, Default)]
+#[cfg_attr(hir_serde, derive(serde::Serialize, serde::Deserialize))]
 pub enum ExternAbi {
     /// That of Rust.
     #[default]
@@ -75,6 +78,7 @@ pub enum ExternAbi {
 
 /// The type of a function pointer.
 #[derive(Clone, PartialEq, Eq, Hash, Debug)]
+#[cfg_attr(hir_serde, derive(serde::Serialize, serde::Deserialize))]
 pub struct FnType {
     /// The lifetimes of a `for<..>` before it, where one is written.
     pub binder: Option<Vec<Name>>,
@@ -90,6 +94,7 @@ pub struct FnType {
 
 /// The type of an array.
 #[derive(Clone, PartialEq, Eq, Hash, Debug)]
+#[cfg_attr(hir_serde, derive(serde::Serialize, serde::Deserialize))]
 pub struct ArrayType {
     /// The type of its items.
     pub ty: TypeRefId,
@@ -99,6 +104,7 @@ pub struct ArrayType {
 
 /// The type of a reference.
 #[derive(Clone, PartialEq, Eq, Hash, Debug)]
+#[cfg_attr(hir_serde, derive(serde::Serialize, serde::Deserialize))]
 pub struct RefType {
     /// The type of what it refers to.
     pub ty: TypeRefId,
@@ -110,6 +116,7 @@ pub struct RefType {
 
 /// A lifetime.
 #[derive(Clone, PartialEq, Eq, Hash, Debug)]
+#[cfg_attr(hir_serde, derive(serde::Serialize, serde::Deserialize))]
 pub enum LifetimeRef {
     /// A name, with the `'` at its front.
     Named(Name),
@@ -125,6 +132,7 @@ pub enum LifetimeRef {
 
 /// A type.
 #[derive(Clone, PartialEq, Eq, Hash, Debug)]
+#[cfg_attr(hir_serde, derive(serde::Serialize, serde::Deserialize))]
 pub enum TypeRef {
     /// `!`
     Never,

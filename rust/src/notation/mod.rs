@@ -10,8 +10,8 @@ mod line;
 mod literal;
 mod operators;
 mod pat;
-mod path;
-mod type_ref;
+pub(crate) mod path;
+pub(crate) mod type_ref;
 mod words;
 
 pub use line::Line;

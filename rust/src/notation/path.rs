@@ -87,7 +87,7 @@ fn write_trait(path: PathId, line: &mut Line) {
 }
 
 /// The names behind `for<`, to the end `>`.
-pub(super) fn read_binder(words: &mut Words<'_>) -> Option<Vec<Name>> {
+pub(crate) fn read_binder(words: &mut Words<'_>) -> Option<Vec<Name>> {
     let names = words.joined_or_none(",", Words::name)?;
     words.expect(">")?;
     Some(names)
@@ -355,11 +355,16 @@ fn write_segment(name: &Name, line: &mut Line) {
     join_name(name, is_kind(name.as_str()), line);
 }
 
+/// A path of names, after the last word without a space.
+pub(crate) fn join_mod_path(path: &ModPath, line: &mut Line) {
+    write_kind(path.kind, !path.segments.is_empty(), line);
+    line.joined("::", &path.segments, |line, name| write_segment(name, line));
+}
+
 impl Notation for ModPath {
     fn write(&self, line: &mut Line) {
         line.begin();
-        write_kind(self.kind, !self.segments.is_empty(), line);
-        line.joined("::", &self.segments, |line, name| write_segment(name, line));
+        join_mod_path(self, line);
     }
 
     fn read(words: &mut Words<'_>) -> Option<ModPath> {

@@ -7,7 +7,7 @@ use crate::ids::TypeRefId;
 use crate::name::Name;
 
 /// A word behind `extern:`; nothing for the convention of Rust.
-fn write_abi(abi: &ExternAbi, line: &mut Line) {
+pub(crate) fn write_abi(abi: &ExternAbi, line: &mut Line) {
     match abi {
         ExternAbi::Rust => {}
         ExternAbi::C => line.word("extern:C"),
