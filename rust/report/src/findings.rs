@@ -1,16 +1,17 @@
-//! What the store answers about a function.
+//! What the store says of a function.
 
 use crate::functions::Function;
-use crate::lower::{lower, tables, BindingSource, Lowered, Sources};
+use crate::lower::{tables, BindingSource, Lowered, Sources};
 use crate::span::{Place, Span};
-use hir_expr_store::{Batch, BindingId, Edition, HygieneId, Name, Refusal};
+use hir_expr_store::{Answers, Batch, BindingId, Edition, ExprOrPatId, HirError, HygieneId, Name, Question};
 use std::collections::{HashMap, HashSet};
-use std::error::Error;
 
 /// A name that is used, and what it means.
 pub struct Meaning {
     /// The name.
     pub name: Name,
+    /// Its path.
+    pub path: ExprOrPatId,
     /// Where it is written.
     pub span: Span,
     /// The variable; `None` where it is none.
@@ -46,7 +47,7 @@ pub enum Usage {
     Unused,
 }
 
-/// What the store answers about a function.
+/// What the store says of a function.
 pub struct Findings {
     /// The function's name, with what it is in.
     pub name: String,
@@ -58,20 +59,16 @@ pub struct Findings {
     pub text: String,
     /// How many expressions, patterns, bindings and types its body has.
     pub nodes: usize,
-    /// The bindings, by their ids.
-    pub bindings: Vec<BindingSource>,
-    /// Whether something uses each.
+    /// What its nodes were written as.
+    pub sources: Sources,
+    /// Whether something uses each binding.
     pub usages: HashMap<BindingId, Usage>,
-    /// The paths of one name, and what they mean.
+    /// The paths of one name that are reached, and what they resolve to.
     pub meanings: Vec<Meaning>,
     /// The closures.
     pub closures: Vec<Closure>,
     /// The jumps.
     pub jumps: Vec<Jump>,
-    /// Where each loop, and each block with a label, is written.
-    pub loops: Vec<Vec<Span>>,
-    /// What syn doesn't know, so that it is a missing node.
-    pub unknown: Vec<Span>,
     /// Names that no scope has, since their path isn't reached.
     pub unreached: Vec<Meaning>,
 }
@@ -95,52 +92,64 @@ fn usages(sources: &Sources, meanings: &[Meaning]) -> HashMap<BindingId, Usage> 
         .collect()
 }
 
-/// Asks the store about a function, in one call.
-pub fn ask(function: &Function<'_>) -> Result<Findings, Box<dyn Error>> {
-    let Lowered { body, sources } = lower(function.signature, function.block)?;
-    let names = tables(&function.signature.ident.to_string());
-    let mut batch = Batch::of_body(&body).with_tables(&names);
-    let text = batch.print_body(Edition::Edition2021);
-    let mut questions = Vec::new();
-    for it in &sources.uses {
-        questions.push(batch.resolve(it.at, &it.name, HygieneId::ROOT));
-    }
-    let mut captures = Vec::new();
-    for closure in &sources.closures {
-        captures.push(batch.captures(closure.expr));
-    }
-    let mut targets = Vec::new();
-    for jump in &sources.jumps {
-        targets.push(batch.jump_target(jump.expr));
-    }
-    let answers = batch.ask()?;
-    let mut meanings = Vec::new();
+/// The names that are used, with what each resolves to, and those of them that aren't reached.
+fn meanings(
+    sources: &Sources,
+    answers: &Answers,
+    questions: &[Question<Option<BindingId>>],
+) -> Result<(Vec<Meaning>, Vec<Meaning>), HirError> {
+    let mut reached = Vec::new();
     let mut unreached = Vec::new();
     for (it, question) in sources.uses.iter().zip(questions) {
         let meaning = |binding| Meaning {
             name: it.name.clone(),
+            path: it.path,
             span: it.span,
             binding,
         };
-        match answers.get(question) {
-            Ok(binding) => meanings.push(meaning(binding)),
-            Err(Refusal::Unreached) => unreached.push(meaning(None)),
-            Err(refusal) => return Err(refusal.into()),
+        match answers.get(*question) {
+            Ok(binding) => reached.push(meaning(binding)),
+            Err(HirError::Unreached) => unreached.push(meaning(None)),
+            Err(error) => return Err(error),
         }
     }
+    Ok((reached, unreached))
+}
+
+fn closures(
+    sources: &Sources,
+    answers: &Answers,
+    questions: &[Question<Vec<BindingId>>],
+) -> Result<Vec<Closure>, HirError> {
     let mut closures = Vec::new();
-    for (closure, question) in sources.closures.iter().zip(captures) {
-        match answers.get(question) {
+    for (closure, question) in sources.closures.iter().zip(questions) {
+        match answers.get(*question) {
             Ok(captures) => closures.push(Closure {
                 marks: closure.marks.clone(),
                 captures,
             }),
             // One that isn't reached, as in the length of an array type.
-            Err(Refusal::NotAClosure) => {}
-            Err(refusal) => return Err(refusal.into()),
+            Err(HirError::NotAClosure) => {}
+            Err(error) => return Err(error),
         }
     }
     closures.sort_by_key(|closure| closure.marks.first().copied());
+    Ok(closures)
+}
+
+/// Asks the store about a function, all at once.
+pub fn ask(function: &Function<'_>, lowered: Lowered) -> Result<Findings, HirError> {
+    let Lowered { body, sources } = lowered;
+    let tables = tables(&function.signature.ident.to_string());
+    let mut batch = Batch::of_body(&body).with_tables(&tables);
+    let text = batch.print_body(body.def(), Edition::Edition2021);
+    let uses = sources.uses.iter();
+    let resolved: Vec<_> = uses.map(|it| batch.resolve(it.at, &it.name, HygieneId::ROOT)).collect();
+    let captures: Vec<_> = sources.closures.iter().map(|it| batch.captures(it.expr)).collect();
+    let targets: Vec<_> = sources.jumps.iter().map(|it| batch.jump_target(it.expr)).collect();
+    let answers = batch.ask()?;
+    let (meanings, unreached) = meanings(&sources, &answers, &resolved)?;
+    let closures = closures(&sources, &answers, &captures)?;
     let mut jumps = Vec::new();
     for (jump, question) in sources.jumps.iter().zip(targets) {
         let target = answers.get(question)?;
@@ -150,10 +159,7 @@ pub fn ask(function: &Function<'_>) -> Result<Findings, Box<dyn Error>> {
             target: sources.loops.iter().position(|it| Some(it.expr) == target),
         });
     }
-    let loops = sources.loops.iter().map(|it| it.marks.clone()).collect();
-    let store = body.store();
-    let nodes =
-        store.exprs().len() + store.pats().len() + store.bindings().len() + store.types().len();
+    let nodes = body.exprs().len() + body.pats().len() + body.bindings().len() + body.types().len();
     Ok(Findings {
         name: function.name.clone(),
         place: function.place,
@@ -164,22 +170,20 @@ pub fn ask(function: &Function<'_>) -> Result<Findings, Box<dyn Error>> {
         meanings,
         closures,
         jumps,
-        loops,
-        unknown: sources.unknown,
         unreached,
-        bindings: sources.bindings,
+        sources,
     })
 }
 
 impl Findings {
     /// A binding.
     pub fn binding(&self, id: BindingId) -> Option<&BindingSource> {
-        self.bindings.iter().find(|binding| binding.id == id)
+        self.sources.binding(id)
     }
 
     /// The bindings of the source with this usage, but for `self` and those whose name begins with `_`.
     pub fn with_usage(&self, usage: Usage) -> impl Iterator<Item = &BindingSource> {
-        self.bindings.iter().filter(move |binding| {
+        self.sources.bindings.iter().filter(move |binding| {
             self.usages.get(&binding.id) == Some(&usage)
                 && !binding.spans.is_empty()
                 && binding.name.as_str() != "self"

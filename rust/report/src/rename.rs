@@ -1,15 +1,16 @@
 //! A variable gets another name where the proved store says that every name resolves afterwards to what it resolved to before.
 
+use crate::constants::around_constants;
 use crate::edits::{Edit, Lines};
 use crate::functions::{functions, Function};
-use crate::lower::{lower, Lowered, Sources};
+use crate::lower::{lower, Lowered, Sources, Use};
 use crate::span::{Place, Span};
-use hir_expr_store::hir::{Expr, Statement};
-use hir_expr_store::{
-    Batch, BindingId, ExprId, ExprOrPatId, Name, NodeId, Refusal, RenameFault, TypeRefId,
-};
+use hir_expr_store::{Batch, BindingId, ExprOrPatId, HirError, Name, RenameFault};
+use std::cell::RefCell;
+use std::collections::HashMap;
 use std::error::Error;
 use std::fmt;
+use std::rc::Rc;
 
 /// What a variable is to be named.
 pub struct NewName {
@@ -135,11 +136,13 @@ pub struct Renamed {
 pub struct Renamer<'a> {
     lines: Lines<'a>,
     functions: Vec<(Span, Function<'a>)>,
+    /// The function that was lowered last, by its number: the next rename is often in the same one.
+    last: RefCell<Option<(usize, Rc<Lowered>)>>,
 }
 
 /// A function, and the variable of it that is written or used at a place.
 struct Found {
-    lowered: Lowered,
+    lowered: Rc<Lowered>,
     binding: BindingId,
 }
 
@@ -155,8 +158,7 @@ fn span_of(sources: &Sources, path: ExprOrPatId) -> Option<Span> {
 
 /// Where a binding is written first.
 fn place_of(sources: &Sources, id: BindingId) -> Option<Place> {
-    let found = sources.bindings.iter().find(|it| it.id == id)?;
-    Some(found.spans.first()?.start)
+    Some(sources.binding(id)?.spans.first()?.start)
 }
 
 impl<'a> Renamer<'a> {
@@ -166,7 +168,19 @@ impl<'a> Renamer<'a> {
         Renamer {
             lines: Lines::of(source),
             functions: functions.into_iter().map(|it| (it.span(), it)).collect(),
+            last: RefCell::new(None),
         }
+    }
+
+    /// A function's body.
+    fn lowered(&self, number: usize, function: &Function<'_>) -> Result<Rc<Lowered>, Box<dyn Error>> {
+        let mut last = self.last.borrow_mut();
+        if let Some((_, lowered)) = last.as_ref().filter(|(it, _)| *it == number) {
+            return Ok(Rc::clone(lowered));
+        }
+        let lowered = Rc::new(lower(function.signature, function.block)?);
+        *last = Some((number, Rc::clone(&lowered)));
+        Ok(lowered)
     }
 
     /// The lines of the source.
@@ -176,12 +190,9 @@ impl<'a> Renamer<'a> {
 
     /// The variable that is written or used at a place.
     fn find(&self, place: Place) -> Result<Result<Found, Refused>, Box<dyn Error>> {
-        let around = self
-            .functions
-            .iter()
-            .filter(|(span, _)| is_in(*span, place));
-        for (_, function) in around {
-            let lowered = lower(function.signature, function.block)?;
+        let functions = self.functions.iter().enumerate();
+        for (number, (_, function)) in functions.filter(|(_, (span, _))| is_in(*span, place)) {
+            let lowered = self.lowered(number, function)?;
             let sources = &lowered.sources;
             let mut bindings = sources.bindings.iter();
             let written = bindings.find(|it| it.spans.iter().any(|span| is_in(*span, place)));
@@ -191,9 +202,7 @@ impl<'a> Renamer<'a> {
             let Some(used) = sources.uses.iter().find(|it| is_in(it.span, place)) else {
                 continue;
             };
-            let mut batch = Batch::of_body(&lowered.body);
-            let usages = batch.usages();
-            let usages = batch.ask()?.get(usages)?;
+            let usages = lowered.body.usages()?;
             let usage = usages.iter().find(|it| it.path == used.path);
             return Ok(match usage.and_then(|it| it.binding) {
                 Some(binding) => Ok(Found { lowered, binding }),
@@ -219,14 +228,15 @@ impl<'a> Renamer<'a> {
         let renamed = batch.rename(binding, &new.name);
         let uses = batch.usages_of(binding);
         let answers = batch.ask()?;
-        let (uses, conflict) = match answers.get(renamed)? {
+        let (uses, conflict) = match answers.get(renamed) {
             Ok(uses) => (uses, in_constant(&lowered, binding, &new.name)?),
-            Err(fault) => {
+            Err(HirError::Rename(fault)) => {
                 let conflict = conflict(sources, fault, binding);
                 (answers.get(uses)?, Some(conflict))
             }
+            Err(error) => return Err(error.into()),
         };
-        let old = lowered.body.store()[binding].name.clone();
+        let old = lowered.body[binding].name.clone();
         let is_meant = |name: &Name| {
             let text = name.as_str();
             let text = text.strip_prefix("r#").unwrap_or(text);
@@ -257,10 +267,11 @@ impl<'a> Renamer<'a> {
         new: &NewName,
     ) -> Result<Vec<Edit>, Box<dyn Error>> {
         let mut spans = Vec::new();
-        let bindings = sources.bindings.iter().filter(|it| it.id == binding);
-        spans.extend(bindings.flat_map(|it| it.spans.iter().copied()));
+        let binding = sources.binding(binding).ok_or("a variable is written nowhere")?;
+        spans.extend(&binding.spans);
+        let written: HashMap<_, _> = sources.uses.iter().map(|it| (it.path, it.span)).collect();
         for path in uses {
-            spans.push(span_of(sources, *path).ok_or("a use is written nowhere")?);
+            spans.push(*written.get(path).ok_or("a use is written nowhere")?);
         }
         let mut edits = Vec::new();
         for span in spans {
@@ -286,103 +297,26 @@ impl<'a> Renamer<'a> {
 
 /// The name of a binding, and where it is written.
 fn variable(sources: &Sources, id: BindingId) -> (Name, Option<Place>) {
-    let found = sources.bindings.iter().find(|it| it.id == id);
-    let name = found.map_or_else(|| Name::new(""), |it| it.name.clone());
+    let name = sources.binding(id).map_or_else(|| Name::new(""), |it| it.name.clone());
     (name, place_of(sources, id))
 }
 
 /// The first use of a name in a constant that a binding is around, where the use resolves to no variable.
-///
-/// What is around a use is around its ancestors, but for those of a constant: they have the binding in their scopes, and the use hasn't.
-fn in_constant(
-    lowered: &Lowered,
-    binding: BindingId,
-    name: &Name,
-) -> Result<Option<Conflict>, Box<dyn Error>> {
+fn in_constant(lowered: &Lowered, binding: BindingId, name: &Name) -> Result<Option<Conflict>, HirError> {
     let sources = &lowered.sources;
-    let mut batch = Batch::of_body(&lowered.body);
-    let unresolved = batch.unresolved();
-    let mut asked = Vec::new();
-    for it in sources.uses.iter().filter(|it| it.name == *name) {
-        if let ExprOrPatId::ExprId(expr) = it.path {
-            asked.push((it, batch.ancestors(NodeId::Expr(expr))));
-        }
-    }
-    if asked.is_empty() {
-        return Ok(None);
-    }
-    let answers = batch.ask()?;
-    let unresolved = answers.get(unresolved)?;
-    for (it, ancestors) in asked {
-        if !unresolved.contains(&it.path) {
-            continue;
-        }
-        let around = exprs_around(lowered, &answers.get(ancestors)?);
-        if has_binding(lowered, &around, binding)? {
+    let of_name = |it: &&Use| it.is_in_constant && it.name == *name;
+    for found in around_constants(lowered, of_name)? {
+        let mut entries = found.chains.iter().flatten().flat_map(|frame| &frame.entries);
+        if entries.any(|entry| entry.binding == binding) {
             return Ok(Some(Conflict {
                 reason: Reason::InConstant,
                 variable: variable(sources, binding),
-                usage: Some(it.span.start),
+                usage: Some(found.usage.span.start),
                 other: None,
             }));
         }
     }
     Ok(None)
-}
-
-/// The expressions among ancestors. What is in the type of a `let` has beside them its value, since the block that it is in has the scope
-/// that is around the block.
-fn exprs_around(lowered: &Lowered, ancestors: &[NodeId]) -> Vec<ExprId> {
-    let mut around = Vec::new();
-    let mut below = None;
-    for node in ancestors {
-        if let NodeId::Expr(expr) = *node {
-            around.push(expr);
-            if let Some(NodeId::TypeRef(ty)) = below {
-                around.extend(value_of(&lowered.body.store()[expr], ty));
-            }
-        }
-        below = Some(*node);
-    }
-    around
-}
-
-/// The value of the `let` of a block that has this type.
-fn value_of(block: &Expr, ty: TypeRefId) -> Option<ExprId> {
-    let Expr::Block { statements, .. } = block else {
-        return None;
-    };
-    statements.iter().find_map(|statement| match statement {
-        Statement::Let {
-            type_ref: Some(it),
-            initializer,
-            ..
-        } if *it == ty => *initializer,
-        _ => None,
-    })
-}
-
-/// Whether the scope of one of these expressions has a binding.
-fn has_binding(
-    lowered: &Lowered,
-    exprs: &[ExprId],
-    binding: BindingId,
-) -> Result<bool, Box<dyn Error>> {
-    let mut batch = Batch::of_body(&lowered.body);
-    let frames: Vec<_> = exprs.iter().map(|expr| batch.frames(*expr)).collect();
-    let answers = batch.ask()?;
-    for question in frames {
-        let frames = match answers.get(question) {
-            Ok(frames) => frames,
-            Err(Refusal::Unreached) => continue,
-            Err(refusal) => return Err(refusal.into()),
-        };
-        let mut entries = frames.iter().flat_map(|frame| &frame.entries);
-        if entries.any(|entry| entry.binding == binding) {
-            return Ok(true);
-        }
-    }
-    Ok(false)
 }
 
 /// A fault with its places.

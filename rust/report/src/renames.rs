@@ -4,6 +4,7 @@ use crate::rename::{NewName, Reason, Refused, Renamed, Renamer};
 use crate::span::Place;
 use hir_expr_store::RenameFault;
 use std::error::Error;
+use std::fmt;
 use std::io::{BufRead, Write};
 
 /// A rename that is asked for.
@@ -34,7 +35,8 @@ fn place_of(text: &str) -> Option<Place> {
     })
 }
 
-fn parsed(file: &str, source: &str) -> Result<syn::File, Box<dyn Error>> {
+/// A source as syn has it.
+pub fn parsed(file: &str, source: &str) -> Result<syn::File, Box<dyn Error>> {
     Ok(syn::parse_file(source).map_err(|error| {
         let place = Place::from(error.span().start());
         format!("{file}:{place}: {error}")
@@ -42,27 +44,24 @@ fn parsed(file: &str, source: &str) -> Result<syn::File, Box<dyn Error>> {
 }
 
 /// What is at the front of some files, and counts for no place.
-const MARK: &str = "\u{feff}";
+pub const MARK: &str = "\u{feff}";
 
 /// Says what the store doesn't see.
-fn warn(file: &str, request: &Request, renamed: &Renamed) {
+fn warn(file: &str, request: &Request, renamed: &Renamed, said: &mut impl fmt::Write) -> fmt::Result {
     for (name, place) in &renamed.in_macros {
-        eprintln!("{file}:{place}: warning: a macro call has the name {name}, which isn't renamed");
+        writeln!(said, "{file}:{place}: warning: a macro call has the name {name}, which isn't renamed")?;
     }
     for place in &renamed.in_items {
-        eprintln!(
-            "{file}:{place}: warning: an item has this name, and may not see there what it means"
-        );
+        writeln!(said, "{file}:{place}: warning: an item has this name, and may not see there what it means")?;
     }
     for place in &renamed.unknown {
-        eprintln!(
-            "{file}:{place}: warning: what is written here isn't known, and may use the variable"
-        );
+        writeln!(said, "{file}:{place}: warning: what is written here isn't known, and may use the variable")?;
     }
     if request.name.begins_upper() {
         let place = request.place;
-        eprintln!("{file}:{place}: warning: a pattern with the name of an item is no variable");
+        writeln!(said, "{file}:{place}: warning: a pattern with the name of an item is no variable")?;
     }
+    Ok(())
 }
 
 /// Writes a file in which the variable at a place has another name, or says why there is no such file; returns whether there is.
@@ -71,6 +70,7 @@ pub fn write_renamed(
     source: &str,
     request: &Request,
     out: &mut impl Write,
+    said: &mut impl fmt::Write,
 ) -> Result<bool, Box<dyn Error>> {
     let place = request.place;
     let (mark, source) = match source.strip_prefix(MARK) {
@@ -80,13 +80,13 @@ pub fn write_renamed(
     let parsed = parsed(file, source)?;
     let functions = Renamer::new(source, &parsed);
     match functions.rename(place, &request.name)? {
-        Err(refused) => eprintln!("{file}:{place}: {refused}"),
+        Err(refused) => writeln!(said, "{file}:{place}: {refused}")?,
         Ok(Renamed {
             conflict: Some(conflict),
             ..
-        }) => eprintln!("{file}:{place}: {conflict}"),
+        }) => writeln!(said, "{file}:{place}: {conflict}")?,
         Ok(renamed) => {
-            warn(file, request, &renamed);
+            warn(file, request, &renamed, said)?;
             let changed = functions.lines().with(renamed.edits);
             let changed = changed.ok_or("a change isn't in the file")?;
             out.write_all(mark.as_bytes())?;
@@ -110,8 +110,8 @@ const fn word(reason: Reason) -> &'static str {
 }
 
 /// Reads a line `LINE:COLUMN NAME` for each rename, and writes a line for each, in parts with a tab before all but the first: `accepted`,
-/// the store's reason, or `absent`; how many names in macro calls and in items may be meant; and each change, as `3:5-3:6=name`, also of a rename that
-/// was refused.
+/// the store's reason and behind it the places of the use and of the other variable, or `absent`; how many names in macro calls and in items
+/// may be meant; and each change, as `3:5-3:6=name`, also of a rename that was refused.
 pub fn write_each(
     file: &str,
     source: &str,
@@ -130,10 +130,17 @@ pub fn write_each(
         match functions.rename(request.place, &request.name)? {
             Err(Refused::NoVariable | Refused::Unresolved(_)) => write!(out, "absent")?,
             Ok(renamed) => {
-                let verdict = renamed.conflict.map_or("accepted", |it| word(it.reason));
-                let unseen =
-                    renamed.in_macros.len() + renamed.in_items.len() + renamed.unknown.len();
-                write!(out, "{verdict}\t{unseen}")?;
+                match &renamed.conflict {
+                    None => write!(out, "accepted")?,
+                    Some(conflict) => {
+                        write!(out, "{}", word(conflict.reason))?;
+                        for place in [conflict.usage, conflict.other] {
+                            write!(out, " {}", place.map_or_else(|| String::from("-"), |it| it.to_string()))?;
+                        }
+                    }
+                }
+                let unseen = renamed.in_macros.len() + renamed.in_items.len() + renamed.unknown.len();
+                write!(out, "\t{unseen}")?;
                 for edit in renamed.edits {
                     write!(out, "\t{edit}")?;
                 }

@@ -88,7 +88,7 @@ pub fn write(findings: &Findings, out: &mut String) -> fmt::Result {
         findings.unreached.iter().map(of_meaning),
         out,
     )?;
-    for span in &findings.unknown {
+    for span in &findings.sources.unknown {
         writeln!(out, "  what syn doesn't know at {}", span.start)?;
     }
     Ok(())

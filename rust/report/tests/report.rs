@@ -109,84 +109,6 @@ fn nothing_uses_what_the_remarks_say() {
     assert_eq!(found, wanted);
 }
 
-/// The page of `data/names.rs`.
-fn page(test: &str) -> String {
-    let page = env::temp_dir().join(format!("hir-report-{test}-{}.html", std::process::id()));
-    let file = data("names.rs");
-    let args = [file.to_str().unwrap(), "--html", page.to_str().unwrap()];
-    assert!(run(&args).status.success());
-    let html = fs::read_to_string(&page).expect("the page");
-    fs::remove_file(&page).expect("the page is there");
-    html
-}
-
-/// The words in a line of a page that are marked as jumps or as what they leave, each with its key.
-fn jumps_in(html: &str, line: usize) -> Vec<(&str, &str)> {
-    let mark = format!("id=\"L{line}\"");
-    let line = html
-        .lines()
-        .find(|line| line.contains(&mark))
-        .expect("a line");
-    let marked = line.split(" data-j=\"").skip(1);
-    let found = marked.map(|rest| {
-        let (key, rest) = rest.split_once('"').expect("a key");
-        let (_, rest) = rest.split_once('>').expect("an element");
-        (rest.split('<').next().unwrap_or(rest), key)
-    });
-    found.collect()
-}
-
-#[test]
-fn a_page_shows_what_jumps_leave() {
-    let html = page("jumps");
-    let source = source();
-    let line_with = |text: &str| {
-        let line = source.lines().position(|line| line.contains(text));
-        line.expect("a line") + 1
-    };
-    let outer = jumps_in(&html, line_with("'outer: while"));
-    let key = outer[0].1;
-    assert_eq!(outer, [("'outer", key), ("while", key)]);
-    let go_on = jumps_in(&html, line_with("continue 'outer"));
-    assert_eq!(go_on, [("continue", key), ("'outer", key)]);
-    let plain = jumps_in(&html, line_with("i = loop {"));
-    let leave = jumps_in(&html, line_with("break i + 1"));
-    assert_eq!((plain[0].0, leave[0].0), ("loop", "break"));
-    assert_eq!(plain[0].1, leave[0].1);
-    assert_ne!(plain[0].1, key);
-    // The lowered end of a `for` has no place.
-    assert_eq!(jumps_in(&html, line_with("for j in")).len(), 1);
-    assert_eq!(html.matches("class=\"j\"").count(), 3);
-}
-
-#[test]
-fn a_page_has_the_source_and_no_outside_parts() {
-    let html = page("source");
-    assert_eq!(
-        html.matches("<span class=\"l").count(),
-        source().lines().count()
-    );
-    for outside in ["src=", "http:", "https:", "url(", "@import", "<link"] {
-        assert!(!html.contains(outside), "{outside}");
-    }
-    // The text between the marks is the source.
-    let start = html.find("<pre id=\"source\">").expect("the source") + "<pre id=\"source\">".len();
-    let marked = &html[start..start + html[start..].find("</pre>").expect("its end")];
-    let mut text = String::new();
-    let mut rest = marked;
-    while let Some(open) = rest.find('<') {
-        text.push_str(&rest[..open]);
-        rest = &rest[open + rest[open..].find('>').expect("its end") + 1..];
-    }
-    text.push_str(rest);
-    let text = text
-        .replace("&lt;", "<")
-        .replace("&gt;", ">")
-        .replace("&quot;", "\"")
-        .replace("&amp;", "&");
-    assert_eq!(text, source());
-}
-
 #[test]
 fn what_syn_doesn_t_know_is_refused_with_its_place() {
     let file = env::temp_dir().join(format!("hir-report-{}.rs", std::process::id()));
@@ -198,4 +120,66 @@ fn what_syn_doesn_t_know_is_refused_with_its_place() {
     assert!(said.contains(".rs:2:13: "), "{said}");
     assert_eq!(run(&[]).status.code(), Some(2));
     assert_eq!(run(&["--pages"]).status.code(), Some(2));
+}
+
+/// A folder of its own for a test, with files of this many functions each.
+fn folder_of(test: &str, functions: &[usize]) -> (PathBuf, Vec<String>) {
+    let folder = env::temp_dir().join(format!("hir-report-{test}-{}", std::process::id()));
+    fs::create_dir_all(&folder).expect("a folder");
+    let mut files = Vec::new();
+    for (number, count) in functions.iter().enumerate() {
+        let file = folder.join(format!("file{number}.rs"));
+        let function = |at| format!("fn f{number}_{at}(x: u8, y: u8) -> impl Fn() -> u8 {{ move || x }}\n");
+        fs::write(&file, (0..*count).map(function).collect::<String>()).expect("a file");
+        files.push(file.to_str().expect("text").to_string());
+    }
+    (folder, files)
+}
+
+fn texts(output: &Output) -> (String, String) {
+    let text = |bytes: &[u8]| String::from_utf8(bytes.to_vec()).expect("text");
+    (text(&output.stdout), text(&output.stderr))
+}
+
+#[test]
+fn files_in_threads_come_in_their_order() {
+    let (folder, mut files) = folder_of("threads", &[9, 0, 3, 1, 5, 2, 0, 4]);
+    fs::write(&files[3], "fn f( {").expect("a file");
+    files.insert(5, folder.join("absent.rs").to_str().expect("text").to_string());
+    let mut alone = (String::new(), String::new());
+    for file in &files {
+        let (out, said) = texts(&run(&[file]));
+        alone.0.push_str(&out);
+        alone.1.push_str(&said);
+    }
+    assert_eq!(alone.0.matches(" captures x of ").count(), 23);
+    assert_eq!(alone.1.lines().count(), 2);
+    for threads in ["1", "3", "64"] {
+        let args: Vec<&str> = files.iter().map(String::as_str).chain(["--threads", threads]).collect();
+        let output = run(&args);
+        assert_eq!(texts(&output), alone, "{threads}");
+        assert_eq!(output.status.code(), Some(1));
+    }
+    for wrong in ["0", "-1", "many"] {
+        assert_eq!(run(&[&files[0], "--threads", wrong]).status.code(), Some(2), "{wrong}");
+    }
+    fs::remove_dir_all(folder).expect("the folder is there");
+}
+
+#[test]
+fn several_pages_are_written_to_a_folder() {
+    let (folder, files) = folder_of("pages", &[2, 1]);
+    let pages = folder.join("pages");
+    let args = [&files[0], &files[1], "--html", pages.to_str().expect("text")];
+    assert_eq!(run(&args).status.code(), Some(2));
+    fs::create_dir(&pages).expect("a folder");
+    assert!(run(&args).status.success());
+    let mut counts = Vec::new();
+    for entry in fs::read_dir(&pages).expect("the pages") {
+        let html = fs::read_to_string(entry.expect("a page").path()).expect("a page");
+        counts.push(html.matches("<details ").count());
+    }
+    counts.sort_unstable();
+    assert_eq!(counts, [1, 2]);
+    fs::remove_dir_all(folder).expect("the folder is there");
 }

@@ -1,14 +1,15 @@
-//! What is marked in the source: variables, the names that mean them, closures, and jumps with what they leave.
+//! What is marked in the source: variables, the names that resolve to them, closures, and jumps with what they leave.
 
-use super::escaped;
+use super::facts::Facts;
+use super::{escaped, Function};
 use crate::findings::{Closure, Findings, Jump, Usage};
 use crate::span::{Place, Span};
 use hir_expr_store::BindingId;
-use std::collections::HashMap;
+use std::collections::{HashMap, HashSet};
 
 /// A piece of the source that is marked, and the attributes of its element.
 pub struct Mark {
-    /// The piece: it ends in the line that it begins in.
+    /// The piece: it ends in the line that it begins in. Without characters it is where a rename writes the name of a field.
     pub span: Span,
     /// The attributes.
     pub attributes: String,
@@ -19,63 +20,57 @@ fn key(function: usize, id: BindingId) -> String {
     format!("{function}.{}", id.into_raw())
 }
 
-/// What is said of a binding.
-fn about(found: &Findings, id: BindingId) -> String {
-    let Some(binding) = found.binding(id) else {
-        return String::new();
-    };
-    let meanings = found.meanings.iter();
-    let count = meanings.filter(|it| it.binding == Some(id)).count();
-    let what = if binding.is_param {
-        "parameter"
+/// The attribute of a name that is also that of a field, which a rename writes before it.
+fn field(function: usize, found: &Findings, name: Span) -> String {
+    if found.sources.short_fields.contains_key(&name.start) {
+        format!(" data-f=\"{function}.{}\"", name.start)
     } else {
-        "variable"
-    };
-    let line = match binding.spans.first() {
-        Some(span) => format!(" of line {}", span.start.line),
-        None => String::new(),
-    };
-    let uses = match (count, found.usages.get(&id)) {
-        (0, Some(Usage::PerhapsInMacro)) => String::from("used in a macro call, perhaps"),
-        (0, _) => String::from("nothing uses it"),
-        (1, _) => String::from("1 use"),
-        (count, _) => format!("{count} uses"),
-    };
-    format!("{}: {what}{line}, {uses}", binding.name)
-}
-
-/// The mark of a variable or of a name that means it.
-fn of_binding(function: usize, found: &Findings, id: BindingId, class: &str, span: Span) -> Mark {
-    let key = key(function, id);
-    let about = escaped(&about(found, id));
-    Mark {
-        span,
-        attributes: format!("class=\"{class}\" data-b=\"{key}\" data-t=\"{about}\""),
+        String::new()
     }
 }
 
 fn add_bindings(function: usize, found: &Findings, marks: &mut Vec<Mark>) {
-    let unused: Vec<BindingId> = found.with_usage(Usage::Unused).map(|it| it.id).collect();
-    for binding in &found.bindings {
+    let unused: HashSet<BindingId> = found.with_usage(Usage::Unused).map(|it| it.id).collect();
+    for binding in &found.sources.bindings {
         let is_unused = unused.contains(&binding.id);
         let class = if is_unused { "d unused" } else { "d" };
+        let key = key(function, binding.id);
         for span in &binding.spans {
-            marks.push(of_binding(function, found, binding.id, class, *span));
+            marks.push(Mark {
+                span: *span,
+                attributes: format!("class=\"{class}\" data-b=\"{key}\"{}", field(function, found, *span)),
+            });
         }
     }
 }
 
-fn add_uses(function: usize, found: &Findings, marks: &mut Vec<Mark>) {
+fn add_uses(function: usize, found: &Findings, facts: &Facts, marks: &mut Vec<Mark>) {
+    let numbers = facts.numbers(&found.sources);
     for meaning in &found.meanings {
-        marks.push(match meaning.binding {
-            Some(id) => of_binding(function, found, id, "u", meaning.span),
-            None => Mark {
-                span: meaning.span,
-                attributes: format!(
-                    "class=\"o\" data-t=\"{}: no variable\"",
-                    escaped(meaning.name.as_str())
-                ),
+        let class = if meaning.binding.is_some() { "u" } else { "o" };
+        let attributes = match numbers.get(&meaning.path) {
+            Some(number) => {
+                let field = field(function, found, meaning.span);
+                format!("class=\"{class}\" data-u=\"{function}.{number}\"{field}")
+            }
+            None => format!("class=\"{class}\""),
+        };
+        marks.push(Mark {
+            span: meaning.span,
+            attributes,
+        });
+    }
+}
+
+/// Where fields begin that are written as one name.
+fn add_fields(function: usize, found: &Findings, marks: &mut Vec<Mark>) {
+    for (name, start) in &found.sources.short_fields {
+        marks.push(Mark {
+            span: Span {
+                start: *start,
+                end: *start,
             },
+            attributes: format!("class=\"f\" data-at=\"{function}.{name}\""),
         });
     }
 }
@@ -112,8 +107,8 @@ fn add_closures(function: usize, found: &Findings, marks: &mut Vec<Mark>) {
 
 /// What is said of a jump.
 fn about_jump(found: &Findings, jump: &Jump) -> String {
-    let target = jump.target.and_then(|target| found.loops.get(target));
-    let Some(mark) = target.and_then(|marks| marks.first()) else {
+    let target = jump.target.and_then(|target| found.sources.loops.get(target));
+    let Some(mark) = target.and_then(|target| target.marks.first()) else {
         return String::from("leaves no loop or block of this function");
     };
     let line = mark.start.line;
@@ -151,9 +146,9 @@ fn add_jumps(function: usize, found: &Findings, marks: &mut Vec<Mark>) {
             });
         }
     }
-    for (number, spans) in found.loops.iter().enumerate() {
+    for (number, target) in found.sources.loops.iter().enumerate() {
         let about = about_loop(found, number);
-        for span in spans {
+        for span in &target.marks {
             marks.push(Mark {
                 span: *span,
                 attributes: format!(
@@ -165,11 +160,12 @@ fn add_jumps(function: usize, found: &Findings, marks: &mut Vec<Mark>) {
 }
 
 /// The marks of all functions by the line that they stand in, in their order; none lies in another.
-pub fn marks_by_line(findings: &[Findings]) -> HashMap<usize, Vec<Mark>> {
+pub fn marks_by_line(functions: &[Function<'_>]) -> HashMap<usize, Vec<Mark>> {
     let mut marks = Vec::new();
-    for (function, found) in findings.iter().enumerate() {
+    for (function, (found, facts)) in functions.iter().enumerate() {
         add_bindings(function, found, &mut marks);
-        add_uses(function, found, &mut marks);
+        add_uses(function, found, facts, &mut marks);
+        add_fields(function, found, &mut marks);
         add_closures(function, found, &mut marks);
         add_jumps(function, found, &mut marks);
     }

@@ -1,19 +1,30 @@
-//! One page of a file, without outside parts: pointing at a name lights up its variable and its other uses, at a closure what it captures,
-//! and at a jump what it leaves.
+//! One page of a file, without outside parts: the source, on which pointing at a name lights up its variable and its uses, at a closure what
+//! it captures, and at a jump what it leaves; and a field for a new name of a variable, which says what would change or what is in conflict.
 
+mod facts;
+mod json;
 mod marks;
 
 use crate::findings::{Closure, Findings, Usage};
 use crate::lower::BindingSource;
 use crate::span::Place;
+use json::Json;
 use marks::{captured_names, marks_by_line, Mark};
 use std::fmt::{self, Write};
+
+pub use facts::Facts;
+
+/// A function on the page.
+pub type Function<'a> = (&'a Findings, &'a Facts);
 
 /// The style of the page.
 const STYLE: &str = include_str!("page.css");
 
-/// What the page does.
-const SCRIPT: &str = include_str!("page.js");
+/// What the page does: what it reckons, and what it shows.
+const SCRIPTS: [&str; 2] = [include_str!("verdict.js"), include_str!("page.js")];
+
+/// What the page may do: nothing is loaded from anywhere, and nothing sent.
+const POLICY: &str = "default-src 'none'; style-src 'unsafe-inline'; script-src 'unsafe-inline'";
 
 /// A text, in which what HTML takes for marks is written in another way.
 fn escaped(text: &str) -> String {
@@ -52,8 +63,8 @@ fn write_line(line: &str, marks: &[Mark], out: &mut String) -> fmt::Result {
     out.write_str(&text(at, chars.len()))
 }
 
-fn write_source(source: &str, findings: &[Findings], out: &mut String) -> fmt::Result {
-    let marks = marks_by_line(findings);
+fn write_source(source: &str, functions: &[Function<'_>], out: &mut String) -> fmt::Result {
+    let marks = marks_by_line(functions);
     out.push_str("<pre id=\"source\">");
     for (index, line) in source.lines().enumerate() {
         let number = index + 1;
@@ -139,27 +150,51 @@ fn write_function(number: usize, found: &Findings, out: &mut String) -> fmt::Res
     )
 }
 
-/// The page of a file.
-pub fn page(file: &str, source: &str, findings: &[Findings]) -> Result<String, fmt::Error> {
-    let title = escaped(file.rsplit('/').next().unwrap_or(file));
-    let lines = source.lines().count();
-    let functions = findings.len();
-    let nodes: usize = findings.iter().map(|it| it.nodes).sum();
-    let mut out = format!(
-        "<!DOCTYPE html>\n<html lang=\"en\"><head><meta charset=\"utf-8\">\n\
-         <meta name=\"viewport\" content=\"width=device-width, initial-scale=1\">\n<title>{title}</title>\n\
-         <style>\n{STYLE}</style></head><body>\n\
-         <header><h1>{title}</h1><p>{lines} lines, {functions} functions, {nodes} nodes</p></header>\n<main>\n"
-    );
-    write_source(source, findings, &mut out)?;
-    out.push_str("<aside><h2>Functions</h2>\n");
-    for (number, found) in findings.iter().enumerate() {
-        write_function(number, found, &mut out)?;
-    }
+/// The beginning of a page, to the source.
+fn write_head(title: &str, counts: &str, out: &mut String) -> fmt::Result {
     write!(
         out,
-        "</aside></main>\n<footer id=\"about\">Point at a name, at the bars of a closure, or at a jump.</footer>\n\
-         <script>\n{SCRIPT}</script></body></html>\n"
+        "<!DOCTYPE html>\n<html lang=\"en\"><head><meta charset=\"utf-8\">\n\
+         <meta http-equiv=\"Content-Security-Policy\" content=\"{POLICY}\">\n\
+         <meta name=\"viewport\" content=\"width=device-width, initial-scale=1\">\n<title>{title}</title>\n\
+         <style>\n{STYLE}</style></head><body>\n\
+         <header><h1>{title}</h1><p>{counts}</p>\
+         <button id=\"list\" type=\"button\" aria-expanded=\"false\" aria-controls=\"functions\">Functions</button></header>\n<main>\n"
+    )
+}
+
+/// What a page ends with: what is said of a name, and the field for a new one.
+const PANEL: &str = "<footer id=\"panel\"><p id=\"about\" role=\"status\"></p>\n\
+    <form id=\"rename\" hidden><label>New name <input id=\"name\" autocomplete=\"off\" autocapitalize=\"off\" spellcheck=\"false\"></label>\n\
+    <p id=\"verdict\" role=\"status\"></p></form></footer>\n";
+
+/// The page of a file.
+pub fn page(file: &str, source: &str, functions: &[Function<'_>]) -> Result<String, fmt::Error> {
+    let title = escaped(file.rsplit('/').next().unwrap_or(file));
+    let nodes: usize = functions.iter().map(|(found, _)| found.nodes).sum();
+    let lines = source.lines().count();
+    let counts = format!(
+        "{lines} lines, {} functions<span class=\"keys\">, {nodes} nodes</span>",
+        functions.len()
+    );
+    let mut out = String::new();
+    write_head(&title, &counts, &mut out)?;
+    write_source(source, functions, &mut out)?;
+    out.push_str(
+        "<aside id=\"functions\"><h2>Functions</h2>\n\
+         <label>Find <input id=\"find\" type=\"search\" autocomplete=\"off\" spellcheck=\"false\"></label>\n",
+    );
+    for (number, (found, _)) in functions.iter().enumerate() {
+        write_function(number, found, &mut out)?;
+    }
+    let facts: Json = functions.iter().map(|(found, facts)| facts::to_json(found, facts)).collect();
+    write!(
+        out,
+        "</aside></main>\n{PANEL}<script id=\"facts\" type=\"application/json\">{facts}</script>\n"
     )?;
+    for script in SCRIPTS {
+        writeln!(out, "<script>\n{script}</script>")?;
+    }
+    out.push_str("</body></html>\n");
     Ok(out)
 }

@@ -37,6 +37,7 @@ impl Lowering {
                 at,
                 name,
                 span,
+                is_in_constant: self.is_in_constant,
             });
         }
         at

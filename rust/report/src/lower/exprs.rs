@@ -87,6 +87,7 @@ impl Lowering {
                 at,
                 name,
                 span,
+                is_in_constant: self.is_in_constant,
             });
         }
         at
@@ -148,7 +149,7 @@ impl Lowering {
                         args.args.push(GenericArg::Ty(ty));
                     }
                     syn::GenericMethodArgument::Const(expr) => {
-                        let expr = self.without_labels(|lowering| lowering.expr(expr));
+                        let expr = self.constant(|lowering| lowering.expr(expr));
                         args.args.push(GenericArg::Const(ConstRef { expr }));
                     }
                 }
@@ -201,7 +202,7 @@ impl Lowering {
         if let Ok(it) = syn::parse2::<Inner>(tokens.clone()) {
             return match it {
                 Inner::Const(block) => {
-                    let body = self.without_labels(|lowering| lowering.block(&block, None));
+                    let body = self.constant(|lowering| lowering.block(&block, None));
                     self.alloc(Expr::Const(body))
                 }
                 Inner::Raw(is_mutable, expr) => {
@@ -283,7 +284,7 @@ impl Lowering {
             },
             syn::Expr::Repeat(it) => Expr::Array(Array::Repeat {
                 initializer: self.expr(&it.expr),
-                repeat: self.without_labels(|lowering| lowering.expr(&it.len)),
+                repeat: self.constant(|lowering| lowering.expr(&it.len)),
             }),
             syn::Expr::Return(it) => Expr::Return {
                 expr: self.opt(it.expr.as_deref()),

@@ -109,7 +109,7 @@ pub fn tables(function: &str) -> Tables {
     for (number, name, parent) in VARIANTS {
         let variant = EnumVariantId::from_raw(number);
         tables.add_name(variant, Some(&name.into()));
-        tables.add_parent(variant, EnumId::from_raw(parent));
+        tables.add_variant_parent(variant, EnumId::from_raw(parent));
     }
     tables
 }

@@ -47,6 +47,8 @@ pub struct Use {
     pub name: Name,
     /// Where it is written.
     pub span: Span,
+    /// Whether it is in a constant, as the length of an array: there no scope has the variables around it.
+    pub is_in_constant: bool,
 }
 
 /// A closure, or a block that is one, as `async {}`.
@@ -99,6 +101,14 @@ pub struct Sources {
     pub unknown: Vec<Span>,
 }
 
+impl Sources {
+    /// A binding.
+    pub fn binding(&self, id: BindingId) -> Option<&BindingSource> {
+        let at = usize::try_from(id.into_raw()).ok()?;
+        self.bindings.get(at).filter(|it| it.id == id)
+    }
+}
+
 /// A body, and what its nodes were written as.
 pub struct Lowered {
     /// The body.
@@ -124,6 +134,8 @@ struct Lowering {
     made_names: u32,
     /// Whether bindings are of a parameter.
     is_param: bool,
+    /// Whether it is a constant that is lowered.
+    is_in_constant: bool,
 }
 
 /// The body of a function with these parameters.
@@ -161,7 +173,7 @@ pub fn lower(signature: &syn::Signature, block: &syn::Block) -> Result<Lowered, 
     } = lowering;
     let store = builder.finish()?;
     let body = Body::new(
-        FunctionId::from_raw(lang::THIS).into(),
+        FunctionId::from_raw(lang::THIS),
         store,
         params,
         self_param,
@@ -237,6 +249,14 @@ impl Lowering {
         let labels = mem::take(&mut self.labels);
         let lowered = lower(self);
         self.labels = labels;
+        lowered
+    }
+
+    /// Lowers a constant: it sees none of the labels around it either.
+    fn constant<T>(&mut self, lower: impl FnOnce(&mut Lowering) -> T) -> T {
+        let is_in_constant = mem::replace(&mut self.is_in_constant, true);
+        let lowered = self.without_labels(lower);
+        self.is_in_constant = is_in_constant;
         lowered
     }
 

@@ -19,7 +19,7 @@ impl Lowering {
                 args.args.push(GenericArg::Ty(id));
             }
             syn::GenericArgument::Const(expr) => {
-                let expr = self.without_labels(|lowering| lowering.expr(expr));
+                let expr = self.constant(|lowering| lowering.expr(expr));
                 args.args.push(GenericArg::Const(ConstRef { expr }));
             }
             syn::GenericArgument::Binding(binding) => {

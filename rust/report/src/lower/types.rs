@@ -101,7 +101,7 @@ impl Lowering {
 
     fn array(&mut self, array: &syn::TypeArray) -> TypeRef {
         let ty = self.ty(&array.elem);
-        let expr = self.without_labels(|lowering| lowering.expr(&array.len));
+        let expr = self.constant(|lowering| lowering.expr(&array.len));
         TypeRef::Array(ArrayType {
             ty,
             len: ConstRef { expr },
