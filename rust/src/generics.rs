@@ -2,9 +2,7 @@
 
 use crate::arena::Arena;
 use crate::hir::{ConstRef, TypeBound};
-use crate::ids::{
-    LifetimeRefId, LocalLifetimeParamId, LocalTypeOrConstParamId, TypeRefId,
-};
+use crate::ids::{LifetimeRefId, LocalLifetimeParamId, LocalTypeOrConstParamId, TypeRefId};
 use crate::name::Name;
 use crate::notation::path::read_binder;
 use crate::notation::{Line, Notation, Words};
@@ -141,7 +139,11 @@ pub enum WherePredicate {
 /// # }
 /// ```
 #[derive(Clone, PartialEq, Eq, Debug, Default)]
-#[cfg_attr(hir_serde, derive(serde::Serialize, serde::Deserialize), serde(default))]
+#[cfg_attr(
+    hir_serde,
+    derive(serde::Serialize, serde::Deserialize),
+    serde(default)
+)]
 pub struct GenericParams {
     /// The types and constants, in their order.
     pub type_or_consts: Arena<LocalTypeOrConstParamId, TypeOrConstParamData>,

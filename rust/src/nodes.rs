@@ -95,7 +95,10 @@ impl Nodes {
 
     /// Whether there are nodes that only a body, and no signature's types, may have.
     fn has_nodes(&self) -> bool {
-        !(self.exprs.is_empty() && self.pats.is_empty() && self.bindings.is_empty() && self.labels.is_empty())
+        !(self.exprs.is_empty()
+            && self.pats.is_empty()
+            && self.bindings.is_empty()
+            && self.labels.is_empty())
     }
 
     /// Forgets what an accepted store without nodes doesn't keep.
@@ -122,10 +125,22 @@ impl Nodes {
             bindings: 0,
         };
         let last = self.sizes();
-        for (root, ends) in self.roots.iter().map(Some).zip(&self.ends).chain([(None, &last)]) {
+        for (root, ends) in self
+            .roots
+            .iter()
+            .map(Some)
+            .zip(&self.ends)
+            .chain([(None, &last)])
+        {
             write_up_to("expr", &self.exprs, &mut from.exprs, ends.exprs, line);
             write_up_to("pat", &self.pats, &mut from.pats, ends.pats, line);
-            write_up_to("bind", &self.bindings, &mut from.bindings, ends.bindings, line);
+            write_up_to(
+                "bind",
+                &self.bindings,
+                &mut from.bindings,
+                ends.bindings,
+                line,
+            );
             if let Some(root) = root {
                 line.keyword("root");
                 line.id(*root);

@@ -382,7 +382,12 @@ impl<D: SignatureData> Signature<D> {
     }
 
     /// The question on its generic parameters that has this word, and before the definition this.
-    fn generics<T>(&self, word: &str, write: impl FnOnce(&mut Line), read: fn(&str) -> Option<T>) -> Result<T> {
+    fn generics<T>(
+        &self,
+        word: &str,
+        write: impl FnOnce(&mut Line),
+        read: fn(&str) -> Option<T>,
+    ) -> Result<T> {
         self.store.ask(&Query::of(
             word,
             |line| {
@@ -410,20 +415,37 @@ impl<D: SignatureData> Signature<D> {
 
     /// The lifetimes that get their arguments where the definition is named.
     pub fn early_bound_lifetimes(&self) -> Result<Vec<(LocalLifetimeParamId, LifetimeParamData)>> {
-        self.generics("early-lifetimes", |_| {}, |text| read_lines(text, read_numbered))
+        self.generics(
+            "early-lifetimes",
+            |_| {},
+            |text| read_lines(text, read_numbered),
+        )
     }
 
     /// The lifetimes that get their arguments where the function is called.
     pub fn late_bound_lifetimes(&self) -> Result<Vec<(LocalLifetimeParamId, LifetimeParamData)>> {
-        self.generics("late-lifetimes", |_| {}, |text| read_lines(text, read_numbered))
+        self.generics(
+            "late-lifetimes",
+            |_| {},
+            |text| read_lines(text, read_numbered),
+        )
     }
 
     /// What they have to fulfil.
     pub fn where_predicates(&self) -> Result<Vec<WherePredicate>> {
-        self.generics("predicates", |_| {}, |text| {
-            let numbered = read_lines(text, read_numbered::<LocalTypeOrConstParamId, _>)?;
-            Some(numbered.into_iter().map(|(_, predicate)| predicate).collect())
-        })
+        self.generics(
+            "predicates",
+            |_| {},
+            |text| {
+                let numbered = read_lines(text, read_numbered::<LocalTypeOrConstParamId, _>)?;
+                Some(
+                    numbered
+                        .into_iter()
+                        .map(|(_, predicate)| predicate)
+                        .collect(),
+                )
+            },
+        )
     }
 
     /// The first type of this name.
@@ -448,7 +470,11 @@ impl<D: SignatureData> Signature<D> {
 
     /// The place of a lifetime among those that are bound as it is, and whether it is late bound.
     pub fn lifetime_param_idx(&self, id: LocalLifetimeParamId) -> Result<Option<(usize, bool)>> {
-        self.generics("lifetime-index", |line| line.id(id), |text| read_opt(text, read_index))
+        self.generics(
+            "lifetime-index",
+            |line| line.id(id),
+            |text| read_opt(text, read_index),
+        )
     }
 
     /// The signature as text.
@@ -476,14 +502,16 @@ fn print_as<I: crate::ids::Id>(word: &str, id: I, head: I, edition: Edition) -> 
 impl FunctionSignature {
     /// The signature as text, as that of another function.
     pub fn print_as(&self, head: FunctionId, tables: &Tables, edition: Edition) -> Result<String> {
-        self.store.ask_with(tables, &print_as("print-function", self.id, head, edition))
+        self.store
+            .ask_with(tables, &print_as("print-function", self.id, head, edition))
     }
 }
 
 impl StructSignature {
     /// The signature as text, as that of another struct.
     pub fn print_as(&self, head: StructId, tables: &Tables, edition: Edition) -> Result<String> {
-        self.store.ask_with(tables, &print_as("print-struct", self.id, head, edition))
+        self.store
+            .ask_with(tables, &print_as("print-struct", self.id, head, edition))
     }
 }
 

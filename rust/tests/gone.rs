@@ -9,7 +9,9 @@ fn finish_with(program: &str) -> HirError {
     env::set_var("HIR_ASK_PROGRAM", program);
     let mut builder = ExpressionStoreBuilder::new();
     // More than a pipe takes at once.
-    let exprs: Vec<_> = (0..20_000).map(|_| make::local(&mut builder, "name")).collect();
+    let exprs: Vec<_> = (0..20_000)
+        .map(|_| make::local(&mut builder, "name"))
+        .collect();
     let root = make::tuple(&mut builder, &exprs);
     builder.push_root(root);
     let refused = builder.finish().unwrap_err();
@@ -25,7 +27,10 @@ fn is_gone(error: &HirError) -> bool {
 fn a_program_that_ends_is_an_error() {
     let program = env::var("HIR_ASK_PROGRAM");
     let absent = finish_with("/nowhere/hir_ask");
-    assert!(matches!(absent, HirError::Session(SessionError::NotStarted { .. })), "{absent}");
+    assert!(
+        matches!(absent, HirError::Session(SessionError::NotStarted { .. })),
+        "{absent}"
+    );
     for ended in ["/bin/true", "/bin/false"] {
         let error = finish_with(ended);
         assert!(is_gone(&error), "{error}");

@@ -3,14 +3,17 @@
 #[path = "common/nodes.rs"]
 mod nodes;
 
-use hir_expr_store::hir::{ConstRef, Expr, Literal, Path, PathId, TraitBoundModifier, TypeBound, TypeRef};
+use hir_expr_store::hir::{
+    ConstRef, Expr, Literal, Path, PathId, TraitBoundModifier, TypeBound, TypeRef,
+};
 use hir_expr_store::{
-    make, Batch, Body, Child, ConstParamData, CrateId, Edition, EnumId, EnumVariantId, ExprId, ExprOrPatId,
-    ExprPrecedence, ExpressionStoreBuilder, ExpressionStoreDiagnostics, FieldData, FieldsShape,
-    FunctionData, FunctionId, FunctionSignature, GenericCounts, GenericParams, HirError, HirFileId,
-    HygieneId, LifetimeBoundType, LifetimeParamData, LocalTypeOrConstParamId, MacroCallId, Missing, MissingBodyItemKind,
-    NodeId, Param, PlainDef, PlainSignature, RawVisibility, Repr, SessionError, SignatureFault, Source,
-    StructData, StructId, StructSignature, Tables, TextRange, TraitId, TypeOrConstParamData, TypeOrConstParamId,
+    make, Batch, Body, Child, ConstParamData, CrateId, Edition, EnumId, EnumVariantId, ExprId,
+    ExprOrPatId, ExprPrecedence, ExpressionStoreBuilder, ExpressionStoreDiagnostics, FieldData,
+    FieldsShape, FunctionData, FunctionId, FunctionSignature, GenericCounts, GenericParams,
+    HirError, HirFileId, HygieneId, LifetimeBoundType, LifetimeParamData, LocalTypeOrConstParamId,
+    MacroCallId, Missing, MissingBodyItemKind, NodeId, Param, PlainDef, PlainSignature,
+    RawVisibility, Repr, SessionError, SignatureFault, Source, StructData, StructId,
+    StructSignature, Tables, TextRange, TraitId, TypeOrConstParamData, TypeOrConstParamId,
     TypeParamData, TypeParamId, TypeParamProvenance, UnionId, VariantFields, WherePredicate,
 };
 use nodes::f;
@@ -44,20 +47,35 @@ fn body() -> Result<(Body, ExprId, ExprId), HirError> {
 #[test]
 fn a_body_is_asked_one_question_at_a_time() -> Outcome {
     let (body, closure, tail) = body()?;
-    let (x, y) = (body.bound_by(body.params()[0].formal), body.scopes()?.binding_at(tail)?);
+    let (x, y) = (
+        body.bound_by(body.params()[0].formal),
+        body.scopes()?.binding_at(tail)?,
+    );
     assert_eq!(body.captures(closure)?, Vec::from_iter(x));
     assert_eq!(body.captures(tail), Err(HirError::NotAClosure));
     assert_eq!(body.usages()?.of(y.unwrap()), [ExprOrPatId::ExprId(tail)]);
-    assert_eq!(body.scopes()?.chain(ExprId::from_raw(99)), Err(HirError::Unreached));
+    assert_eq!(
+        body.scopes()?.chain(ExprId::from_raw(99)),
+        Err(HirError::Unreached)
+    );
     assert_eq!(body.scopes()?.binding_at(closure)?, None);
     assert_eq!(body.scopes()?.scoped_exprs()?.len(), body.exprs().len());
     assert_eq!(body.enclosing_closure(ExprId::from_raw(0))?, Some(closure));
-    assert_eq!(body.parent(NodeId::Expr(tail))?, Some(NodeId::Expr(body.root_expr())));
-    assert_eq!(body.children(ExprId::from_raw(99)), Err(HirError::UnknownId));
+    assert_eq!(
+        body.parent(NodeId::Expr(tail))?,
+        Some(NodeId::Expr(body.root_expr()))
+    );
+    assert_eq!(
+        body.children(ExprId::from_raw(99)),
+        Err(HirError::UnknownId)
+    );
     assert_eq!(body.precedence(closure)?, ExprPrecedence::Jump);
     assert_eq!(body.self_param_syntax()?, None);
     let scopes = body.scopes()?;
-    assert_eq!(scopes.resolve_through(tail, &"y".into(), HygieneId::ROOT, &[])?, y);
+    assert_eq!(
+        scopes.resolve_through(tail, &"y".into(), HygieneId::ROOT, &[])?,
+        y
+    );
     assert!(scopes.scope_count() > 0 && scopes.entry_count() == 3);
     Ok(())
 }
@@ -144,7 +162,10 @@ fn sources_are_kept_both_ways() -> Outcome {
     assert_eq!(store.expansions()?, [(source(7), MacroCallId::from_raw(9))]);
     assert_eq!(store.patterns_for_binding(binding)?, [pat]);
     assert_eq!(store.diagnostics()?, diagnostics);
-    assert_eq!(store.expr_or_pat_path_hygiene(expr.into()), HygieneId::expansion(4));
+    assert_eq!(
+        store.expr_or_pat_path_hygiene(expr.into()),
+        HygieneId::expansion(4)
+    );
     Ok(())
 }
 
@@ -161,14 +182,23 @@ fn bounds_and_paths_are_looked_at() -> Outcome {
     let named = make::path_of(&["Tr"]);
     assert!(store.has_path(path_id)?);
     assert!(!store.has_path(PathId::from_type_ref_unchecked(never))?);
-    assert_eq!(store.bound_path(&maybe)?, Some((named, TraitBoundModifier::Maybe)));
+    assert_eq!(
+        store.bound_path(&maybe)?,
+        Some((named, TraitBoundModifier::Maybe))
+    );
     assert_eq!(store.bound_path(&TypeBound::Error)?, None);
     assert_eq!(store.visit_bound(&maybe)?, [Child::Type(path)]);
     let with_args = make::path_with_args("Vec", &[path]);
     assert!(store.path_is_sound(&with_args)?);
     assert_eq!(store.visit_path(&with_args)?, [Child::Type(path)]);
-    assert!(!store.path_is_sound(&make::path_with_args("Vec", &[hir_expr_store::TypeRefId::from_raw(9)]))?);
-    assert_eq!(store.print_path(&with_args, &Tables::new(), EDITION)?, "Vec::<Tr>");
+    assert!(!store.path_is_sound(&make::path_with_args(
+        "Vec",
+        &[hir_expr_store::TypeRefId::from_raw(9)]
+    ))?);
+    assert_eq!(
+        store.print_path(&with_args, &Tables::new(), EDITION)?,
+        "Vec::<Tr>"
+    );
     assert_eq!(store.negate(minus)?, Some(Literal::Int(3, None)));
     Ok(())
 }
@@ -176,20 +206,25 @@ fn bounds_and_paths_are_looked_at() -> Outcome {
 /// `fn f<'a, Self, const N: usize = 4>(Self) where Self: Tr`
 fn function() -> Result<FunctionSignature, HirError> {
     let mut builder = ExpressionStoreBuilder::new();
-    let [ty, bound, number] = ["Self", "Tr", "usize"].map(|name| make::path_type(&mut builder, name));
+    let [ty, bound, number] =
+        ["Self", "Tr", "usize"].map(|name| make::path_type(&mut builder, name));
     let four = make::int(&mut builder, 4);
     builder.push_root(four);
     let mut params = GenericParams::default();
-    params.type_or_consts.alloc(TypeOrConstParamData::TypeParamData(TypeParamData {
-        name: Some("Self".into()),
-        default: None,
-        provenance: TypeParamProvenance::TraitSelf,
-    }));
-    params.type_or_consts.alloc(TypeOrConstParamData::ConstParamData(ConstParamData {
-        name: "N".into(),
-        ty: number,
-        default: Some(ConstRef { expr: four }),
-    }));
+    params
+        .type_or_consts
+        .alloc(TypeOrConstParamData::TypeParamData(TypeParamData {
+            name: Some("Self".into()),
+            default: None,
+            provenance: TypeParamProvenance::TraitSelf,
+        }));
+    params
+        .type_or_consts
+        .alloc(TypeOrConstParamData::ConstParamData(ConstParamData {
+            name: "N".into(),
+            ty: number,
+            default: Some(ConstRef { expr: four }),
+        }));
     params.lifetimes.alloc(LifetimeParamData {
         name: "'a".into(),
         bound_type: LifetimeBoundType::LateBound,
@@ -197,13 +232,21 @@ fn function() -> Result<FunctionSignature, HirError> {
     params.where_predicates.push(WherePredicate::TypeBound {
         lifetimes: None,
         target: ty,
-        bound: TypeBound::Path(PathId::from_type_ref_unchecked(bound), TraitBoundModifier::None),
+        bound: TypeBound::Path(
+            PathId::from_type_ref_unchecked(bound),
+            TraitBoundModifier::None,
+        ),
     });
     let data = FunctionData {
         is_const: true,
         ..FunctionData::new("f".into(), vec![ty], None)
     };
-    Ok(FunctionSignature::new(FunctionId::from_raw(3), builder.finish()?, params, data)?)
+    Ok(FunctionSignature::new(
+        FunctionId::from_raw(3),
+        builder.finish()?,
+        params,
+        data,
+    )?)
 }
 
 #[test]
@@ -220,9 +263,17 @@ fn signatures_are_asked_and_printed() -> Outcome {
         predicates: 1,
     };
     assert_eq!(signature.generic_counts()?, counts);
-    let own: Vec<_> = params.type_or_consts.iter().map(|(id, it)| (id, it.clone())).collect();
+    let own: Vec<_> = params
+        .type_or_consts
+        .iter()
+        .map(|(id, it)| (id, it.clone()))
+        .collect();
     assert_eq!(signature.type_or_consts()?, own);
-    let own: Vec<_> = params.lifetimes.iter().map(|(id, it)| (id, it.clone())).collect();
+    let own: Vec<_> = params
+        .lifetimes
+        .iter()
+        .map(|(id, it)| (id, it.clone()))
+        .collect();
     assert_eq!(signature.lifetime_params()?, own);
     assert_eq!(signature.late_bound_lifetimes()?, own);
     assert_eq!(signature.early_bound_lifetimes()?, []);
@@ -230,21 +281,46 @@ fn signatures_are_asked_and_printed() -> Outcome {
     let second = LocalTypeOrConstParamId::from_raw(1);
     assert_eq!(signature.find_const_by_name(&"N".into())?, Some(second));
     assert_eq!(signature.find_type_by_name(&"N".into())?, None);
-    assert_eq!(signature.find_lifetime_by_name(&"'a".into())?, Some(own[0].0));
-    assert_eq!(signature.trait_self_param()?, Some(LocalTypeOrConstParamId::from_raw(0)));
+    assert_eq!(
+        signature.find_lifetime_by_name(&"'a".into())?,
+        Some(own[0].0)
+    );
+    assert_eq!(
+        signature.trait_self_param()?,
+        Some(LocalTypeOrConstParamId::from_raw(0))
+    );
     assert_eq!(signature.lifetime_param_idx(own[0].0)?, Some((0, true)));
     let text = "const fn f<'a, Self, const N: usize = 4>(Self)\nwhere\n    Self: Tr\n {...}\n";
     assert_eq!(signature.print(&Tables::new(), EDITION)?, text);
-    assert_eq!(signature.print_as(FunctionId::from_raw(8), &Tables::new(), EDITION)?, text);
+    assert_eq!(
+        signature.print_as(FunctionId::from_raw(8), &Tables::new(), EDITION)?,
+        text
+    );
 
     let store = ExpressionStoreBuilder::new().finish()?;
-    let data = FunctionData::new("g".into(), vec![hir_expr_store::TypeRefId::from_raw(0)], None);
-    let refused = FunctionSignature::new(FunctionId::from_raw(0), store, GenericParams::default(), data).unwrap_err();
-    assert_eq!(refused.error, HirError::Signature(SignatureFault::IdOutOfRange));
+    let data = FunctionData::new(
+        "g".into(),
+        vec![hir_expr_store::TypeRefId::from_raw(0)],
+        None,
+    );
+    let refused = FunctionSignature::new(
+        FunctionId::from_raw(0),
+        store,
+        GenericParams::default(),
+        data,
+    )
+    .unwrap_err();
+    assert_eq!(
+        refused.error,
+        HirError::Signature(SignatureFault::IdOutOfRange)
+    );
     // What was refused is in hand, and its store may become something else.
     let id = PlainDef::TraitId(TraitId::from_raw(0));
     let plain = PlainSignature::new(id, refused.store, refused.parts.0, ())?;
-    assert_eq!(plain.print(&Tables::new(), EDITION)?, "unimplemented TraitId(0)");
+    assert_eq!(
+        plain.print(&Tables::new(), EDITION)?,
+        "unimplemented TraitId(0)"
+    );
     Ok(())
 }
 
@@ -253,23 +329,38 @@ fn what_a_text_looks_up_is_sent() -> Outcome {
     // A struct with a layout, whose parameter another signature names.
     let shape = FieldsShape::Tuple;
     let mut params = GenericParams::default();
-    let local_id = params.type_or_consts.alloc(TypeOrConstParamData::TypeParamData(TypeParamData {
-        name: Some("T".into()),
-        default: None,
-        provenance: TypeParamProvenance::TypeParamList,
-    }));
+    let local_id = params
+        .type_or_consts
+        .alloc(TypeOrConstParamData::TypeParamData(TypeParamData {
+            name: Some("T".into()),
+            default: None,
+            provenance: TypeParamProvenance::TypeParamList,
+        }));
     let id = StructId::from_raw(0);
     let data = StructData {
         name: "S".into(),
         is_fundamental: false,
         shape,
     };
-    let structure = StructSignature::new(id, ExpressionStoreBuilder::new().finish()?, params, data)?;
+    let structure =
+        StructSignature::new(id, ExpressionStoreBuilder::new().finish()?, params, data)?;
     let mut tables = Tables::new();
     assert_eq!(structure.print(&tables, EDITION)?, "struct S<T>(...)\n;\n");
-    tables.add_repr(id, Repr { c: true, ..Repr::default() });
-    assert_eq!(structure.print(&tables, EDITION)?, "#[repr(C)]\nstruct S<T>(...)\n;\n");
-    assert_eq!(structure.print(&Tables::new(), EDITION)?, "struct S<T>(...)\n;\n");
+    tables.add_repr(
+        id,
+        Repr {
+            c: true,
+            ..Repr::default()
+        },
+    );
+    assert_eq!(
+        structure.print(&tables, EDITION)?,
+        "#[repr(C)]\nstruct S<T>(...)\n;\n"
+    );
+    assert_eq!(
+        structure.print(&Tables::new(), EDITION)?,
+        "struct S<T>(...)\n;\n"
+    );
 
     // A union whose field has that parameter as its type, in a store that a signature's lines would displace.
     let mut builder = ExpressionStoreBuilder::new();
@@ -278,7 +369,10 @@ fn what_a_text_looks_up_is_sent() -> Outcome {
     let ty = builder.alloc_type(TypeRef::TypeParam(param));
     let path = make::path_with_args("V", &[ty]);
     let expr = builder.alloc_expr(Expr::Path(path));
-    let lang = builder.alloc_expr(Expr::Path(Path::LangItem(EnumVariantId::from_raw(1).into(), None)));
+    let lang = builder.alloc_expr(Expr::Path(Path::LangItem(
+        EnumVariantId::from_raw(1).into(),
+        None,
+    )));
     let root = make::tuple(&mut builder, &[expr, lang]);
     builder.push_root(root);
     let store = builder.finish()?;
@@ -325,14 +419,20 @@ fn fields_and_raw_words_are_printed() -> Outcome {
         default_value: None,
     };
     let module = RawVisibility::Module(hir_expr_store::hir::ModPath::from_name("m".into()));
-    let fields = vec![field("a", types[0], RawVisibility::PubCrate), field("b", types[1], module)];
+    let fields = vec![
+        field("a", types[0], RawVisibility::PubCrate),
+        field("b", types[1], module),
+    ];
     let id = UnionId::from_raw(2);
     let fields = VariantFields::new(id, builder.finish()?, FieldsShape::Record, fields)?;
     let mut tables = Tables::new();
     tables.add_name(id, Some(&"U".into()));
     tables.set_raw_words(EDITION, vec!["match".into()]);
     let text = fields.print(&tables, EDITION)?;
-    assert_eq!(text, "union U {\npub(crate) a: u8,\npub(in m) b: r#match,\n}\n");
+    assert_eq!(
+        text,
+        "union U {\npub(crate) a: u8,\npub(in m) b: r#match,\n}\n"
+    );
     assert!(!fields.print(&tables, Edition::Edition2018)?.contains("r#"));
     Ok(())
 }
@@ -378,7 +478,9 @@ fn threads_ask_stores_of_their_own_and_one_together() -> Outcome {
     }
     // A store moves to another thread, and is dropped there.
     let (moved, closure, _) = body()?;
-    thread::spawn(move || assert!(moved.captures(closure).is_ok())).join().unwrap();
+    thread::spawn(move || assert!(moved.captures(closure).is_ok()))
+        .join()
+        .unwrap();
     Ok(())
 }
 
@@ -388,7 +490,13 @@ fn a_refused_store_is_asked_again() -> Outcome {
     let x = make::bind(&mut builder, "x");
     let root = make::local(&mut builder, "x");
     builder.push_root(root);
-    let refused = Body::new(f(), builder.finish()?, vec![Param::new(x), Param::new(x)], None).unwrap_err();
+    let refused = Body::new(
+        f(),
+        builder.finish()?,
+        vec![Param::new(x), Param::new(x)],
+        None,
+    )
+    .unwrap_err();
     assert_eq!(refused.params.len(), 2);
     assert_eq!(refused.store.scopes()?.binding_at(root)?, None);
     let body = Body::new(f(), refused.store, vec![Param::new(x)], None)?;

@@ -24,10 +24,10 @@ impl Line {
 
     /// A line that goes on behind this word.
     pub fn behind(word: &str) -> Line {
-        Line {
-            text: String::from(word),
-            start: 0,
-        }
+        // Most lines of one question fit.
+        let mut text = String::with_capacity(word.len() + 40);
+        text.push_str(word);
+        Line { text, start: 0 }
     }
 
     /// Ends the line, and begins the next one.
@@ -87,7 +87,8 @@ impl Line {
                 break;
             }
         }
-        self.text.extend(digits[at..].iter().copied().map(char::from));
+        self.text
+            .extend(digits[at..].iter().copied().map(char::from));
     }
 
     /// What comes behind the last word without a space.
@@ -233,7 +234,23 @@ mod tests {
 
     #[test]
     fn numbers_are_written_in_decimal() {
-        for number in [0, 1, 9, 10, 99, 100, 254, 255, 256, 260, 999, 65_535, 65_536, 1_234_567_890, u32::MAX] {
+        for number in [
+            0,
+            1,
+            9,
+            10,
+            99,
+            100,
+            254,
+            255,
+            256,
+            260,
+            999,
+            65_535,
+            65_536,
+            1_234_567_890,
+            u32::MAX,
+        ] {
             let mut line = Line::new();
             line.join_id(ExprId::from_raw(number));
             assert_eq!(line.as_str(), number.to_string());
