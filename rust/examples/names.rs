@@ -20,13 +20,17 @@ fn main() -> Result<(), HirError> {
     let root = make::block_without_tail(&mut builder, statements);
     let body = make::body(FunctionId::from_raw(0), builder, &[], root)?;
     let made = begin.elapsed();
+    let begin = Instant::now();
     let scopes = body.scopes()?;
-    let scoped = begin.elapsed();
+    let for_scopes = begin.elapsed();
+    let begin = Instant::now();
     let mut resolved = 0;
     for path in paths {
         resolved += usize::from(scopes.binding_at(path)?.is_some());
     }
     let asked = begin.elapsed();
-    println!("{resolved} of {count} resolve; made in {made:?}, scoped in {:?}, asked in {:?}", scoped - made, asked - scoped);
+    println!(
+        "{resolved} of {count} resolve; made in {made:?}, scopes in {for_scopes:?}, asked in {asked:?}"
+    );
     Ok(())
 }

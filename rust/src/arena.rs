@@ -16,7 +16,11 @@ use std::ops::Index;
 /// assert_eq!(arena.get(ExprId::from_raw(1)), None);
 /// ```
 #[derive(Clone, PartialEq, Eq, Debug)]
-#[cfg_attr(hir_serde, derive(serde::Serialize, serde::Deserialize), serde(transparent))]
+#[cfg_attr(
+    hir_serde,
+    derive(serde::Serialize, serde::Deserialize),
+    serde(transparent)
+)]
 pub struct Arena<I, T> {
     nodes: Vec<T>,
     #[cfg_attr(hir_serde, serde(skip))]

@@ -126,11 +126,11 @@ fn tail_of(
         write_param("self", param, &mut line);
     }
     if let Some(source) = self_source {
-        line.word("self-source");
+        line.keyword("self-source");
         source.write(&mut line);
         line.next_line();
     }
-    line.word("body ");
+    line.keyword("body ");
     def.write(&mut line);
     line.next_line();
     Tail {
@@ -223,7 +223,11 @@ impl Body {
             line.begin();
             self.def.write(line);
         };
-        self.ask(&Query::of("self-syntax", write, crate::query::read_opt_value))
+        self.ask(&Query::of(
+            "self-syntax",
+            write,
+            crate::query::read_opt_value,
+        ))
     }
 
     /// The body as text, with its head and its parameters.
@@ -232,8 +236,14 @@ impl Body {
     }
 
     /// The same with the head of another definition.
-    pub fn print_as(&self, def: impl Into<DefWithBodyId>, tables: &Tables, edition: Edition) -> Result<String> {
-        self.store.ask_with(tables, &print_body(self.def, def.into(), edition))
+    pub fn print_as(
+        &self,
+        def: impl Into<DefWithBodyId>,
+        tables: &Tables,
+        edition: Edition,
+    ) -> Result<String> {
+        self.store
+            .ask_with(tables, &print_body(self.def, def.into(), edition))
     }
 }
 
@@ -241,7 +251,7 @@ fn print_body(def: DefWithBodyId, head: DefWithBodyId, edition: Edition) -> Quer
     Query::print("print-body ", |line| {
         def.write(line);
         if head != def {
-            line.word("as:");
+            line.keyword("as:");
             head.write(line);
         }
         line.word(edition.as_str());
@@ -272,7 +282,11 @@ impl Eq for Body {}
 /// The texts of a body.
 impl Batch<'_> {
     /// The body of this definition as text, with its head and its parameters.
-    pub fn print_body(&mut self, def: impl Into<DefWithBodyId>, edition: Edition) -> Question<String> {
+    pub fn print_body(
+        &mut self,
+        def: impl Into<DefWithBodyId>,
+        edition: Edition,
+    ) -> Question<String> {
         let def = def.into();
         self.push(&print_body(def, def, edition))
     }

@@ -112,7 +112,9 @@ impl fmt::Display for HirError {
             HirError::Missing(missing) => fmt::Display::fmt(missing, f),
             HirError::UnknownId => write!(f, "an id isn't in the store, or the store is no body's"),
             HirError::Unreached => write!(f, "the expression has no scope"),
-            HirError::NotAClosure => write!(f, "the expression isn't a closure that the body reaches"),
+            HirError::NotAClosure => {
+                write!(f, "the expression isn't a closure that the body reaches")
+            }
             HirError::Full => write!(f, "more scopes or entries are needed than can be numbered"),
             HirError::OutOfMemory => write!(f, "out of memory"),
             HirError::OtherBatch => write!(f, "the question is one of another batch"),

@@ -133,11 +133,17 @@ impl fmt::Display for FinishFault {
     fn fmt(&self, f: &mut fmt::Formatter<'_>) -> fmt::Result {
         match self {
             FinishFault::NoRoots => {
-                write!(f, "there are nodes of a body, but no list of roots was begun")
+                write!(
+                    f,
+                    "there are nodes of a body, but no list of roots was begun"
+                )
             }
             FinishFault::IdOutOfRange(node) => write!(f, "{node} names an id that doesn't exist"),
             FinishFault::NotAPath(node) => {
-                write!(f, "{node} names as the path of a bound a type that isn't a path")
+                write!(
+                    f,
+                    "{node} names as the path of a bound a type that isn't a path"
+                )
             }
             FinishFault::NoReturnType(node) => {
                 write!(f, "{node} is a function type without a return type")
@@ -146,7 +152,10 @@ impl fmt::Display for FinishFault {
                 write!(f, "{node} has generic arguments that lack their self type")
             }
             FinishFault::ArgumentLists(node) => {
-                write!(f, "{node} has a path without one list of arguments for each segment")
+                write!(
+                    f,
+                    "{node} has a path without one list of arguments for each segment"
+                )
             }
             FinishFault::SharedChild(node) => write!(f, "{node} is a child more than once"),
             FinishFault::Cycle(node) => write!(f, "{node} is on a cycle, or a descendant of one"),
@@ -177,7 +186,10 @@ impl fmt::Display for BodyFault {
                 write!(f, "parameter {index} has a pattern that doesn't exist")
             }
             BodyFault::ParamRepeated(index) => {
-                write!(f, "parameter {index} has the pattern of an earlier parameter")
+                write!(
+                    f,
+                    "parameter {index} has the pattern of an earlier parameter"
+                )
             }
             BodyFault::ParamUnder(index) => write!(
                 f,
@@ -219,7 +231,10 @@ impl fmt::Display for SignatureFault {
                 write!(f, "the signature names an id that doesn't exist")
             }
             SignatureFault::NotAPath => {
-                write!(f, "the signature names as the path of a bound a type that isn't a path")
+                write!(
+                    f,
+                    "the signature names as the path of a bound a type that isn't a path"
+                )
             }
         }
     }
@@ -368,11 +383,9 @@ impl SignatureFault {
 #[cfg(test)]
 mod tests {
     use super::{BodyFault, FinishFault, Missing, NodeId, SignatureFault};
-    use crate::def::{NamedDef, TypeOrConstParamId, TypeParamId};
-    use crate::ids::{
-        ExprId, LocalTypeOrConstParamId, MacroRulesId, PatId, StructId, TypeRefId,
-    };
     use crate::def::MacroId;
+    use crate::def::{NamedDef, TypeOrConstParamId, TypeParamId};
+    use crate::ids::{ExprId, LocalTypeOrConstParamId, MacroRulesId, PatId, StructId, TypeRefId};
 
     #[test]
     fn faults_are_read() {
@@ -397,7 +410,10 @@ mod tests {
             assert_eq!(FinishFault::from_text(text), Some(fault), "{text}");
         }
         assert_eq!(FinishFault::from_text("NoRoots 1"), None);
-        assert_eq!(SignatureFault::from_text("NotAPath"), Some(SignatureFault::NotAPath));
+        assert_eq!(
+            SignatureFault::from_text("NotAPath"),
+            Some(SignatureFault::NotAPath)
+        );
     }
 
     #[test]
@@ -418,14 +434,32 @@ mod tests {
 
     /// Texts of the library, and what each says.
     const MISSING: [(&str, &str); 9] = [
-        ("Missing(Name(MacroRulesId(0)))", "no name of MacroRulesId(0)"),
-        ("Missing(Variant(EnumVariantId(1)))", "no enum of EnumVariantId(1)"),
+        (
+            "Missing(Name(MacroRulesId(0)))",
+            "no name of MacroRulesId(0)",
+        ),
+        (
+            "Missing(Variant(EnumVariantId(1)))",
+            "no enum of EnumVariantId(1)",
+        ),
         ("Missing(Crate(2))", "no name of CrateId(2)"),
-        ("Missing(Signature(StructId(3)))", "no signature of StructId(3)"),
-        ("Missing(Body(EnumVariantId(4)))", "no body of EnumVariantId(4)"),
+        (
+            "Missing(Signature(StructId(3)))",
+            "no signature of StructId(3)",
+        ),
+        (
+            "Missing(Body(EnumVariantId(4)))",
+            "no body of EnumVariantId(4)",
+        ),
         ("Missing(Fields(UnionId(5)))", "no fields of UnionId(5)"),
-        ("Missing(TypeParam(StructId(6) 1))", "no type parameter 1 of StructId(6)"),
-        ("Missing(LifetimeParam(TraitId(7) 2))", "no lifetime parameter 2 of TraitId(7)"),
+        (
+            "Missing(TypeParam(StructId(6) 1))",
+            "no type parameter 1 of StructId(6)",
+        ),
+        (
+            "Missing(LifetimeParam(TraitId(7) 2))",
+            "no lifetime parameter 2 of TraitId(7)",
+        ),
         ("Missing(DefMap(8))", "no definition map of BlockId(8)"),
     ];
 
@@ -433,7 +467,11 @@ mod tests {
     fn what_is_missing_is_read() {
         for (text, words) in MISSING {
             let missing = Missing::from_text(text);
-            assert_eq!(missing.map(|it| it.to_string()).as_deref(), Some(words), "{text}");
+            assert_eq!(
+                missing.map(|it| it.to_string()).as_deref(),
+                Some(words),
+                "{text}"
+            );
         }
         assert_eq!(Missing::from_text("Missing(Name(ImplId(0)))"), None);
         let name = NamedDef::MacroId(MacroId::MacroRulesId(MacroRulesId::from_raw(0)));
@@ -442,6 +480,9 @@ mod tests {
             parent: crate::def::AdtId::StructId(StructId::from_raw(6)).into(),
             local_id: LocalTypeOrConstParamId::from_raw(1),
         });
-        assert_eq!(Missing::from_text(MISSING[6].0), Some(Missing::TypeParam(param)));
+        assert_eq!(
+            Missing::from_text(MISSING[6].0),
+            Some(Missing::TypeParam(param))
+        );
     }
 }

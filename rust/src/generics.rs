@@ -2,9 +2,7 @@
 
 use crate::arena::Arena;
 use crate::hir::{ConstRef, TypeBound};
-use crate::ids::{
-    LifetimeRefId, LocalLifetimeParamId, LocalTypeOrConstParamId, TypeRefId,
-};
+use crate::ids::{LifetimeRefId, LocalLifetimeParamId, LocalTypeOrConstParamId, TypeRefId};
 use crate::name::Name;
 use crate::notation::path::read_binder;
 use crate::notation::{Line, Notation, Words};
@@ -141,7 +139,11 @@ pub enum WherePredicate {
 /// # }
 /// ```
 #[derive(Clone, PartialEq, Eq, Debug, Default)]
-#[cfg_attr(hir_serde, derive(serde::Serialize, serde::Deserialize), serde(default))]
+#[cfg_attr(
+    hir_serde,
+    derive(serde::Serialize, serde::Deserialize),
+    serde(default)
+)]
 pub struct GenericParams {
     /// The types and constants, in their order.
     pub type_or_consts: Arena<LocalTypeOrConstParamId, TypeOrConstParamData>,
@@ -156,7 +158,7 @@ impl Notation for TypeOrConstParamData {
     fn write(&self, line: &mut Line) {
         match self {
             TypeOrConstParamData::TypeParamData(param) => {
-                line.word("type-param");
+                line.keyword("type-param");
                 match &param.name {
                     Some(name) => line.name(name),
                     None => line.word('-'),
@@ -164,12 +166,12 @@ impl Notation for TypeOrConstParamData {
                 line.prefixed_id("default:", param.default);
                 match param.provenance {
                     TypeParamProvenance::TypeParamList => {}
-                    TypeParamProvenance::TraitSelf => line.word("self"),
-                    TypeParamProvenance::ArgumentImplTrait => line.word("impl"),
+                    TypeParamProvenance::TraitSelf => line.keyword("self"),
+                    TypeParamProvenance::ArgumentImplTrait => line.keyword("impl"),
                 }
             }
             TypeOrConstParamData::ConstParamData(param) => {
-                line.word("const-param");
+                line.keyword("const-param");
                 line.name(&param.name);
                 line.id(param.ty);
                 line.prefixed_id("default:", param.default.map(|it| it.expr));
@@ -207,7 +209,7 @@ impl Notation for TypeOrConstParamData {
 /// `lifetime-param ..`
 impl Notation for LifetimeParamData {
     fn write(&self, line: &mut Line) {
-        line.word("lifetime-param");
+        line.keyword("lifetime-param");
         line.name(&self.name);
         line.flag(self.bound_type == LifetimeBoundType::LateBound, "late");
     }
@@ -236,18 +238,18 @@ impl Notation for WherePredicate {
                 target,
                 bound,
             } => {
-                line.word("where");
+                line.keyword("where");
                 line.id(*target);
                 line.begin();
                 bound.write(line);
                 if let Some(names) = lifetimes {
-                    line.word("for<");
+                    line.keyword("for<");
                     line.join_names(names);
                     line.join('>');
                 }
             }
             WherePredicate::Lifetime { target, bound } => {
-                line.word("where-lifetime");
+                line.keyword("where-lifetime");
                 line.id(*target);
                 line.id(*bound);
             }

@@ -88,8 +88,8 @@ pub use batch::{Answers, Batch, Question};
 pub use body::{Body, Param, RefusedBody};
 pub use builder::{ExpressionStoreBuilder, Refused};
 pub use def::{
-    AdtId, DefWithBodyId, GenericDefId, LangItemTarget, LifetimeParamId, MacroId, NamedDef, PlainDef,
-    TypeOrConstParamId, TypeParamId, VariantId,
+    AdtId, DefWithBodyId, GenericDefId, LangItemTarget, LifetimeParamId, MacroId, NamedDef,
+    PlainDef, TypeOrConstParamId, TypeParamId, VariantId,
 };
 pub use error::{HirError, Result, SessionError};
 pub use fault::{BodyFault, FinishFault, Missing, NodeId, SignatureFault};
@@ -108,8 +108,8 @@ pub use prec::ExprPrecedence;
 pub use scopes::{Expansion, ExprScopes, Frame, ScopeEntry};
 pub use signature::{
     FieldData, FieldsShape, FunctionData, FunctionSignature, GenericCounts, PlainSignature,
-    RawVisibility, RefusedFields, RefusedSignature, Signature, SignatureData, StructData, StructSignature,
-    VariantFields,
+    RawVisibility, RefusedFields, RefusedSignature, Signature, SignatureData, StructData,
+    StructSignature, VariantFields,
 };
 pub use source::{
     ExpressionStoreDiagnostics, InFile, MissingBodyItemKind, Source, SyntaxNodePtr, TextRange,

@@ -123,6 +123,16 @@ fn after_mark(line: &str) -> &str {
     rest.strip_prefix(' ').unwrap_or(rest)
 }
 
+/// Whether an answer that is one line is a refusal, and its text; `None` where there is more, or nothing.
+pub(crate) fn single(answers: &[u8]) -> Option<(bool, &str)> {
+    let line = answers.strip_suffix(b"\n")?;
+    if line.contains(&b'\n') {
+        return None;
+    }
+    let line = std::str::from_utf8(line).ok()?;
+    Some((line.starts_with('!'), after_mark(line)))
+}
+
 /// The answers of a text, of which there are about so many.
 pub(crate) fn split(text: &str, count: usize) -> Vec<Answer> {
     let mut answers: Vec<Answer> = Vec::with_capacity(count);
@@ -151,11 +161,48 @@ impl Outcome {
 
 /// The first words of the lines that have no answer. Each other line has one.
 const SILENT: [&str; 42] = [
-    "begin", "bind", "block-scope", "const-param", "crate-name", "definition", "diagnostic", "expansion", "expr", "field",
-    "hygiene", "label", "lifetime", "lifetime-param", "map-expr", "map-expr-back", "map-field-back", "map-label",
-    "map-label-back", "map-lifetime", "map-lifetime-back", "map-pat", "map-pat-back", "map-pat-field-back", "map-type",
-    "map-type-back", "name", "owner", "param", "parent", "pat", "pat-hygiene", "raw-words", "repr", "root", "roots", "self",
-    "self-source", "type", "type-param", "where", "where-lifetime",
+    "begin",
+    "bind",
+    "block-scope",
+    "const-param",
+    "crate-name",
+    "definition",
+    "diagnostic",
+    "expansion",
+    "expr",
+    "field",
+    "hygiene",
+    "label",
+    "lifetime",
+    "lifetime-param",
+    "map-expr",
+    "map-expr-back",
+    "map-field-back",
+    "map-label",
+    "map-label-back",
+    "map-lifetime",
+    "map-lifetime-back",
+    "map-pat",
+    "map-pat-back",
+    "map-pat-field-back",
+    "map-type",
+    "map-type-back",
+    "name",
+    "owner",
+    "param",
+    "parent",
+    "pat",
+    "pat-hygiene",
+    "raw-words",
+    "repr",
+    "root",
+    "roots",
+    "self",
+    "self-source",
+    "type",
+    "type-param",
+    "where",
+    "where-lifetime",
 ];
 
 /// Whether a line has an answer.

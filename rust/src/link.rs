@@ -1,7 +1,7 @@
 //! What ties a store to the session that has it: opened once, asked under a lock, and opened anew where it was lost.
 
 use crate::error::{HirError, Result, SessionError};
-use crate::lines::{split, Answer};
+use crate::lines::{single, split, Answer};
 use crate::nodes::Nodes;
 use crate::notation::Line;
 use crate::tables::{Key, Tables};
@@ -82,16 +82,38 @@ fn missing_key(answer: &Answer) -> Option<Key> {
 }
 
 impl State {
-    /// Sends a text, and gives its answers, of which there have to be so many. A session that fails is lost.
-    fn ask(&mut self, text: &str, count: usize) -> Result<Vec<Answer>> {
+    /// Sends a text. The buffer then has the answers.
+    fn send_text(&mut self, text: &str) -> Result<()> {
         let Some(transport) = self.transport.as_mut() else {
             return Err(SessionError::Gone(String::from("it isn't open")).into());
         };
-        let outcome = transport.ask(text.as_bytes(), &mut self.buffer);
-        let checked = match outcome {
+        match transport.ask(text.as_bytes(), &mut self.buffer) {
             Ok(status) => check(status, text),
             Err(error) => Err(error.into()),
-        };
+        }
+    }
+
+    /// Sends a question, and reads its answer: where that is one line, without a copy of it.
+    fn ask_one<T>(&mut self, question: &str, read: impl FnOnce(bool, &str) -> T) -> Result<T> {
+        let checked = self.send_text(question);
+        if checked.is_ok() {
+            if let Some((is_refusal, text)) = single(&self.buffer) {
+                return Ok(read(is_refusal, text));
+            }
+        }
+        let mut answers = self.take_answers(checked, 1)?;
+        let answer = answers.pop().ok_or_else(|| HirError::bad_answer(""))?;
+        Ok(read(answer.is_refusal, &answer.text))
+    }
+
+    /// Sends a text, and gives its answers, of which there have to be so many. A session that fails is lost.
+    fn ask(&mut self, text: &str, count: usize) -> Result<Vec<Answer>> {
+        let checked = self.send_text(text);
+        self.take_answers(checked, count)
+    }
+
+    /// The answers that the buffer has, where what was sent came to this.
+    fn take_answers(&mut self, checked: Result<()>, count: usize) -> Result<Vec<Answer>> {
         let answers = split(&String::from_utf8_lossy(&self.buffer), count);
         // A long answer's memory isn't kept for the short ones after it.
         if self.buffer.capacity() > 1 << 20 {
@@ -173,7 +195,11 @@ impl State {
             return Vec::new();
         }
         self.stamp = tables.stamp();
-        let is_news = |key: &Key| tables.stamp_of(*key).is_some_and(|stamp| self.sent.get(key) != Some(&stamp));
+        let is_news = |key: &Key| {
+            tables
+                .stamp_of(*key)
+                .is_some_and(|stamp| self.sent.get(key) != Some(&stamp))
+        };
         let optional = Key::RAW_WORDS.into_iter().chain(tail.optional);
         let before = self.sent.keys().copied().chain(optional);
         let mut keys: Vec<Key> = before.filter(is_news).collect();
@@ -198,7 +224,12 @@ impl Link {
     }
 
     /// Makes the store that of an owner. Where that is refused, the next question opens a session anew.
-    pub(crate) fn claim(&mut self, nodes: &Nodes, tail: Tail, fault: fn(&str) -> HirError) -> Result<()> {
+    pub(crate) fn claim(
+        &mut self,
+        nodes: &Nodes,
+        tail: Tail,
+        fault: fn(&str) -> HirError,
+    ) -> Result<()> {
         let state = self.state.get_mut().unwrap_or_else(PoisonError::into_inner);
         state.ensure(nodes, &self.tail, None)?;
         let answer = state.ask(&tail.lines, 1)?.pop();
@@ -235,11 +266,28 @@ impl Link {
         state.ask(text, count)
     }
 
+    /// What is read of the answer to a question.
+    pub(crate) fn ask_one<T>(
+        &self,
+        nodes: &Nodes,
+        question: &str,
+        read: impl FnOnce(bool, &str) -> T,
+    ) -> Result<T> {
+        let mut state = self.lock();
+        state.ensure(nodes, &self.tail, None)?;
+        state.ask_one(question, read)
+    }
+
     /// The answers to questions that look definitions up in tables.
     ///
     /// Only what is looked up is sent: of many bodies that are printed with the same tables none gets them whole. What the answers say is
     /// missing is sent, together with all else that the nodes name, and asked again.
-    pub(crate) fn ask_with(&self, nodes: &Nodes, tables: &Tables, questions: &[&str]) -> Result<Vec<Answer>> {
+    pub(crate) fn ask_with(
+        &self,
+        nodes: &Nodes,
+        tables: &Tables,
+        questions: &[&str],
+    ) -> Result<Vec<Answer>> {
         let mut state = self.lock();
         let before = state.entries_before(&self.tail, tables);
         state.send(&before, tables)?;
@@ -250,7 +298,8 @@ impl Link {
             let text: String = open.iter().flat_map(|at| [questions[*at], "\n"]).collect();
             state.ensure(nodes, &self.tail, Some(tables))?;
             let came = state.ask(&text, open.len())?;
-            let is_sent = |key: &Key| state.sent.contains_key(key) || tables.stamp_of(*key).is_none();
+            let is_sent =
+                |key: &Key| state.sent.contains_key(key) || tables.stamp_of(*key).is_none();
             let (mut keys, mut again) = (Vec::new(), Vec::new());
             for (at, answer) in open.into_iter().zip(came) {
                 if let Some(key) = missing_key(&answer).filter(|key| !is_sent(key)) {
@@ -268,7 +317,12 @@ impl Link {
             }
             if is_first {
                 is_first = false;
-                keys.extend(tables.named_by(nodes).into_iter().filter(|key| !is_sent(key)));
+                keys.extend(
+                    tables
+                        .named_by(nodes)
+                        .into_iter()
+                        .filter(|key| !is_sent(key)),
+                );
             }
             keys.sort_unstable();
             keys.dedup();

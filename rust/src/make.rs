@@ -96,13 +96,20 @@ pub fn typed_int(builder: &mut ExpressionStoreBuilder, value: i128, suffix: Buil
 }
 
 /// The number `value` with its unsigned type, as `7u8`.
-pub fn typed_uint(builder: &mut ExpressionStoreBuilder, value: u128, suffix: BuiltinUint) -> ExprId {
+pub fn typed_uint(
+    builder: &mut ExpressionStoreBuilder,
+    value: u128,
+    suffix: BuiltinUint,
+) -> ExprId {
     builder.alloc_expr(Expr::Literal(Literal::Uint(value, Some(suffix))))
 }
 
 /// The floating point number of this text, as `1.5`, which has no type written after it.
 pub fn float(builder: &mut ExpressionStoreBuilder, text: &str) -> ExprId {
-    builder.alloc_expr(Expr::Literal(Literal::Float(FloatTypeWrapper::new(text), None)))
+    builder.alloc_expr(Expr::Literal(Literal::Float(
+        FloatTypeWrapper::new(text),
+        None,
+    )))
 }
 
 /// `true` or `false`.

@@ -4,7 +4,11 @@ use std::fmt;
 
 /// A name, as it is written.
 #[derive(Clone, PartialEq, Eq, PartialOrd, Ord, Hash, Debug)]
-#[cfg_attr(hir_serde, derive(serde::Serialize, serde::Deserialize), serde(transparent))]
+#[cfg_attr(
+    hir_serde,
+    derive(serde::Serialize, serde::Deserialize),
+    serde(transparent)
+)]
 pub struct Name(String);
 
 impl Name {
@@ -34,7 +38,11 @@ impl fmt::Display for Name {
 
 /// Which macro expansion, if any, a name was written by.
 #[derive(Clone, Copy, PartialEq, Eq, PartialOrd, Ord, Hash, Debug, Default)]
-#[cfg_attr(hir_serde, derive(serde::Serialize, serde::Deserialize), serde(transparent))]
+#[cfg_attr(
+    hir_serde,
+    derive(serde::Serialize, serde::Deserialize),
+    serde(transparent)
+)]
 pub struct HygieneId(Option<u32>);
 
 impl HygieneId {

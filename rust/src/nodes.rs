@@ -95,7 +95,10 @@ impl Nodes {
 
     /// Whether there are nodes that only a body, and no signature's types, may have.
     fn has_nodes(&self) -> bool {
-        !(self.exprs.is_empty() && self.pats.is_empty() && self.bindings.is_empty() && self.labels.is_empty())
+        !(self.exprs.is_empty()
+            && self.pats.is_empty()
+            && self.bindings.is_empty()
+            && self.labels.is_empty())
     }
 
     /// Forgets what an accepted store without nodes doesn't keep.
@@ -113,7 +116,7 @@ impl Nodes {
         write_nodes("type", self.types.as_slice(), line);
         write_nodes("lifetime", self.lifetimes.as_slice(), line);
         if self.has_roots {
-            line.word("roots");
+            line.keyword("roots");
             line.next_line();
         }
         let mut from = Ends {
@@ -122,12 +125,24 @@ impl Nodes {
             bindings: 0,
         };
         let last = self.sizes();
-        for (root, ends) in self.roots.iter().map(Some).zip(&self.ends).chain([(None, &last)]) {
+        for (root, ends) in self
+            .roots
+            .iter()
+            .map(Some)
+            .zip(&self.ends)
+            .chain([(None, &last)])
+        {
             write_up_to("expr", &self.exprs, &mut from.exprs, ends.exprs, line);
             write_up_to("pat", &self.pats, &mut from.pats, ends.pats, line);
-            write_up_to("bind", &self.bindings, &mut from.bindings, ends.bindings, line);
+            write_up_to(
+                "bind",
+                &self.bindings,
+                &mut from.bindings,
+                ends.bindings,
+                line,
+            );
             if let Some(root) = root {
-                line.word("root");
+                line.keyword("root");
                 line.id(*root);
                 line.next_line();
             }
@@ -140,11 +155,11 @@ impl Nodes {
         for (id, hygiene) in &self.hygiene {
             match id {
                 ExprOrPatId::ExprId(expr) => {
-                    line.word("hygiene");
+                    line.keyword("hygiene");
                     line.id(*expr);
                 }
                 ExprOrPatId::PatId(pat) => {
-                    line.word("pat-hygiene");
+                    line.keyword("pat-hygiene");
                     line.id(*pat);
                 }
             }
@@ -152,13 +167,13 @@ impl Nodes {
             line.next_line();
         }
         for (binding, owner) in &self.binding_owners {
-            line.word("owner");
+            line.keyword("owner");
             line.id(*binding);
             line.id(*owner);
             line.next_line();
         }
         for block in &self.block_scopes {
-            line.word("block-scope");
+            line.keyword("block-scope");
             line.id(*block);
             line.next_line();
         }

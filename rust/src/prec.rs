@@ -67,6 +67,8 @@ impl ExprPrecedence {
 
     /// The precedence of this name.
     pub(crate) fn from_text(text: &str) -> Option<ExprPrecedence> {
-        ExprPrecedence::ALL.into_iter().find(|it| format!("{it:?}") == text)
+        ExprPrecedence::ALL
+            .into_iter()
+            .find(|it| format!("{it:?}") == text)
     }
 }

@@ -48,8 +48,11 @@ impl Marks {
     fn mark(&mut self, text: &[u8]) -> u32 {
         for digits in text.split(|byte| !byte.is_ascii_digit()) {
             if digits.len() == 10 && digits.starts_with(b"429") {
-                let number = std::str::from_utf8(digits).ok().and_then(|it| it.parse().ok());
-                self.taken.extend(number.filter(|it: &u32| *it >= LEAST_MARK));
+                let number = std::str::from_utf8(digits)
+                    .ok()
+                    .and_then(|it| it.parse().ok());
+                self.taken
+                    .extend(number.filter(|it: &u32| *it >= LEAST_MARK));
             }
         }
         while self.taken.contains(&self.next) {
@@ -82,14 +85,20 @@ fn start(program: &OsStr) -> Result<Child, SessionError> {
 }
 
 /// Writes all of a text, from a thread of its own where a pipe may not take it at once, while something is done.
-fn write_beside<T>(stdin: &mut ChildStdin, text: &[u8], done: impl FnOnce() -> T) -> (io::Result<()>, T) {
+fn write_beside<T>(
+    stdin: &mut ChildStdin,
+    text: &[u8],
+    done: impl FnOnce() -> T,
+) -> (io::Result<()>, T) {
     if text.len() <= PIPE {
         return (stdin.write_all(text), done());
     }
     thread::scope(|scope| {
         let writer = scope.spawn(|| stdin.write_all(text));
         let value = done();
-        let written = writer.join().unwrap_or_else(|_| Err(io::Error::other("the writer ended")));
+        let written = writer
+            .join()
+            .unwrap_or_else(|_| Err(io::Error::other("the writer ended")));
         (written, value)
     })
 }
@@ -145,7 +154,10 @@ impl Program {
             // What can't be read says nothing; the status is still to come.
             let _ = stderr.read_to_string(&mut errors);
         }
-        let status = self.process.wait().map_err(|error| failed("waiting for it", &error))?;
+        let status = self
+            .process
+            .wait()
+            .map_err(|error| failed("waiting for it", &error))?;
         Ok(End { status, errors })
     }
 
@@ -158,12 +170,20 @@ impl Program {
                 Ok(Status::BadLine(number.saturating_sub(before)))
             }
             Some(3) => Ok(Status::OutOfMemory),
-            _ => Err(SessionError::Gone(format!("{}, {}", end.status, end.errors.trim()))),
+            _ => Err(SessionError::Gone(format!(
+                "{}, {}",
+                end.status,
+                end.errors.trim()
+            ))),
         }
     }
 
     /// Takes the lines of a text, and writes their answers to a buffer, as far as it goes; the rest is kept.
-    pub(crate) fn ask_into(&mut self, text: &[u8], buffer: &mut [u8]) -> Result<Report, SessionError> {
+    pub(crate) fn ask_into(
+        &mut self,
+        text: &[u8],
+        buffer: &mut [u8],
+    ) -> Result<Report, SessionError> {
         let before = self.lines;
         let ends = text.split(|byte| *byte == b'\n').count() - 1;
         self.lines += ends + usize::from(!text.is_empty() && !text.ends_with(b"\n")) + 1;
@@ -226,13 +246,19 @@ fn read_to(from: &mut impl BufRead, end: &[u8], kept: &mut Vec<u8>) -> io::Resul
 
 /// How many answers come before the first that is a refusal, where one is.
 fn first_refusal(answers: &[u8]) -> Option<usize> {
-    let mut firsts = answers.split(|byte| *byte == b'\n').filter(|line| line.first().is_some_and(|mark| *mark != b'|'));
+    let mut firsts = answers
+        .split(|byte| *byte == b'\n')
+        .filter(|line| line.first().is_some_and(|mark| *mark != b'|'));
     firsts.position(|line| line.first() == Some(&b'!'))
 }
 
 /// The number at the end of a text, as that of a line.
 fn last_number(text: &str) -> Option<usize> {
-    text.trim_end().rsplit(|c: char| !c.is_ascii_digit()).next()?.parse().ok()
+    text.trim_end()
+        .rsplit(|c: char| !c.is_ascii_digit())
+        .next()?
+        .parse()
+        .ok()
 }
 
 /// Answers the questions of a text by a process of its own.
@@ -258,7 +284,11 @@ pub(crate) fn answer(program: &OsStr, text: &[u8]) -> Result<(Status, Vec<u8>), 
         Some(1) => Ok((Status::Refused(line), answers)),
         Some(2) => Ok((Status::BadLine(line), answers)),
         Some(3) => Ok((Status::OutOfMemory, answers)),
-        _ => Err(SessionError::Gone(format!("{}, {}", end.status, end.errors.trim()))),
+        _ => Err(SessionError::Gone(format!(
+            "{}, {}",
+            end.status,
+            end.errors.trim()
+        ))),
     }
 }
 
@@ -270,9 +300,15 @@ mod tests {
     fn a_mark_occurs_in_no_text() {
         let mut marks = Marks::new();
         assert_eq!(marks.mark(b"expr path a\n"), u32::MAX);
-        assert_eq!(marks.mark(b"parent 4294967295 0\nparent 4294967293 1\n"), u32::MAX - 1);
+        assert_eq!(
+            marks.mark(b"parent 4294967295 0\nparent 4294967293 1\n"),
+            u32::MAX - 1
+        );
         assert_eq!(marks.mark(b"parent-of 4294967294"), u32::MAX - 3);
-        assert_eq!(marks.mark(b"42949672920 429496729x 04294967292\n"), u32::MAX - 3);
+        assert_eq!(
+            marks.mark(b"42949672920 429496729x 04294967292\n"),
+            u32::MAX - 3
+        );
     }
 
     #[test]

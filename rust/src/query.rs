@@ -24,7 +24,11 @@ impl<T> Query<T> {
     }
 
     /// The question that has this line after its word.
-    pub(crate) fn of(word: &str, write: impl FnOnce(&mut Line), read: fn(&str) -> Option<T>) -> Query<T> {
+    pub(crate) fn of(
+        word: &str,
+        write: impl FnOnce(&mut Line),
+        read: fn(&str) -> Option<T>,
+    ) -> Query<T> {
         let mut line = Line::behind(word);
         write(&mut line);
         Query::new(line.into_string(), read)
@@ -47,10 +51,15 @@ impl Query<String> {
 
 /// What an answer says.
 pub(crate) fn read_answer<T>(read: fn(&str) -> Option<T>, answer: &Answer) -> Result<T> {
-    if answer.is_refusal {
-        return Err(HirError::of_refusal(&answer.text));
+    read_text(read, answer.is_refusal, &answer.text)
+}
+
+/// What an answer of this text says.
+pub(crate) fn read_text<T>(read: fn(&str) -> Option<T>, is_refusal: bool, text: &str) -> Result<T> {
+    if is_refusal {
+        return Err(HirError::of_refusal(text));
     }
-    read(&answer.text).ok_or_else(|| HirError::bad_answer(&answer.text))
+    read(text).ok_or_else(|| HirError::bad_answer(text))
 }
 
 /// Calls on a subject, each of which is a question, and the same questions of a batch.
@@ -79,7 +88,10 @@ macro_rules! questions {
 pub(crate) use questions;
 
 /// The words of an answer, each read by this.
-pub(crate) fn read_words<'a, T>(text: &'a str, read: fn(&mut Words<'a>) -> Option<T>) -> Option<Vec<T>> {
+pub(crate) fn read_words<'a, T>(
+    text: &'a str,
+    read: fn(&mut Words<'a>) -> Option<T>,
+) -> Option<Vec<T>> {
     let mut words = Words::new(text);
     let mut items = Vec::new();
     while !words.is_end() {

@@ -7,6 +7,7 @@ use crate::name::{HygieneId, Name};
 use crate::notation::{Notation, Words};
 use crate::query::{questions, read_ids, read_names, read_opt_id, read_words, Query};
 use crate::store::{ExprOrPatId, ExpressionStore};
+use std::borrow::Cow;
 
 /// A scope of a chain: what it is the scope of, and what it binds.
 #[derive(Clone, PartialEq, Eq, Debug, Default)]
@@ -110,12 +111,12 @@ impl ExpressionStore {
 }
 
 /// The name by which a path may resolve to a variable: that of a path of one name without arguments, and `self` for the path `self`.
-fn local_name(path: &Path) -> Option<Name> {
+fn local_name(path: &Path) -> Option<Cow<'_, Name>> {
     match path {
         Path::BarePath(path) if path.kind == PathKind::SELF && path.segments.is_empty() => {
-            Some(Name::new("self"))
+            Some(Cow::Owned(Name::new("self")))
         }
-        Path::BarePath(path) => path.as_ident().cloned(),
+        Path::BarePath(path) => path.as_ident().map(Cow::Borrowed),
         Path::Normal(_) | Path::LangItem(..) => None,
     }
 }
@@ -141,7 +142,12 @@ impl<'a> ExprScopes<'a> {
     }
 
     /// What a path of this hygiene resolves to at an expression.
-    fn resolve_path(&self, at: ExprId, path: &Path, hygiene: HygieneId) -> Result<Option<BindingId>> {
+    fn resolve_path(
+        &self,
+        at: ExprId,
+        path: &Path,
+        hygiene: HygieneId,
+    ) -> Result<Option<BindingId>> {
         let Some(name) = local_name(path) else {
             return Ok(None);
         };
@@ -155,7 +161,9 @@ impl<'a> ExprScopes<'a> {
     pub fn binding_at(&self, expr: ExprId) -> Result<Option<BindingId>> {
         match self.store.exprs().get(expr) {
             Some(Expr::Path(path)) => {
-                let hygiene = self.store.expr_or_pat_path_hygiene(ExprOrPatId::ExprId(expr));
+                let hygiene = self
+                    .store
+                    .expr_or_pat_path_hygiene(ExprOrPatId::ExprId(expr));
                 self.resolve_path(expr, path, hygiene)
             }
             _ => Ok(None),
@@ -175,7 +183,12 @@ impl<'a> ExprScopes<'a> {
     }
 }
 
-fn resolve_query(word: &str, expr: ExprId, name: &Name, hygiene: HygieneId) -> Query<Option<BindingId>> {
+fn resolve_query(
+    word: &str,
+    expr: ExprId,
+    name: &Name,
+    hygiene: HygieneId,
+) -> Query<Option<BindingId>> {
     Query::of(
         word,
         |line| {

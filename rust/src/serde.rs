@@ -13,7 +13,9 @@ impl Serialize for ExpressionStoreBuilder {
 }
 
 impl<'de> Deserialize<'de> for ExpressionStoreBuilder {
-    fn deserialize<D: Deserializer<'de>>(deserializer: D) -> Result<ExpressionStoreBuilder, D::Error> {
+    fn deserialize<D: Deserializer<'de>>(
+        deserializer: D,
+    ) -> Result<ExpressionStoreBuilder, D::Error> {
         let mut nodes = Nodes::deserialize(deserializer)?;
         nodes.mend().map_err(D::Error::custom)?;
         Ok(ExpressionStoreBuilder { nodes })

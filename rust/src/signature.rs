@@ -147,7 +147,7 @@ impl sealed::Sealed for FunctionData {
     type Id = FunctionId;
 
     fn write(&self, id: FunctionId, line: &mut Line) {
-        line.word("function");
+        line.keyword("function");
         line.id(id);
         line.name(&self.name);
         line.ids(&self.params);
@@ -158,7 +158,7 @@ impl sealed::Sealed for FunctionData {
         line.flag(self.is_explicit_safe, "safe");
         write_abi(&self.abi, line);
         if let Some(indices) = &self.legacy_const_indices {
-            line.word("legacy:");
+            line.keyword("legacy:");
             line.joined_or_none(",", indices, |line, index| line.join(index));
         }
     }
@@ -172,7 +172,7 @@ impl sealed::Sealed for StructData {
     type Id = StructId;
 
     fn write(&self, id: StructId, line: &mut Line) {
-        line.word("struct");
+        line.keyword("struct");
         line.id(id);
         line.name(&self.name);
         line.word(self.shape.as_str());
@@ -188,7 +188,7 @@ impl sealed::Sealed for () {
     type Id = PlainDef;
 
     fn write(&self, id: PlainDef, line: &mut Line) {
-        line.word("plain ");
+        line.keyword("plain ");
         id.write(line);
     }
 }
@@ -382,7 +382,12 @@ impl<D: SignatureData> Signature<D> {
     }
 
     /// The question on its generic parameters that has this word, and before the definition this.
-    fn generics<T>(&self, word: &str, write: impl FnOnce(&mut Line), read: fn(&str) -> Option<T>) -> Result<T> {
+    fn generics<T>(
+        &self,
+        word: &str,
+        write: impl FnOnce(&mut Line),
+        read: fn(&str) -> Option<T>,
+    ) -> Result<T> {
         self.store.ask(&Query::of(
             word,
             |line| {
@@ -410,20 +415,37 @@ impl<D: SignatureData> Signature<D> {
 
     /// The lifetimes that get their arguments where the definition is named.
     pub fn early_bound_lifetimes(&self) -> Result<Vec<(LocalLifetimeParamId, LifetimeParamData)>> {
-        self.generics("early-lifetimes", |_| {}, |text| read_lines(text, read_numbered))
+        self.generics(
+            "early-lifetimes",
+            |_| {},
+            |text| read_lines(text, read_numbered),
+        )
     }
 
     /// The lifetimes that get their arguments where the function is called.
     pub fn late_bound_lifetimes(&self) -> Result<Vec<(LocalLifetimeParamId, LifetimeParamData)>> {
-        self.generics("late-lifetimes", |_| {}, |text| read_lines(text, read_numbered))
+        self.generics(
+            "late-lifetimes",
+            |_| {},
+            |text| read_lines(text, read_numbered),
+        )
     }
 
     /// What they have to fulfil.
     pub fn where_predicates(&self) -> Result<Vec<WherePredicate>> {
-        self.generics("predicates", |_| {}, |text| {
-            let numbered = read_lines(text, read_numbered::<LocalTypeOrConstParamId, _>)?;
-            Some(numbered.into_iter().map(|(_, predicate)| predicate).collect())
-        })
+        self.generics(
+            "predicates",
+            |_| {},
+            |text| {
+                let numbered = read_lines(text, read_numbered::<LocalTypeOrConstParamId, _>)?;
+                Some(
+                    numbered
+                        .into_iter()
+                        .map(|(_, predicate)| predicate)
+                        .collect(),
+                )
+            },
+        )
     }
 
     /// The first type of this name.
@@ -448,7 +470,11 @@ impl<D: SignatureData> Signature<D> {
 
     /// The place of a lifetime among those that are bound as it is, and whether it is late bound.
     pub fn lifetime_param_idx(&self, id: LocalLifetimeParamId) -> Result<Option<(usize, bool)>> {
-        self.generics("lifetime-index", |line| line.id(id), |text| read_opt(text, read_index))
+        self.generics(
+            "lifetime-index",
+            |line| line.id(id),
+            |text| read_opt(text, read_index),
+        )
     }
 
     /// The signature as text.
@@ -476,14 +502,16 @@ fn print_as<I: crate::ids::Id>(word: &str, id: I, head: I, edition: Edition) -> 
 impl FunctionSignature {
     /// The signature as text, as that of another function.
     pub fn print_as(&self, head: FunctionId, tables: &Tables, edition: Edition) -> Result<String> {
-        self.store.ask_with(tables, &print_as("print-function", self.id, head, edition))
+        self.store
+            .ask_with(tables, &print_as("print-function", self.id, head, edition))
     }
 }
 
 impl StructSignature {
     /// The signature as text, as that of another struct.
     pub fn print_as(&self, head: StructId, tables: &Tables, edition: Edition) -> Result<String> {
-        self.store.ask_with(tables, &print_as("print-struct", self.id, head, edition))
+        self.store
+            .ask_with(tables, &print_as("print-struct", self.id, head, edition))
     }
 }
 
@@ -550,15 +578,15 @@ pub struct VariantFields {
 
 /// As after `field`.
 fn write_field(field: &FieldData, line: &mut Line) {
-    line.word("field");
+    line.keyword("field");
     line.name(&field.name);
     line.id(field.type_ref);
     match &field.visibility {
-        RawVisibility::Public => line.word("pub"),
-        RawVisibility::PubCrate => line.word("pub(crate)"),
-        RawVisibility::PubSelf => line.word("pub(self)"),
+        RawVisibility::Public => line.keyword("pub"),
+        RawVisibility::PubCrate => line.keyword("pub(crate)"),
+        RawVisibility::PubSelf => line.keyword("pub(self)"),
         RawVisibility::Module(path) => {
-            line.word("pub(in:");
+            line.keyword("pub(in:");
             join_mod_path(path, line);
             line.join(')');
         }
@@ -581,7 +609,7 @@ impl VariantFields {
             write_field(field, &mut line);
             line.next_line();
         }
-        line.word("variant");
+        line.keyword("variant");
         line.word(variant);
         line.word(shape.as_str());
         line.next_line();

@@ -318,7 +318,12 @@ pub(crate) struct Sources {
 }
 
 /// A line for each entry, the source first.
-fn write_map<T>(word: &str, map: &BTreeMap<Source, T>, line: &mut Line, write: impl Fn(&T, &mut Line)) {
+fn write_map<T>(
+    word: &str,
+    map: &BTreeMap<Source, T>,
+    line: &mut Line,
+    write: impl Fn(&T, &mut Line),
+) {
     for (source, node) in map {
         line.word(word);
         source.write(line);
@@ -348,19 +353,21 @@ impl Sources {
         write_back("map-label-back", &self.labels_back, line);
         write_map("map-type", &self.types, line, |id, line| line.id(*id));
         write_back("map-type-back", &self.types_back, line);
-        write_map("map-lifetime", &self.lifetimes, line, |id, line| line.id(*id));
+        write_map("map-lifetime", &self.lifetimes, line, |id, line| {
+            line.id(*id)
+        });
         write_back("map-lifetime-back", &self.lifetimes_back, line);
         write_back("map-field-back", &self.fields_back, line);
         write_back("map-pat-field-back", &self.pat_fields_back, line);
         for (binding, pat) in &self.definitions {
-            line.word("definition");
+            line.keyword("definition");
             line.id(*binding);
             line.id(*pat);
             line.next_line();
         }
         write_map("expansion", &self.expansions, line, |id, line| line.id(*id));
         for diagnostic in &self.diagnostics {
-            line.word("diagnostic");
+            line.keyword("diagnostic");
             diagnostic.write(line);
             line.next_line();
         }

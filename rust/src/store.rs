@@ -15,7 +15,8 @@ use crate::nodes::Nodes;
 use crate::notation::{Line, Notation, Words};
 use crate::prec::ExprPrecedence;
 use crate::query::{
-    questions, read_answer, read_bool, read_id, read_ids, read_opt, read_opt_id, read_words, Query,
+    questions, read_answer, read_bool, read_id, read_ids, read_opt, read_opt_id, read_text,
+    read_words, Query,
 };
 use crate::scopes::ScopeCounts;
 use crate::tables::{Edition, Tables};
@@ -166,11 +167,10 @@ impl ExpressionStore {
 
     /// The answer to a question.
     pub(crate) fn ask<T>(&self, query: &Query<T>) -> Result<T> {
-        let mut answers = self.link.ask(&self.nodes, &query.line, 1)?;
-        match answers.pop() {
-            Some(answer) => read_answer(query.read, &answer),
-            None => Err(HirError::bad_answer("")),
-        }
+        self.link
+            .ask_one(&self.nodes, &query.line, |is_refusal, text| {
+                read_text(query.read, is_refusal, text)
+            })?
     }
 
     /// The answer to a question that looks definitions up.
@@ -219,7 +219,12 @@ impl ExpressionStore {
     }
 
     /// A pattern as text, in one line.
-    pub fn print_pat_oneline(&self, pat: PatId, tables: &Tables, edition: Edition) -> Result<String> {
+    pub fn print_pat_oneline(
+        &self,
+        pat: PatId,
+        tables: &Tables,
+        edition: Edition,
+    ) -> Result<String> {
         self.ask_with(tables, &print_pat(pat, true, edition))
     }
 
@@ -443,7 +448,11 @@ impl crate::batch::Batch<'_> {
     }
 
     /// A pattern as text, in one line.
-    pub fn print_pat_oneline(&mut self, pat: PatId, edition: Edition) -> crate::batch::Question<String> {
+    pub fn print_pat_oneline(
+        &mut self,
+        pat: PatId,
+        edition: Edition,
+    ) -> crate::batch::Question<String> {
         self.push(&print_pat(pat, true, edition))
     }
 

@@ -75,7 +75,9 @@ impl Key {
     pub(crate) fn has_store(self) -> bool {
         match self {
             Key::Signature(_) | Key::Fields(_) => true,
-            Key::RawWords(_) | Key::Name(_) | Key::Crate(_) | Key::Parent(_) | Key::Repr(_) => false,
+            Key::RawWords(_) | Key::Name(_) | Key::Crate(_) | Key::Parent(_) | Key::Repr(_) => {
+                false
+            }
         }
     }
 
@@ -87,7 +89,10 @@ impl Key {
             Missing::Crate(id) => Some(Key::Crate(id)),
             Missing::Signature(def) => Some(Key::Signature(def)),
             Missing::Fields(def) => Some(Key::Fields(def)),
-            Missing::Body(_) | Missing::TypeParam(_) | Missing::LifetimeParam(_) | Missing::DefMap(_) => None,
+            Missing::Body(_)
+            | Missing::TypeParam(_)
+            | Missing::LifetimeParam(_)
+            | Missing::DefMap(_) => None,
         }
     }
 }
@@ -230,12 +235,18 @@ impl Tables {
 
     /// The signature of its definition.
     pub fn add_signature<D: SignatureData>(&mut self, signature: &Signature<D>) {
-        self.add(Key::Signature(signature.def()), Entry::Lines(signature.lines().into()));
+        self.add(
+            Key::Signature(signature.def()),
+            Entry::Lines(signature.lines().into()),
+        );
     }
 
     /// The fields of their struct, union or variant.
     pub fn add_fields(&mut self, fields: &VariantFields) {
-        self.add(Key::Fields(fields.variant()), Entry::Lines(fields.lines().into()));
+        self.add(
+            Key::Fields(fields.variant()),
+            Entry::Lines(fields.lines().into()),
+        );
     }
 
     fn entry(&self, key: Key) -> Option<&Entry> {
@@ -315,10 +326,15 @@ impl Tables {
             TypeRef::TypeParam(param) => Some(Key::Signature(param.0.parent)),
             _ => None,
         }));
-        keys.extend(nodes.lifetimes.values().filter_map(|lifetime| match lifetime {
-            LifetimeRef::Param(param) => Some(Key::Signature(param.parent)),
-            _ => None,
-        }));
+        keys.extend(
+            nodes
+                .lifetimes
+                .values()
+                .filter_map(|lifetime| match lifetime {
+                    LifetimeRef::Param(param) => Some(Key::Signature(param.parent)),
+                    _ => None,
+                }),
+        );
         keys.retain(|key| self.entries.contains_key(key));
         keys
     }
@@ -330,23 +346,23 @@ impl Tables {
         };
         match key {
             Key::RawWords(edition) => {
-                line.word("raw-words");
+                line.keyword("raw-words");
                 line.word(edition.as_str());
             }
             Key::Name(def) => {
-                line.word("name ");
+                line.keyword("name ");
                 def.write(line);
             }
             Key::Crate(id) => {
-                line.word("crate-name");
+                line.keyword("crate-name");
                 line.id(id);
             }
             Key::Parent(id) => {
-                line.word("parent");
+                line.keyword("parent");
                 line.id(id);
             }
             Key::Repr(id) => {
-                line.word("repr");
+                line.keyword("repr");
                 line.id(id);
             }
             Key::Signature(_) | Key::Fields(_) => {}

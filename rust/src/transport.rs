@@ -111,6 +111,7 @@ pub(crate) fn answer_into(text: &[u8], buffer: &mut [u8]) -> Result<Report, Sess
 }
 
 /// The version of the library that is linked; `None` where none is.
+#[allow(clippy::unnecessary_wraps)] // A build without a library has none.
 pub(crate) fn library_version() -> Option<u32> {
     #[cfg(hir_c)]
     return Some(ffi::version());
@@ -128,7 +129,11 @@ impl Transport {
     }
 
     /// Takes the lines of a text, and writes their answers to a buffer, as far as it goes; the rest is kept.
-    pub(crate) fn ask_into(&mut self, text: &[u8], buffer: &mut [u8]) -> Result<Report, SessionError> {
+    pub(crate) fn ask_into(
+        &mut self,
+        text: &[u8],
+        buffer: &mut [u8],
+    ) -> Result<Report, SessionError> {
         match self {
             #[cfg(hir_c)]
             Transport::Library(library) => Ok(library.ask_into(text, buffer)),
@@ -146,16 +151,22 @@ impl Transport {
     }
 
     /// Takes the lines of a text; `answers` then has their answers, all of them. It keeps its memory from one text to the next.
-    pub(crate) fn ask(&mut self, text: &[u8], answers: &mut Vec<u8>) -> Result<Status, SessionError> {
+    pub(crate) fn ask(
+        &mut self,
+        text: &[u8],
+        answers: &mut Vec<u8>,
+    ) -> Result<Status, SessionError> {
         // Most answers are short: what is longer is fetched once its length is known.
-        answers.resize(1 << 10, 0);
+        answers.resize(1 << 8, 0);
         let report = self.ask_into(text, answers)?;
         let mut written = report.written;
         answers.resize(report.length, 0);
         while written < report.length {
             let next = self.fetch_into(&mut answers[written..]);
             if next.written == 0 {
-                return Err(SessionError::Gone(String::from("it doesn't give what it kept")));
+                return Err(SessionError::Gone(String::from(
+                    "it doesn't give what it kept",
+                )));
             }
             written += next.written;
         }

@@ -185,8 +185,15 @@ impl Body {
     }
 
     /// The body as text in which the binding and its uses have a new name.
-    pub fn renamed(&self, binding: BindingId, name: &Name, tables: &Tables, edition: Edition) -> Result<String> {
-        self.store().ask_with(tables, &renamed_query(binding, name, edition))
+    pub fn renamed(
+        &self,
+        binding: BindingId,
+        name: &Name,
+        tables: &Tables,
+        edition: Edition,
+    ) -> Result<String> {
+        self.store()
+            .ask_with(tables, &renamed_query(binding, name, edition))
     }
 }
 
@@ -237,7 +244,12 @@ impl crate::batch::Batch<'_> {
     }
 
     /// The body as text in which the binding and its uses have a new name.
-    pub fn renamed(&mut self, binding: BindingId, name: &Name, edition: Edition) -> crate::batch::Question<String> {
+    pub fn renamed(
+        &mut self,
+        binding: BindingId,
+        name: &Name,
+        edition: Edition,
+    ) -> crate::batch::Question<String> {
         self.push(&renamed_query(binding, name, edition))
     }
 }

@@ -9,9 +9,9 @@ use hir_expr_store::hir::{
     Statement, TraitBoundModifier, TypeBound, TypeRef,
 };
 use hir_expr_store::{
-    Batch, BindingId, Body, BodyFault, Child, Edition, ExprId, ExprOrPatId,
-    ExpressionStoreBuilder, FinishFault, Frame, FunctionId, HirError, HygieneId, Missing, Name,
-    NamedDef, NodeId, Param, ScopeEntry, SessionError, StructId, Tables, TypeRefId,
+    Batch, BindingId, Body, BodyFault, Child, Edition, ExprId, ExprOrPatId, ExpressionStoreBuilder,
+    FinishFault, Frame, FunctionId, HirError, HygieneId, Missing, Name, NamedDef, NodeId, Param,
+    ScopeEntry, SessionError, StructId, Tables, TypeRefId,
 };
 use nodes::{bind, block, f, local};
 
@@ -248,7 +248,10 @@ fn what_the_grammar_has_no_words_for_is_refused() {
     };
     builder.alloc_expr(Expr::Path(Path::Normal(Box::new(path))));
     builder.begin_roots();
-    assert!(matches!(fault_of(builder), HirError::Session(SessionError::BadLine(_))));
+    assert!(matches!(
+        fault_of(builder),
+        HirError::Session(SessionError::BadLine(_))
+    ));
 }
 
 #[test]

@@ -128,7 +128,10 @@ fn bytes_that_are_no_text_are_a_bad_line() {
         &buffer[..report.written],
         b"= exprs 0 pats 0 bindings 0 labels 0 types 0 lifetimes 0\n"
     );
-    assert_eq!(answer_into(b"\xff", &mut buffer).unwrap().status, Status::BadLine(1));
+    assert_eq!(
+        answer_into(b"\xff", &mut buffer).unwrap().status,
+        Status::BadLine(1)
+    );
     // The bad line is the first that is bad.
     assert_eq!(
         answer_into(b"noise\n\xff", &mut buffer).unwrap().status,

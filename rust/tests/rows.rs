@@ -194,7 +194,7 @@ fn a_session_answers_a_row_in_parts() {
                 .zip(&came)
                 .all(|(wanted, came)| wanted.as_ref().is_none_or(|it| *it == joined(came)));
         if !agree {
-            differences.push(format!("{}", row.place));
+            differences.push(row.place.clone());
         }
     }
     assert!(differences.is_empty(), "{differences:#?}");

@@ -100,11 +100,17 @@ fn uses_resolve_to_the_nearest_binding() -> Outcome {
         }))
     );
     assert_eq!(answers.get(of_shadow)?, [ExprOrPatId::ExprId(at_shadow)]);
-    assert_eq!(answers.get(absent), Err(HirError::Rename(RenameFault::NotBound)));
+    assert_eq!(
+        answers.get(absent),
+        Err(HirError::Rename(RenameFault::NotBound))
+    );
     assert_eq!(answers.get(to_other)?, [ExprOrPatId::ExprId(at_x)]);
 
     let all = body.usages()?;
-    assert_eq!(all.iter().copied().collect::<Vec<_>>(), answers.get(usages)?);
+    assert_eq!(
+        all.iter().copied().collect::<Vec<_>>(),
+        answers.get(usages)?
+    );
     for binding in [x, y, shadow, BindingId::from_raw(9)] {
         let wanted: Vec<ExprOrPatId> = all
             .iter()
@@ -221,8 +227,14 @@ fn renamed_bodies_are_printed() -> Outcome {
     let answers = batch.ask()?;
     let wanted = "fn f(P {\n    x: y,\n}) {\n    y\n}";
     assert_eq!(answers.get(text)?, wanted);
-    assert_eq!(answers.get(to_self), Err(HirError::Rename(RenameFault::IsSelf)));
-    assert_eq!(body.renamed(x, &"y".into(), &tables, Edition::Edition2021)?, wanted);
+    assert_eq!(
+        answers.get(to_self),
+        Err(HirError::Rename(RenameFault::IsSelf))
+    );
+    assert_eq!(
+        body.renamed(x, &"y".into(), &tables, Edition::Edition2021)?,
+        wanted
+    );
     Ok(())
 }
 

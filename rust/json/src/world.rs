@@ -68,7 +68,11 @@ impl World {
             Some(lines) => Some(self.ask_lines(&lines)?),
             None => None,
         };
-        let answers: Vec<Value> = request.ask.into_iter().map(|it| outcome(self.ask(it))).collect();
+        let answers: Vec<Value> = request
+            .ask
+            .into_iter()
+            .map(|it| outcome(self.ask(it)))
+            .collect();
         Ok(match lines {
             Some(lines) => json!({ "answers": answers, "lines": lines }),
             None => json!({ "answers": answers }),
@@ -133,20 +137,32 @@ impl World {
             Question::EnclosingLoop(expr) => value(store.enclosing_loop(expr)),
             Question::JumpTarget(expr) => value(store.jump_target(expr)),
             Question::Precedence(expr) => value(store.precedence(expr)),
-            Question::Resolve { expr, name, hygiene } => value(store.scopes()?.resolve(expr, &name, hygiene)),
+            Question::Resolve {
+                expr,
+                name,
+                hygiene,
+            } => value(store.scopes()?.resolve(expr, &name, hygiene)),
             Question::BindingAt(expr) => value(store.scopes()?.binding_at(expr)),
             Question::Chain(expr) => value(store.scopes()?.chain(expr)),
             Question::Frames(expr) => value(store.scopes()?.frames(expr)),
             Question::VisibleNames(expr) => value(store.scopes()?.visible_names(expr)),
             Question::Captures(closure) => value(self.body()?.captures(closure)),
-            Question::Usages => value(self.body()?.usages().map(|it| it.iter().copied().collect::<Vec<_>>())),
+            Question::Usages => value(
+                self.body()?
+                    .usages()
+                    .map(|it| it.iter().copied().collect::<Vec<_>>()),
+            ),
             Question::Unresolved => value(self.body()?.usages().map(|it| it.unresolved().to_vec())),
             Question::Unused => value(self.body()?.usages().map(|it| it.unused().to_vec())),
-            Question::UsagesOf(binding) => value(self.body()?.usages().map(|it| it.of(binding).to_vec())),
-            Question::Rename { binding, name } => value(self.body()?.rename(binding, &name)),
-            Question::Renamed { binding, name, edition } => {
-                value(self.body()?.renamed(binding, &name, tables, edition))
+            Question::UsagesOf(binding) => {
+                value(self.body()?.usages().map(|it| it.of(binding).to_vec()))
             }
+            Question::Rename { binding, name } => value(self.body()?.rename(binding, &name)),
+            Question::Renamed {
+                binding,
+                name,
+                edition,
+            } => value(self.body()?.renamed(binding, &name, tables, edition)),
             Question::Print { edition } => value(self.body()?.print(tables, edition)),
             Question::PrintExpr { expr, edition } => value(store.print_expr(expr, tables, edition)),
             Question::PrintPat { pat, edition } => value(store.print_pat(pat, tables, edition)),

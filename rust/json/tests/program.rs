@@ -11,21 +11,30 @@ fn ask(input: &str) -> (Vec<Value>, Option<i32>) {
         .stdout(Stdio::piped())
         .spawn()
         .unwrap();
-    program.stdin.take().unwrap().write_all(input.as_bytes()).unwrap();
+    program
+        .stdin
+        .take()
+        .unwrap()
+        .write_all(input.as_bytes())
+        .unwrap();
     let output = program.wait_with_output().unwrap();
     let lines = String::from_utf8(output.stdout).unwrap();
-    let answers = lines.lines().map(|line| serde_json::from_str(line).unwrap()).collect();
+    let answers = lines
+        .lines()
+        .map(|line| serde_json::from_str(line).unwrap())
+        .collect();
     (answers, output.status.code())
 }
 
 /// `fn f(x) { (x, y) }`, as data.
 fn body() -> Value {
-    let path = |name: &str| json!({ "Path": { "BarePath": { "kind": "Plain", "segments": [name] } } });
+    let path =
+        |name: &str| json!({ "Path": { "BarePath": { "kind": "Plain", "segments": [name] } } });
     json!({
         "store": {
             "exprs": [path("x"), path("y"), { "Tuple": { "exprs": [0, 1] } }],
             "pats": [{ "Bind": { "id": 0, "subpat": null } }],
-            "bindings": [{ "name": "x", "mode": "Unannotated", "problems": null, "hygiene": null }],
+            "bindings": [{ "name": "x" }],
             "roots": [2]
         },
         "body": { "def": { "FunctionId": 0 }, "params": [0] },
@@ -62,23 +71,41 @@ fn a_body_is_asked() {
 
 #[test]
 fn a_store_is_tested_when_it_is_read() {
-    let (answers, status) = ask(r#"{"store": {"exprs": [{"Tuple": {"exprs": [0]}}], "has_roots": true}}"#);
+    let (answers, status) =
+        ask(r#"{"store": {"exprs": [{"Tuple": {"exprs": [0]}}], "has_roots": true}}"#);
     let error = answers[0]["error"].as_str().unwrap();
-    assert!(error.starts_with("ExprId(0) is on a cycle, or a descendant of one"), "{error}");
+    assert!(
+        error.starts_with("ExprId(0) is on a cycle, or a descendant of one"),
+        "{error}"
+    );
     assert_eq!(status, Some(2));
 }
 
 #[test]
 fn lines_are_asked() {
-    let (answers, status) = ask("{\"lines\": \"expr path a\\nroot 0\\nprint-expr 0\\nchain 7\\n\"}\n{\"lines\": \"nodes\"}");
-    assert_eq!(answers[0]["lines"], json!([{ "ok": "a" }, { "refused": "unreached" }]));
-    assert_eq!(answers[1]["lines"][0]["ok"], "exprs 1 pats 0 bindings 0 labels 0 types 0 lifetimes 0");
+    let (answers, status) = ask(
+        "{\"lines\": \"expr path a\\nroot 0\\nprint-expr 0\\nchain 7\\n\"}\n{\"lines\": \"nodes\"}",
+    );
+    assert_eq!(
+        answers[0]["lines"],
+        json!([{ "ok": "a" }, { "refused": "unreached" }])
+    );
+    assert_eq!(
+        answers[1]["lines"][0]["ok"],
+        "exprs 1 pats 0 bindings 0 labels 0 types 0 lifetimes 0"
+    );
     assert_eq!(status, Some(0));
 }
 
 #[test]
 fn what_is_no_request_ends_the_program() {
-    for input in ["{", "[]", "{\"asks\": []}", "{\"ask\": [\"nothing\"]}", "{\"store\": {\"roots\": [0], \"ends\": [{}]}}"] {
+    for input in [
+        "{",
+        "[]",
+        "{\"asks\": []}",
+        "{\"ask\": [\"nothing\"]}",
+        "{\"store\": {\"roots\": [0], \"ends\": [{}]}}",
+    ] {
         let (answers, status) = ask(input);
         assert!(answers[0]["error"].is_string(), "{input}");
         assert_eq!(status, Some(2), "{input}");

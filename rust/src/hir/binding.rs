@@ -49,17 +49,19 @@ pub enum BindingProblems {
     NotBoundAcrossAll,
 }
 
-/// A variable that a pattern brings into scope.
+/// A variable that a pattern binds.
 #[derive(Clone, PartialEq, Eq, Debug)]
 #[cfg_attr(hir_serde, derive(serde::Serialize, serde::Deserialize))]
 pub struct Binding {
     /// Its name.
     pub name: Name,
     /// The words before its name.
+    #[cfg_attr(hir_serde, serde(default))]
     pub mode: BindingAnnotation,
     /// What is wrong with it, if anything.
     pub problems: Option<BindingProblems>,
     /// The macro expansion, if any, that wrote its name.
+    #[cfg_attr(hir_serde, serde(default))]
     pub hygiene: HygieneId,
 }
 

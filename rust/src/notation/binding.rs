@@ -17,7 +17,7 @@ impl Notation for HygieneId {
     fn write(&self, line: &mut Line) {
         match self.as_expansion() {
             Some(number) => line.word(number),
-            None => line.word("root"),
+            None => line.keyword("root"),
         }
     }
 
@@ -47,9 +47,9 @@ impl Notation for Binding {
         line.name(&self.name);
         match self.mode {
             BindingAnnotation::Unannotated => {}
-            BindingAnnotation::Mutable => line.word("mut"),
-            BindingAnnotation::Ref => line.word("ref"),
-            BindingAnnotation::RefMut => line.word("refmut"),
+            BindingAnnotation::Mutable => line.keyword("mut"),
+            BindingAnnotation::Ref => line.keyword("ref"),
+            BindingAnnotation::RefMut => line.keyword("refmut"),
         }
         if !self.hygiene.is_root() {
             self.hygiene.write(line);
@@ -85,16 +85,16 @@ impl Notation for LifetimeRef {
     fn write(&self, line: &mut Line) {
         match self {
             LifetimeRef::Named(name) => {
-                line.word("named");
+                line.keyword("named");
                 line.name(name);
             }
-            LifetimeRef::Static => line.word("static"),
-            LifetimeRef::Placeholder => line.word("placeholder"),
+            LifetimeRef::Static => line.keyword("static"),
+            LifetimeRef::Placeholder => line.keyword("placeholder"),
             LifetimeRef::Param(param) => {
-                line.word("param");
+                line.keyword("param");
                 param.write(line);
             }
-            LifetimeRef::Error => line.word("error"),
+            LifetimeRef::Error => line.keyword("error"),
         }
     }
 

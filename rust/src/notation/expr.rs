@@ -18,7 +18,7 @@ impl Notation for Statement {
                 initializer,
                 else_branch,
             } => {
-                line.word("let:");
+                line.keyword("let:");
                 line.join_id(*pat);
                 line.join(':');
                 line.join_opt_id(*type_ref);
@@ -32,10 +32,10 @@ impl Notation for Statement {
                 line.join_id(*expr);
             }
             Statement::Item(Item::MacroDef(id)) => {
-                line.word("macro:");
+                line.keyword("macro:");
                 line.join_id(*id);
             }
-            Statement::Item(Item::Other) => line.word("item"),
+            Statement::Item(Item::Other) => line.keyword("item"),
         }
     }
 
@@ -92,8 +92,8 @@ fn coroutine_kind(kind: CoroutineKind) -> &'static str {
 fn write_closure_kind(kind: ClosureKind, line: &mut Line) {
     match kind {
         ClosureKind::Closure => {}
-        ClosureKind::OldCoroutine(Movability::Static) => line.word("static"),
-        ClosureKind::OldCoroutine(Movability::Movable) => line.word("movable"),
+        ClosureKind::OldCoroutine(Movability::Static) => line.keyword("static"),
+        ClosureKind::OldCoroutine(Movability::Movable) => line.keyword("movable"),
         ClosureKind::CoroutineClosure(kind) => line.word(coroutine_kind(kind)),
         ClosureKind::Coroutine { kind, source } => {
             line.word(coroutine_kind(kind));
@@ -137,7 +137,7 @@ fn read_closure_kind(words: &mut Words<'_>) -> Option<ClosureKind> {
 /// The types of a closure's parameters; left out where each parameter has a place, and no type.
 fn write_arg_types(types: &[Option<TypeRefId>], arg_count: usize, line: &mut Line) {
     if types.len() != arg_count || types.iter().any(Option::is_some) {
-        line.word("types:");
+        line.keyword("types:");
         line.joined(",", types, |line, ty| line.join_opt_id(*ty));
     }
 }
@@ -254,34 +254,34 @@ impl Notation for Expr {
     #[allow(clippy::too_many_lines)] // One arm a form.
     fn write(&self, line: &mut Line) {
         match self {
-            Expr::Missing => line.word("missing"),
-            Expr::Underscore => line.word("underscore"),
-            Expr::IncludeBytes => line.word("include-bytes"),
+            Expr::Missing => line.keyword("missing"),
+            Expr::Underscore => line.keyword("underscore"),
+            Expr::IncludeBytes => line.keyword("include-bytes"),
             Expr::Path(path) => {
-                line.word("path");
+                line.keyword("path");
                 path.write(line);
             }
             Expr::Literal(literal) => literal.write(line),
             Expr::Array(Array::ElementList { elements }) => {
-                line.word("array");
+                line.keyword("array");
                 line.ids(elements);
             }
             Expr::Array(Array::Repeat {
                 initializer,
                 repeat,
             }) => {
-                line.word("repeat");
+                line.keyword("repeat");
                 line.id(*initializer);
                 line.id(*repeat);
             }
             Expr::OffsetOf(OffsetOf { container, fields }) => {
-                line.word("offset-of");
+                line.keyword("offset-of");
                 line.id(*container);
                 line.begin();
                 line.join_names(fields);
             }
             Expr::Const(expr) => {
-                line.word("const");
+                line.keyword("const");
                 line.id(*expr);
             }
             Expr::If {
@@ -289,13 +289,13 @@ impl Notation for Expr {
                 then_branch,
                 else_branch,
             } => {
-                line.word("if");
+                line.keyword("if");
                 line.id(*condition);
                 line.id(*then_branch);
                 line.opt_id(*else_branch);
             }
             Expr::Let { pat, expr } => {
-                line.word("let");
+                line.keyword("let");
                 line.id(*pat);
                 line.id(*expr);
             }
@@ -306,7 +306,7 @@ impl Notation for Expr {
                 label,
                 unsafe_,
             } => {
-                line.word("block");
+                line.keyword("block");
                 line.opt_id(*id);
                 line.opt_id(*tail);
                 line.prefixed_id("label:", *label);
@@ -320,17 +320,17 @@ impl Notation for Expr {
                 label,
                 source,
             } => {
-                line.word("loop");
+                line.keyword("loop");
                 line.id(*body);
                 line.prefixed_id("label:", *label);
                 match source {
                     LoopSource::Loop => {}
-                    LoopSource::While => line.word("while"),
-                    LoopSource::ForLoop => line.word("for"),
+                    LoopSource::While => line.keyword("while"),
+                    LoopSource::ForLoop => line.keyword("for"),
                 }
             }
             Expr::Call { callee, args } => {
-                line.word("call");
+                line.keyword("call");
                 line.id(*callee);
                 line.ids(args);
             }
@@ -340,7 +340,7 @@ impl Notation for Expr {
                 args,
                 generic_args,
             } => {
-                line.word("method");
+                line.keyword("method");
                 line.id(*receiver);
                 line.name(method_name);
                 line.ids(args);
@@ -350,14 +350,14 @@ impl Notation for Expr {
                 }
             }
             Expr::Match { expr, arms } => {
-                line.word("match");
+                line.keyword("match");
                 line.id(*expr);
                 for arm in arms {
                     arm.write(line);
                 }
             }
             Expr::Continue { label } => {
-                line.word("continue");
+                line.keyword("continue");
                 line.prefixed_id("label:", *label);
             }
             Expr::Break { expr, label } => {
@@ -374,7 +374,7 @@ impl Notation for Expr {
                 fields,
                 spread,
             } => {
-                line.word("record");
+                line.keyword("record");
                 path.write(line);
                 for field in fields {
                     line.name(&field.name);
@@ -383,17 +383,17 @@ impl Notation for Expr {
                 }
                 match spread {
                     RecordSpread::None => {}
-                    RecordSpread::FieldDefaults => line.word(".."),
+                    RecordSpread::FieldDefaults => line.keyword(".."),
                     RecordSpread::Expr(expr) => line.prefixed_id("..", Some(*expr)),
                 }
             }
             Expr::Field { expr, name } => {
-                line.word("field");
+                line.keyword("field");
                 line.id(*expr);
                 line.name(name);
             }
             Expr::Cast { expr, type_ref } => {
-                line.word("cast");
+                line.keyword("cast");
                 line.id(*expr);
                 line.id(*type_ref);
             }
@@ -402,32 +402,32 @@ impl Notation for Expr {
                 rawness,
                 mutability,
             } => {
-                line.word("ref");
+                line.keyword("ref");
                 line.id(*expr);
                 line.flag(rawness.is_raw(), "raw");
                 line.flag(mutability.is_mut(), "mut");
             }
             Expr::UnaryOp { expr, op } => {
-                line.word("unary");
+                line.keyword("unary");
                 op.write(line);
                 line.id(*expr);
             }
             Expr::BinaryOp { lhs, rhs, op } => {
-                line.word("bin");
+                line.keyword("bin");
                 match op {
                     Some(op) => op.write(line),
-                    None => line.word("missing"),
+                    None => line.keyword("missing"),
                 }
                 line.id(*lhs);
                 line.id(*rhs);
             }
             Expr::Assignment { target, value } => {
-                line.word("assign");
+                line.keyword("assign");
                 line.id(*target);
                 line.id(*value);
             }
             Expr::Index { base, index } => {
-                line.word("index");
+                line.keyword("index");
                 line.id(*base);
                 line.id(*index);
             }
@@ -439,7 +439,7 @@ impl Notation for Expr {
                 closure_kind,
                 capture_by,
             } => {
-                line.word("closure");
+                line.keyword("closure");
                 line.id(*body);
                 line.ids(args);
                 write_arg_types(arg_types, args.len(), line);
@@ -448,7 +448,7 @@ impl Notation for Expr {
                 write_closure_kind(*closure_kind, line);
             }
             Expr::Tuple { exprs } => {
-                line.word("tuple");
+                line.keyword("tuple");
                 line.ids(exprs);
             }
         }

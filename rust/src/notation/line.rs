@@ -24,10 +24,10 @@ impl Line {
 
     /// A line that goes on behind this word.
     pub fn behind(word: &str) -> Line {
-        Line {
-            text: String::from(word),
-            start: 0,
-        }
+        // Most lines of one question fit.
+        let mut text = String::with_capacity(word.len() + 40);
+        text.push_str(word);
+        Line { text, start: 0 }
     }
 
     /// Ends the line, and begins the next one.
@@ -65,6 +65,32 @@ impl Line {
         self.join(word);
     }
 
+    /// A word that is a text.
+    pub fn keyword(&mut self, word: &str) {
+        self.begin();
+        self.text.push_str(word);
+    }
+
+    /// A text, after the last word without a space.
+    pub fn join_str(&mut self, part: &str) {
+        self.text.push_str(part);
+    }
+
+    /// A number, after the last word without a space. Most of what lines have is numbers, and formatting takes twice as long.
+    fn join_number(&mut self, number: u32) {
+        let (mut digits, mut rest, mut at) = ([b'0'; 10], number, 10);
+        loop {
+            at -= 1;
+            digits[at] += u8::try_from(rest % 10).unwrap_or(0);
+            rest /= 10;
+            if rest == 0 {
+                break;
+            }
+        }
+        self.text
+            .extend(digits[at..].iter().copied().map(char::from));
+    }
+
     /// What comes behind the last word without a space.
     pub fn join(&mut self, part: impl Display) {
         // A String takes all that is written to it.
@@ -74,25 +100,26 @@ impl Line {
     /// A word, where this is so.
     pub fn flag(&mut self, is_so: bool, word: &str) {
         if is_so {
-            self.word(word);
+            self.keyword(word);
         }
     }
 
     /// The number of a node, as a word.
     pub fn id<I: Id>(&mut self, id: I) {
-        self.word(id.into_raw());
+        self.begin();
+        self.join_number(id.into_raw());
     }
 
     /// The number of a node, behind the last word without a space.
     pub fn join_id<I: Id>(&mut self, id: I) {
-        self.join(id.into_raw());
+        self.join_number(id.into_raw());
     }
 
     /// The number of a node or `-`, behind the last word without a space.
     pub fn join_opt_id<I: Id>(&mut self, id: Option<I>) {
         match id {
             Some(id) => self.join_id(id),
-            None => self.join('-'),
+            None => self.text.push('-'),
         }
     }
 
@@ -105,7 +132,7 @@ impl Line {
     /// A word that begins with this and ends with the number of a node, where there is one.
     pub fn prefixed_id<I: Id>(&mut self, start: &str, id: Option<I>) {
         if let Some(id) = id {
-            self.word(start);
+            self.keyword(start);
             self.join_id(id);
         }
     }
@@ -120,7 +147,7 @@ impl Line {
     pub fn joined<T>(&mut self, between: &str, items: &[T], write: impl Fn(&mut Line, &T)) {
         for (at, item) in items.iter().enumerate() {
             if at > 0 {
-                self.join(between);
+                self.text.push_str(between);
             }
             write(self, item);
         }
@@ -129,7 +156,7 @@ impl Line {
     /// The same, or `-` for none.
     pub fn joined_or_none<T>(&mut self, between: &str, items: &[T], write: impl Fn(&mut Line, &T)) {
         if items.is_empty() {
-            self.join('-');
+            self.text.push('-');
         }
         self.joined(between, items, write);
     }
@@ -137,7 +164,7 @@ impl Line {
     /// A name, bare or in quotes, behind the last word without a space.
     pub fn join_name(&mut self, name: &Name) {
         if is_bare(name.as_str()) {
-            self.join(name);
+            self.text.push_str(name.as_str());
         } else {
             self.join_quoted(name.as_str());
         }
@@ -196,6 +223,37 @@ impl Line {
                 self.join(format_args!("\\u{{{:02x}}}", u32::from(c)));
             }
             _ => self.text.push(c),
+        }
+    }
+}
+
+#[cfg(test)]
+mod tests {
+    use super::Line;
+    use crate::ids::ExprId;
+
+    #[test]
+    fn numbers_are_written_in_decimal() {
+        for number in [
+            0,
+            1,
+            9,
+            10,
+            99,
+            100,
+            254,
+            255,
+            256,
+            260,
+            999,
+            65_535,
+            65_536,
+            1_234_567_890,
+            u32::MAX,
+        ] {
+            let mut line = Line::new();
+            line.join_id(ExprId::from_raw(number));
+            assert_eq!(line.as_str(), number.to_string());
         }
     }
 }

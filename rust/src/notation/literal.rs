@@ -110,37 +110,37 @@ impl Notation for Literal {
     fn write(&self, line: &mut Line) {
         match self {
             Literal::String(text) => {
-                line.word("string");
+                line.keyword("string");
                 line.quoted(text);
             }
             Literal::ByteString(bytes) => {
-                line.word("bytes");
+                line.keyword("bytes");
                 line.quoted_bytes(bytes);
             }
             Literal::CString(bytes) => {
-                line.word("cstring");
+                line.keyword("cstring");
                 line.quoted_bytes(bytes);
             }
             Literal::Char(c) => {
-                line.word("char");
+                line.keyword("char");
                 line.quoted(c.encode_utf8(&mut [0; 4]));
             }
             Literal::Bool(value) => {
-                line.word("bool");
+                line.keyword("bool");
                 line.word(value);
             }
             Literal::Int(value, suffix) => {
-                line.word("int");
+                line.keyword("int");
                 line.word(value);
                 write_suffix(suffix.as_ref(), line);
             }
             Literal::Uint(value, suffix) => {
-                line.word("uint");
+                line.keyword("uint");
                 line.word(value);
                 write_suffix(suffix.as_ref(), line);
             }
             Literal::Float(value, suffix) => {
-                line.word("float");
+                line.keyword("float");
                 if is_decimal(value.as_str()) {
                     line.word(value.as_str());
                 } else {

@@ -35,17 +35,17 @@ fn read_range_type(words: &mut Words<'_>) -> RangeOp {
 impl Notation for Pat {
     fn write(&self, line: &mut Line) {
         match self {
-            Pat::Missing => line.word("missing"),
-            Pat::Rest => line.word("rest"),
-            Pat::Wild => line.word("wild"),
-            Pat::NotNull => line.word("not-null"),
+            Pat::Missing => line.keyword("missing"),
+            Pat::Rest => line.keyword("rest"),
+            Pat::Wild => line.keyword("wild"),
+            Pat::NotNull => line.keyword("not-null"),
             Pat::Tuple { args, ellipsis } => {
-                line.word("tuple");
+                line.keyword("tuple");
                 line.ids(args);
                 write_ellipsis(*ellipsis, line);
             }
             Pat::Or(args) => {
-                line.word("or");
+                line.keyword("or");
                 line.ids(args);
             }
             Pat::Record {
@@ -53,7 +53,7 @@ impl Notation for Pat {
                 args,
                 ellipsis,
             } => {
-                line.word("record");
+                line.keyword("record");
                 path.write(line);
                 for field in args {
                     line.name(&field.name);
@@ -67,7 +67,7 @@ impl Notation for Pat {
                 end,
                 range_type,
             } => {
-                line.word("range");
+                line.keyword("range");
                 line.opt_id(*start);
                 line.opt_id(*end);
                 line.flag(*range_type == RangeOp::Exclusive, "exclusive");
@@ -77,25 +77,25 @@ impl Notation for Pat {
                 slice,
                 suffix,
             } => {
-                line.word("slice");
+                line.keyword("slice");
                 line.ids(prefix);
                 line.opt_id(*slice);
                 line.ids(suffix);
             }
             Pat::Path(path) => {
-                line.word("path");
+                line.keyword("path");
                 path.write(line);
             }
             Pat::Lit(expr) => {
-                line.word("lit");
+                line.keyword("lit");
                 line.id(*expr);
             }
             Pat::Expr(expr) => {
-                line.word("expr");
+                line.keyword("expr");
                 line.id(*expr);
             }
             Pat::Bind { id, subpat } => {
-                line.word("bind");
+                line.keyword("bind");
                 line.id(*id);
                 line.opt_id(*subpat);
             }
@@ -104,22 +104,22 @@ impl Notation for Pat {
                 args,
                 ellipsis,
             } => {
-                line.word("tstruct");
+                line.keyword("tstruct");
                 path.write(line);
                 line.ids(args);
                 write_ellipsis(*ellipsis, line);
             }
             Pat::Ref { pat, mutability } => {
-                line.word("ref");
+                line.keyword("ref");
                 line.id(*pat);
                 line.flag(mutability.is_mut(), "mut");
             }
             Pat::Box { inner } => {
-                line.word("box");
+                line.keyword("box");
                 line.id(*inner);
             }
             Pat::Deref { inner } => {
-                line.word("deref");
+                line.keyword("deref");
                 line.id(*inner);
             }
         }

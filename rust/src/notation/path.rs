@@ -113,18 +113,18 @@ impl Notation for TypeBound {
                 write_trait(*path, line);
             }
             TypeBound::ForLifetime(names, path) => {
-                line.join("for<");
+                line.join_str("for<");
                 line.join_names(names);
                 line.join('>');
                 write_trait(*path, line);
             }
             TypeBound::Lifetime(id) => GenericArg::Lifetime(*id).write(line),
             TypeBound::Use(uses) => {
-                line.join("use<");
+                line.join_str("use<");
                 line.joined(",", uses, |line, used| used.write(line));
                 line.join('>');
             }
-            TypeBound::Error => line.join("error"),
+            TypeBound::Error => line.join_str("error"),
         }
     }
 
@@ -265,9 +265,9 @@ fn read_within(words: &mut Words<'_>, depth: u8) -> Option<GenericArgs> {
 /// From `::<` on.
 impl Notation for GenericArgs {
     fn write(&self, line: &mut Line) {
-        line.join("::<");
+        line.join_str("::<");
         if self.has_self_type {
-            line.join("self;");
+            line.join_str("self;");
         }
         line.join(match self.parenthesized {
             GenericArgsParentheses::No => "",
@@ -293,11 +293,11 @@ impl Notation for GenericArgs {
 fn write_kind(kind: PathKind, has_names: bool, line: &mut Line) {
     match kind {
         PathKind::Plain => return line.join(if has_names { "" } else { "-" }),
-        PathKind::Abs => return line.join("::"),
-        PathKind::Super(0) => line.join("self"),
-        PathKind::Super(1) => line.join("super"),
+        PathKind::Abs => return line.join_str("::"),
+        PathKind::Super(0) => line.join_str("self"),
+        PathKind::Super(1) => line.join_str("super"),
         PathKind::Super(count) => line.join(format_args!("super({count})")),
-        PathKind::Crate => line.join("crate"),
+        PathKind::Crate => line.join_str("crate"),
         PathKind::DollarCrate(id) => line.join(format_args!("$crate({})", id.into_raw())),
     }
     line.join(if has_names { "::" } else { "" });
@@ -425,7 +425,7 @@ fn write_normal(path: &NormalPath, line: &mut Line) {
     }
     for (at, name) in names.iter().enumerate() {
         if at > 0 {
-            line.join("::");
+            line.join_str("::");
         }
         write_segment(name, line);
         if let Some(Some(args)) = path.generic_args.get(at) {
@@ -466,11 +466,11 @@ impl Notation for Path {
                 write_normal(path, line);
             }
             Path::LangItem(target, name) => {
-                line.word("lang(");
+                line.keyword("lang(");
                 target.write(line);
                 line.join(')');
                 if let Some(name) = name {
-                    line.join("::");
+                    line.join_str("::");
                     write_segment(name, line);
                 }
             }

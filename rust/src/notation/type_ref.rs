@@ -10,12 +10,12 @@ use crate::name::Name;
 pub(crate) fn write_abi(abi: &ExternAbi, line: &mut Line) {
     match abi {
         ExternAbi::Rust => {}
-        ExternAbi::C => line.word("extern:C"),
-        ExternAbi::CUnwind => line.word("extern:C-unwind"),
-        ExternAbi::System => line.word("extern:system"),
-        ExternAbi::SystemUnwind => line.word("extern:system-unwind"),
+        ExternAbi::C => line.keyword("extern:C"),
+        ExternAbi::CUnwind => line.keyword("extern:C-unwind"),
+        ExternAbi::System => line.keyword("extern:system"),
+        ExternAbi::SystemUnwind => line.keyword("extern:system-unwind"),
         ExternAbi::Named(text) => {
-            line.word("extern:");
+            line.keyword("extern:");
             line.join_quoted(text);
         }
     }
@@ -76,7 +76,7 @@ fn read_fn(words: &mut Words<'_>) -> Option<FnType> {
 
 fn write_fn(function: &FnType, line: &mut Line) {
     if let Some(names) = &function.binder {
-        line.word("for<");
+        line.keyword("for<");
         line.join_names(names);
         line.join('>');
     }
@@ -96,55 +96,55 @@ fn write_fn(function: &FnType, line: &mut Line) {
 impl Notation for TypeRef {
     fn write(&self, line: &mut Line) {
         match self {
-            TypeRef::Never => line.word("never"),
-            TypeRef::Placeholder => line.word("placeholder"),
-            TypeRef::Error => line.word("error"),
+            TypeRef::Never => line.keyword("never"),
+            TypeRef::Placeholder => line.keyword("placeholder"),
+            TypeRef::Error => line.keyword("error"),
             TypeRef::Tuple(types) => {
-                line.word("tuple");
+                line.keyword("tuple");
                 line.ids(types);
             }
             TypeRef::Path(path) => {
-                line.word("path");
+                line.keyword("path");
                 path.write(line);
             }
             TypeRef::RawPtr(ty, mutability) => {
-                line.word("raw");
+                line.keyword("raw");
                 line.id(*ty);
                 line.flag(mutability.is_mut(), "mut");
             }
             TypeRef::Reference(reference) => {
-                line.word("ref");
+                line.keyword("ref");
                 line.id(reference.ty);
                 line.opt_id(reference.lifetime);
                 line.flag(reference.mutability.is_mut(), "mut");
             }
             TypeRef::Array(array) => {
-                line.word("array");
+                line.keyword("array");
                 line.id(array.ty);
                 line.id(array.len.expr);
             }
             TypeRef::Slice(ty) => {
-                line.word("slice");
+                line.keyword("slice");
                 line.id(*ty);
             }
             TypeRef::Fn(function) => {
-                line.word("fn");
+                line.keyword("fn");
                 write_fn(function, line);
             }
             TypeRef::ImplTrait(bounds) => {
-                line.word("impl");
+                line.keyword("impl");
                 write_bounds(bounds, line);
             }
             TypeRef::DynTrait(bounds) => {
-                line.word("dyn");
+                line.keyword("dyn");
                 write_bounds(bounds, line);
             }
             TypeRef::TypeParam(param) => {
-                line.word("param");
+                line.keyword("param");
                 param.write(line);
             }
             TypeRef::PatternType(ty, pat) => {
-                line.word("pattern");
+                line.keyword("pattern");
                 line.id(*ty);
                 line.id(*pat);
             }

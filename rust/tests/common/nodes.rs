@@ -1,4 +1,5 @@
-//! Nodes of bodies that tests build.
+//! Nodes of bodies that tests build. Each test uses some.
+#![allow(dead_code)]
 
 use hir_expr_store::hir::{Binding, Expr, Pat, Path, Statement, Unsafe};
 use hir_expr_store::{
