@@ -17,7 +17,9 @@ const OFTEN: Duration = Duration::from_millis(100);
 
 /// How many threads handle so many files: as many as the machine has, where nothing else is said.
 fn threads(files: usize, most: Option<NonZero<usize>>) -> usize {
-    let most = most.or_else(|| thread::available_parallelism().ok()).map_or(1, NonZero::get);
+    let most = most
+        .or_else(|| thread::available_parallelism().ok())
+        .map_or(1, NonZero::get);
     files.min(most).max(1)
 }
 
@@ -213,10 +215,15 @@ mod tests {
 
     #[test]
     fn what_isn_t_taken_ends_it() {
-        let taken = in_order(1000, None, |number, _: &_| number, |number| match number {
-            3 => Err(io::Error::other("full")),
-            _ => Ok(()),
-        });
+        let taken = in_order(
+            1000,
+            None,
+            |number, _: &_| number,
+            |number| match number {
+                3 => Err(io::Error::other("full")),
+                _ => Ok(()),
+            },
+        );
         assert!(taken.is_err());
     }
 }

@@ -3,7 +3,9 @@
 use crate::functions::Function;
 use crate::lower::{tables, BindingSource, Lowered, Sources};
 use crate::span::{Place, Span};
-use hir_expr_store::{Answers, Batch, BindingId, Edition, ExprOrPatId, HirError, HygieneId, Name, Question};
+use hir_expr_store::{
+    Answers, Batch, BindingId, Edition, ExprOrPatId, HirError, HygieneId, Name, Question,
+};
 use std::collections::{HashMap, HashSet};
 
 /// A name that is used, and what it means.
@@ -144,9 +146,19 @@ pub fn ask(function: &Function<'_>, lowered: Lowered) -> Result<Findings, HirErr
     let mut batch = Batch::of_body(&body).with_tables(&tables);
     let text = batch.print_body(body.def(), Edition::Edition2021);
     let uses = sources.uses.iter();
-    let resolved: Vec<_> = uses.map(|it| batch.resolve(it.at, &it.name, HygieneId::ROOT)).collect();
-    let captures: Vec<_> = sources.closures.iter().map(|it| batch.captures(it.expr)).collect();
-    let targets: Vec<_> = sources.jumps.iter().map(|it| batch.jump_target(it.expr)).collect();
+    let resolved: Vec<_> = uses
+        .map(|it| batch.resolve(it.at, &it.name, HygieneId::ROOT))
+        .collect();
+    let captures: Vec<_> = sources
+        .closures
+        .iter()
+        .map(|it| batch.captures(it.expr))
+        .collect();
+    let targets: Vec<_> = sources
+        .jumps
+        .iter()
+        .map(|it| batch.jump_target(it.expr))
+        .collect();
     let answers = batch.ask()?;
     let (meanings, unreached) = meanings(&sources, &answers, &resolved)?;
     let closures = closures(&sources, &answers, &captures)?;

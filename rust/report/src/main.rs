@@ -93,9 +93,14 @@ fn task(mut args: impl Iterator<Item = String>) -> Result<Task, String> {
     }
     if files.len() > 1 {
         match &wanted {
-            Wanted::Rename(_) | Wanted::Renames => return Err(String::from("a rename is of one file")),
+            Wanted::Rename(_) | Wanted::Renames => {
+                return Err(String::from("a rename is of one file"))
+            }
             Wanted::Report(Form::Html(page)) if !page.is_dir() => {
-                return Err(format!("the pages of several files want a folder, and {} is none", page.display()))
+                return Err(format!(
+                    "the pages of several files want a folder, and {} is none",
+                    page.display()
+                ))
             }
             Wanted::Report(_) => {}
         }
@@ -130,7 +135,10 @@ impl Report {
     }
 }
 
-fn of_function(function: &functions::Function<'_>, is_page: bool) -> Result<Function, Box<dyn Error>> {
+fn of_function(
+    function: &functions::Function<'_>,
+    is_page: bool,
+) -> Result<Function, Box<dyn Error>> {
     let lowered = lower::lower(function.signature, function.block)?;
     let facts = is_page.then(|| Facts::of(&lowered)).transpose()?;
     Ok(Function {
@@ -153,7 +161,10 @@ fn report(file: &str, is_page: bool, progress: &Progress) -> Result<Report, Box<
     for function in found {
         match of_function(&function, is_page) {
             Ok(found) => functions.push(found),
-            Err(error) => refused.push(format!("{file}:{}: {}: {error}", function.place, function.name)),
+            Err(error) => refused.push(format!(
+                "{file}:{}: {}: {error}",
+                function.place, function.name
+            )),
         }
         progress.did_function();
     }
@@ -193,7 +204,10 @@ fn write_text(report: &Report, out: &mut impl Write) -> Result<(), Box<dyn Error
 /// Where the page of a file is written: where it is said, or in the folder that is.
 fn place_of_page(page: &Path, file: &str) -> PathBuf {
     if page.is_dir() {
-        let name: String = file.chars().map(|c| if matches!(c, '/' | '\\') { '-' } else { c }).collect();
+        let name: String = file
+            .chars()
+            .map(|c| if matches!(c, '/' | '\\') { '-' } else { c })
+            .collect();
         page.join(format!("{}.html", name.trim_start_matches(['.', '-'])))
     } else {
         page.to_path_buf()
@@ -201,7 +215,11 @@ fn place_of_page(page: &Path, file: &str) -> PathBuf {
 }
 
 fn write_page(file: &str, page: &Path, report: &Report) -> Result<(), Box<dyn Error>> {
-    let functions: Vec<_> = report.functions.iter().filter_map(|it| Some((&it.findings, it.facts.as_ref()?))).collect();
+    let functions: Vec<_> = report
+        .functions
+        .iter()
+        .filter_map(|it| Some((&it.findings, it.facts.as_ref()?)))
+        .collect();
     let page = place_of_page(page, file);
     let text = html::page(file, &report.source, &functions)?;
     Ok(fs::write(&page, text).map_err(|error| format!("{}: {error}", page.display()))?)
@@ -216,7 +234,12 @@ struct Written {
 }
 
 impl Written {
-    fn write_report(&mut self, file: &str, form: &Form, progress: &Progress) -> Result<(), Box<dyn Error>> {
+    fn write_report(
+        &mut self,
+        file: &str,
+        form: &Form,
+        progress: &Progress,
+    ) -> Result<(), Box<dyn Error>> {
         let report = report(file, matches!(form, Form::Html(_)), progress)?;
         match form {
             Form::Text => write_text(&report, &mut self.out)?,
@@ -232,12 +255,18 @@ impl Written {
         Ok(())
     }
 
-    fn write(&mut self, file: &str, wanted: &Wanted, progress: &Progress) -> Result<(), Box<dyn Error>> {
+    fn write(
+        &mut self,
+        file: &str,
+        wanted: &Wanted,
+        progress: &Progress,
+    ) -> Result<(), Box<dyn Error>> {
         match wanted {
             Wanted::Report(form) => self.write_report(file, form, progress)?,
             Wanted::Rename(request) => {
                 let source = fs::read_to_string(file)?;
-                self.is_good = renames::write_renamed(file, &source, request, &mut self.out, &mut self.said)?;
+                self.is_good =
+                    renames::write_renamed(file, &source, request, &mut self.out, &mut self.said)?;
             }
             Wanted::Renames => {
                 let source = fs::read_to_string(file)?;
@@ -253,7 +282,8 @@ impl Written {
         let mut written = Written::default();
         if let Err(error) = written.write(file, wanted, progress) {
             written.is_good = false;
-            written.said.push_str(&format!("{error}\n"));
+            written.said.push_str(&error.to_string());
+            written.said.push('\n');
         }
         written
     }

@@ -13,7 +13,10 @@ fn write_path(found: &Findings, meaning: &Meaning, out: &mut impl Write) -> io::
 }
 
 /// Writes a line for each path of one name: its place, its name, and the place of its variable, or `-`.
-pub fn write<'a>(findings: impl Iterator<Item = &'a Findings>, out: &mut impl Write) -> io::Result<()> {
+pub fn write<'a>(
+    findings: impl Iterator<Item = &'a Findings>,
+    out: &mut impl Write,
+) -> io::Result<()> {
     for found in findings {
         for meaning in &found.meanings {
             write_path(found, meaning, out)?;
@@ -24,11 +27,19 @@ pub fn write<'a>(findings: impl Iterator<Item = &'a Findings>, out: &mut impl Wr
 
 /// Writes for each function a line `function`, with where it begins and ends and its name; for each of its variables a line `variable`,
 /// with its name and the places where it is written; and for each path of one name a line `path` as above.
-pub fn write_outline<'a>(findings: impl Iterator<Item = &'a Findings>, out: &mut impl Write) -> io::Result<()> {
+pub fn write_outline<'a>(
+    findings: impl Iterator<Item = &'a Findings>,
+    out: &mut impl Write,
+) -> io::Result<()> {
     for found in findings {
         let span = found.span;
         writeln!(out, "function {} {} {}", span.start, span.end, found.name)?;
-        for binding in found.sources.bindings.iter().filter(|it| !it.spans.is_empty()) {
+        for binding in found
+            .sources
+            .bindings
+            .iter()
+            .filter(|it| !it.spans.is_empty())
+        {
             write!(out, "variable {}", binding.name)?;
             for span in &binding.spans {
                 write!(out, " {}", span.start)?;

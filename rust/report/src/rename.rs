@@ -173,7 +173,11 @@ impl<'a> Renamer<'a> {
     }
 
     /// A function's body.
-    fn lowered(&self, number: usize, function: &Function<'_>) -> Result<Rc<Lowered>, Box<dyn Error>> {
+    fn lowered(
+        &self,
+        number: usize,
+        function: &Function<'_>,
+    ) -> Result<Rc<Lowered>, Box<dyn Error>> {
         let mut last = self.last.borrow_mut();
         if let Some((_, lowered)) = last.as_ref().filter(|(it, _)| *it == number) {
             return Ok(Rc::clone(lowered));
@@ -267,7 +271,9 @@ impl<'a> Renamer<'a> {
         new: &NewName,
     ) -> Result<Vec<Edit>, Box<dyn Error>> {
         let mut spans = Vec::new();
-        let binding = sources.binding(binding).ok_or("a variable is written nowhere")?;
+        let binding = sources
+            .binding(binding)
+            .ok_or("a variable is written nowhere")?;
         spans.extend(&binding.spans);
         let written: HashMap<_, _> = sources.uses.iter().map(|it| (it.path, it.span)).collect();
         for path in uses {
@@ -297,16 +303,26 @@ impl<'a> Renamer<'a> {
 
 /// The name of a binding, and where it is written.
 fn variable(sources: &Sources, id: BindingId) -> (Name, Option<Place>) {
-    let name = sources.binding(id).map_or_else(|| Name::new(""), |it| it.name.clone());
+    let name = sources
+        .binding(id)
+        .map_or_else(|| Name::new(""), |it| it.name.clone());
     (name, place_of(sources, id))
 }
 
 /// The first use of a name in a constant that a binding is around, where the use resolves to no variable.
-fn in_constant(lowered: &Lowered, binding: BindingId, name: &Name) -> Result<Option<Conflict>, HirError> {
+fn in_constant(
+    lowered: &Lowered,
+    binding: BindingId,
+    name: &Name,
+) -> Result<Option<Conflict>, HirError> {
     let sources = &lowered.sources;
     let of_name = |it: &&Use| it.is_in_constant && it.name == *name;
     for found in around_constants(lowered, of_name)? {
-        let mut entries = found.chains.iter().flatten().flat_map(|frame| &frame.entries);
+        let mut entries = found
+            .chains
+            .iter()
+            .flatten()
+            .flat_map(|frame| &frame.entries);
         if entries.any(|entry| entry.binding == binding) {
             return Ok(Some(Conflict {
                 reason: Reason::InConstant,

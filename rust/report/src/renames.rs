@@ -47,19 +47,36 @@ pub fn parsed(file: &str, source: &str) -> Result<syn::File, Box<dyn Error>> {
 pub const MARK: &str = "\u{feff}";
 
 /// Says what the store doesn't see.
-fn warn(file: &str, request: &Request, renamed: &Renamed, said: &mut impl fmt::Write) -> fmt::Result {
+fn warn(
+    file: &str,
+    request: &Request,
+    renamed: &Renamed,
+    said: &mut impl fmt::Write,
+) -> fmt::Result {
     for (name, place) in &renamed.in_macros {
-        writeln!(said, "{file}:{place}: warning: a macro call has the name {name}, which isn't renamed")?;
+        writeln!(
+            said,
+            "{file}:{place}: warning: a macro call has the name {name}, which isn't renamed"
+        )?;
     }
     for place in &renamed.in_items {
-        writeln!(said, "{file}:{place}: warning: an item has this name, and may not see there what it means")?;
+        writeln!(
+            said,
+            "{file}:{place}: warning: an item has this name, and may not see there what it means"
+        )?;
     }
     for place in &renamed.unknown {
-        writeln!(said, "{file}:{place}: warning: what is written here isn't known, and may use the variable")?;
+        writeln!(
+            said,
+            "{file}:{place}: warning: what is written here isn't known, and may use the variable"
+        )?;
     }
     if request.name.begins_upper() {
         let place = request.place;
-        writeln!(said, "{file}:{place}: warning: a pattern with the name of an item is no variable")?;
+        writeln!(
+            said,
+            "{file}:{place}: warning: a pattern with the name of an item is no variable"
+        )?;
     }
     Ok(())
 }
@@ -135,11 +152,16 @@ pub fn write_each(
                     Some(conflict) => {
                         write!(out, "{}", word(conflict.reason))?;
                         for place in [conflict.usage, conflict.other] {
-                            write!(out, " {}", place.map_or_else(|| String::from("-"), |it| it.to_string()))?;
+                            write!(
+                                out,
+                                " {}",
+                                place.map_or_else(|| String::from("-"), |it| it.to_string())
+                            )?;
                         }
                     }
                 }
-                let unseen = renamed.in_macros.len() + renamed.in_items.len() + renamed.unknown.len();
+                let unseen =
+                    renamed.in_macros.len() + renamed.in_items.len() + renamed.unknown.len();
                 write!(out, "\t{unseen}")?;
                 for edit in renamed.edits {
                     write!(out, "\t{edit}")?;

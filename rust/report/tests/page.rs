@@ -17,7 +17,11 @@ fn source() -> String {
 /// The page of a file.
 fn page_of(file: &Path, test: &str) -> String {
     let page = env::temp_dir().join(format!("hir-report-{test}-{}.html", std::process::id()));
-    let written = Command::new(env!("CARGO_BIN_EXE_hir-report")).arg(file).arg("--html").arg(&page).status();
+    let written = Command::new(env!("CARGO_BIN_EXE_hir-report"))
+        .arg(file)
+        .arg("--html")
+        .arg(&page)
+        .status();
     assert!(written.expect("the program runs").success());
     let html = fs::read_to_string(&page).expect("the page");
     fs::remove_file(&page).expect("the page is there");
@@ -96,7 +100,6 @@ fn a_page_has_the_source_and_no_outside_parts() {
     assert_eq!(text, source());
 }
 
-
 #[test]
 fn hostile_texts_are_written_as_they_are() {
     let file = env::temp_dir().join(format!("hir-report-hostile-{}.rs", std::process::id()));
@@ -115,7 +118,10 @@ fn hostile_texts_are_written_as_they_are() {
 }
 
 fn has(program: &str) -> bool {
-    Command::new(program).arg("--version").output().is_ok_and(|output| output.status.success())
+    Command::new(program)
+        .arg("--version")
+        .output()
+        .is_ok_and(|output| output.status.success())
 }
 
 /// The script of the pages says of 400 renames what the store says: where Node runs it.
@@ -131,10 +137,18 @@ fn a_page_says_of_renames_what_the_store_says() {
         .args(["--count", "150"])
         .output()
         .expect("the script runs");
-    let said = String::from_utf8_lossy(&output.stdout).into_owned() + &String::from_utf8_lossy(&output.stderr);
+    let said = String::from_utf8_lossy(&output.stdout).into_owned()
+        + &String::from_utf8_lossy(&output.stderr);
     assert!(output.status.success(), "{said}");
     assert!(said.starts_with("450 renames ("), "{said}");
-    for verdict in [" Captures", " Hidden", " SameFrame", " InConstant", " IsSelf", " accepted"] {
+    for verdict in [
+        " Captures",
+        " Hidden",
+        " SameFrame",
+        " InConstant",
+        " IsSelf",
+        " accepted",
+    ] {
         assert!(said.contains(verdict), "{verdict}: {said}");
     }
 }

@@ -129,7 +129,8 @@ fn folder_of(test: &str, functions: &[usize]) -> (PathBuf, Vec<String>) {
     let mut files = Vec::new();
     for (number, count) in functions.iter().enumerate() {
         let file = folder.join(format!("file{number}.rs"));
-        let function = |at| format!("fn f{number}_{at}(x: u8, y: u8) -> impl Fn() -> u8 {{ move || x }}\n");
+        let function =
+            |at| format!("fn f{number}_{at}(x: u8, y: u8) -> impl Fn() -> u8 {{ move || x }}\n");
         fs::write(&file, (0..*count).map(function).collect::<String>()).expect("a file");
         files.push(file.to_str().expect("text").to_string());
     }
@@ -145,7 +146,10 @@ fn texts(output: &Output) -> (String, String) {
 fn files_in_threads_come_in_their_order() {
     let (folder, mut files) = folder_of("threads", &[9, 0, 3, 1, 5, 2, 0, 4]);
     fs::write(&files[3], "fn f( {").expect("a file");
-    files.insert(5, folder.join("absent.rs").to_str().expect("text").to_string());
+    files.insert(
+        5,
+        folder.join("absent.rs").to_str().expect("text").to_string(),
+    );
     let mut alone = (String::new(), String::new());
     for file in &files {
         let (out, said) = texts(&run(&[file]));
@@ -155,13 +159,21 @@ fn files_in_threads_come_in_their_order() {
     assert_eq!(alone.0.matches(" captures x of ").count(), 23);
     assert_eq!(alone.1.lines().count(), 2);
     for threads in ["1", "3", "64"] {
-        let args: Vec<&str> = files.iter().map(String::as_str).chain(["--threads", threads]).collect();
+        let args: Vec<&str> = files
+            .iter()
+            .map(String::as_str)
+            .chain(["--threads", threads])
+            .collect();
         let output = run(&args);
         assert_eq!(texts(&output), alone, "{threads}");
         assert_eq!(output.status.code(), Some(1));
     }
     for wrong in ["0", "-1", "many"] {
-        assert_eq!(run(&[&files[0], "--threads", wrong]).status.code(), Some(2), "{wrong}");
+        assert_eq!(
+            run(&[&files[0], "--threads", wrong]).status.code(),
+            Some(2),
+            "{wrong}"
+        );
     }
     fs::remove_dir_all(folder).expect("the folder is there");
 }
@@ -170,7 +182,12 @@ fn files_in_threads_come_in_their_order() {
 fn several_pages_are_written_to_a_folder() {
     let (folder, files) = folder_of("pages", &[2, 1]);
     let pages = folder.join("pages");
-    let args = [&files[0], &files[1], "--html", pages.to_str().expect("text")];
+    let args = [
+        &files[0],
+        &files[1],
+        "--html",
+        pages.to_str().expect("text"),
+    ];
     assert_eq!(run(&args).status.code(), Some(2));
     fs::create_dir(&pages).expect("a folder");
     assert!(run(&args).status.success());

@@ -82,14 +82,16 @@ const said = (f, id, name) => {
 const named = functions.flatMap((facts, f) => facts.bindings.map(([, , line, column], id) => ({ f, id, line, column })));
 const isSelf = ({ f, id }) => functions[f].bindings[id][0] === "self";
 // Of `self` there is one thing to say, so it is asked of seldom.
-const bindings = named.filter((it) => it.line !== undefined && (!isSelf(it) || random(16) === 0));
+const written = named.filter((it) => it.line !== undefined);
+const bindings = written.filter((it) => !isSelf(it));
+const selves = written.filter(isSelf);
 const ofFunction = ({ f }) => {
   const { bindings, uses, macros, items } = functions[f];
   const names = [...bindings, ...uses, ...macros, ...items].map(([name]) => name);
   return names.filter((name) => nameOf(name) !== null);
 };
 for (let at = 0; at < Number(count) && bindings.length > 0; at++) {
-  const binding = one(bindings);
+  const binding = one(selves.length > 0 && random(16) === 0 ? selves : bindings);
   const names = ofFunction(binding);
   const name = random(8) === 0 ? "occurs_nowhere" : one(names.length > 0 ? names : ["occurs_nowhere"]);
   console.log(`${place(binding.line, binding.column)} ${name}\t${said(binding.f, binding.id, name)}`);

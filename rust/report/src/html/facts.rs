@@ -45,7 +45,10 @@ impl Scopes {
     }
 
     fn bindings(&self) -> HashSet<BindingId> {
-        self.scopes.iter().flat_map(|scope| scope.bindings.iter().copied()).collect()
+        self.scopes
+            .iter()
+            .flat_map(|scope| scope.bindings.iter().copied())
+            .collect()
     }
 }
 
@@ -101,13 +104,19 @@ impl Facts {
         let is_unseen = |id: &BindingId| !seen.contains(id);
         let sources = &lowered.sources;
         let written = sources.bindings.iter().filter(|it| !it.spans.is_empty());
-        let unseen: Vec<_> = written.filter(|it| is_unseen(&it.id) && it.name.as_str() != "self").collect();
+        let unseen: Vec<_> = written
+            .filter(|it| is_unseen(&it.id) && it.name.as_str() != "self")
+            .collect();
         let names: HashSet<&Name> = unseen.iter().map(|it| &it.name).collect();
         let mut batch = Batch::of_body(&lowered.body);
         let mut questions = Vec::new();
         for binding in &unseen {
             // A name that no source has: what it is refused for is no matter of the name.
-            questions.push((binding.id, None, batch.rename(binding.id, &Name::new("<new>"))));
+            questions.push((
+                binding.id,
+                None,
+                batch.rename(binding.id, &Name::new("<new>")),
+            ));
             for name in &names {
                 questions.push((binding.id, Some(*name), batch.rename(binding.id, name)));
             }
@@ -138,13 +147,22 @@ impl Facts {
 
 /// The uses that are written, in the order in which the store looks at them.
 fn uses(lowered: &Lowered, scopes: &mut Scopes) -> Result<Vec<UseFact>, HirError> {
-    let written = lowered.sources.uses.iter().zip(0..).map(|(it, number)| (it.path, number));
+    let written = lowered
+        .sources
+        .uses
+        .iter()
+        .zip(0..)
+        .map(|(it, number)| (it.path, number));
     let written: HashMap<ExprOrPatId, usize> = written.collect();
     let mut batch = Batch::of_body(&lowered.body);
     let mut asked = Vec::new();
     for usage in &lowered.body.usages()? {
         if let Some(source) = written.get(&usage.path).copied() {
-            asked.push((source, usage.binding, batch.frames(lowered.sources.uses[source].at)));
+            asked.push((
+                source,
+                usage.binding,
+                batch.frames(lowered.sources.uses[source].at),
+            ));
         }
     }
     let answers = batch.ask()?;
@@ -160,17 +178,32 @@ fn uses(lowered: &Lowered, scopes: &mut Scopes) -> Result<Vec<UseFact>, HirError
 }
 
 /// The names in constants that resolve to no variable, in the order of the source.
-fn constants(lowered: &Lowered, uses: &[UseFact], scopes: &mut Scopes) -> Result<Vec<ConstantFact>, HirError> {
+fn constants(
+    lowered: &Lowered,
+    uses: &[UseFact],
+    scopes: &mut Scopes,
+) -> Result<Vec<ConstantFact>, HirError> {
     let sources = &lowered.sources.uses;
-    let numbers: HashMap<ExprOrPatId, usize> = uses.iter().map(|it| sources[it.source].path).zip(0..).collect();
+    let numbers: HashMap<ExprOrPatId, usize> = uses
+        .iter()
+        .map(|it| sources[it.source].path)
+        .zip(0..)
+        .collect();
     let mut constants = Vec::new();
     for found in around_constants(lowered, |it: &&Use| it.is_in_constant)? {
         let around = found.chains.iter().filter_map(|chain| scopes.add(chain));
         let mut around: Vec<usize> = around.collect();
         around.sort_unstable();
         around.dedup();
-        if let Some(usage) = numbers.get(&found.usage.path).copied().filter(|_| !around.is_empty()) {
-            constants.push(ConstantFact { usage, scopes: around });
+        if let Some(usage) = numbers
+            .get(&found.usage.path)
+            .copied()
+            .filter(|_| !around.is_empty())
+        {
+            constants.push(ConstantFact {
+                usage,
+                scopes: around,
+            });
         }
     }
     Ok(constants)
@@ -182,7 +215,11 @@ fn number(id: BindingId) -> Json {
 
 /// A number from 0, or -1 for none.
 fn or_none(index: Option<usize>) -> Json {
-    Json::Number(index.and_then(|index| i64::try_from(index).ok()).unwrap_or(-1))
+    Json::Number(
+        index
+            .and_then(|index| i64::try_from(index).ok())
+            .unwrap_or(-1),
+    )
 }
 
 fn index(index: usize) -> Json {
@@ -240,12 +277,21 @@ pub fn to_json(found: &Findings, facts: &Facts) -> Json {
     });
     let scopes = facts.scopes.scopes.iter().map(|scope| {
         let parent = or_none(scope.parent);
-        Json::List([parent].into_iter().chain(scope.bindings.iter().map(|id| number(*id))).collect())
+        Json::List(
+            [parent]
+                .into_iter()
+                .chain(scope.bindings.iter().map(|id| number(*id)))
+                .collect(),
+        )
     });
     let uses = facts.uses.iter().map(|it| {
         let written = &sources.uses[it.source];
         let binding = it.binding.map_or(Json::Number(-1), number);
-        let mut items = vec![Json::Text(written.name.as_str().into()), binding, or_none(it.scope)];
+        let mut items = vec![
+            Json::Text(written.name.as_str().into()),
+            binding,
+            or_none(it.scope),
+        ];
         items.extend(place(Some(written.span.start)));
         Json::List(items)
     });
@@ -254,11 +300,24 @@ pub fn to_json(found: &Findings, facts: &Facts) -> Json {
         Json::List([index(it.usage)].into_iter().chain(scopes).collect())
     });
     let beside = facts.beside.iter().map(|(binding, name, other)| {
-        Json::List(vec![number(*binding), Json::Text(name.as_str().into()), number(*other)])
+        Json::List(vec![
+            number(*binding),
+            Json::Text(name.as_str().into()),
+            number(*other),
+        ])
     });
-    let macros = sources.in_macros.iter().map(|(name, span)| named(name, span.start));
-    let items = sources.in_items.iter().map(|(name, span)| named(name, span.start));
-    let unknown = sources.unknown.iter().map(|span| Json::List(place(Some(span.start))));
+    let macros = sources
+        .in_macros
+        .iter()
+        .map(|(name, span)| named(name, span.start));
+    let items = sources
+        .in_items
+        .iter()
+        .map(|(name, span)| named(name, span.start));
+    let unknown = sources
+        .unknown
+        .iter()
+        .map(|span| Json::List(place(Some(span.start))));
     json::object([
         ("name", Json::Text(found.name.clone())),
         ("bindings", bindings.collect()),

@@ -83,7 +83,10 @@ mod tests {
     #[test]
     fn texts_end_no_element() {
         let text = Json::Text(String::from("</script>\"\\\n\u{2028}é"));
-        let object = object([("a", Json::List(vec![Json::Number(-1), text])), ("b", Json::List(Vec::new()))]);
+        let object = object([
+            ("a", Json::List(vec![Json::Number(-1), text])),
+            ("b", Json::List(Vec::new())),
+        ]);
         let wanted = r#"{"a":[-1,"\u003c/script\u003e\"\\\u000a\u2028é"],"b":[]}"#;
         assert_eq!(object.to_string(), wanted);
     }

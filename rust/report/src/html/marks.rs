@@ -38,7 +38,10 @@ fn add_bindings(function: usize, found: &Findings, marks: &mut Vec<Mark>) {
         for span in &binding.spans {
             marks.push(Mark {
                 span: *span,
-                attributes: format!("class=\"{class}\" data-b=\"{key}\"{}", field(function, found, *span)),
+                attributes: format!(
+                    "class=\"{class}\" data-b=\"{key}\"{}",
+                    field(function, found, *span)
+                ),
             });
         }
     }
@@ -107,7 +110,9 @@ fn add_closures(function: usize, found: &Findings, marks: &mut Vec<Mark>) {
 
 /// What is said of a jump.
 fn about_jump(found: &Findings, jump: &Jump) -> String {
-    let target = jump.target.and_then(|target| found.sources.loops.get(target));
+    let target = jump
+        .target
+        .and_then(|target| found.sources.loops.get(target));
     let Some(mark) = target.and_then(|target| target.marks.first()) else {
         return String::from("leaves no loop or block of this function");
     };

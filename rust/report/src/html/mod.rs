@@ -187,7 +187,10 @@ pub fn page(file: &str, source: &str, functions: &[Function<'_>]) -> Result<Stri
     for (number, (found, _)) in functions.iter().enumerate() {
         write_function(number, found, &mut out)?;
     }
-    let facts: Json = functions.iter().map(|(found, facts)| facts::to_json(found, facts)).collect();
+    let facts: Json = functions
+        .iter()
+        .map(|(found, facts)| facts::to_json(found, facts))
+        .collect();
     write!(
         out,
         "</aside></main>\n{PANEL}<script id=\"facts\" type=\"application/json\">{facts}</script>\n"

@@ -172,12 +172,7 @@ pub fn lower(signature: &syn::Signature, block: &syn::Block) -> Result<Lowered, 
         builder, sources, ..
     } = lowering;
     let store = builder.finish()?;
-    let body = Body::new(
-        FunctionId::from_raw(lang::THIS),
-        store,
-        params,
-        self_param,
-    )?;
+    let body = Body::new(FunctionId::from_raw(lang::THIS), store, params, self_param)?;
     Ok(Lowered { body, sources })
 }
 
