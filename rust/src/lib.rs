@@ -64,6 +64,7 @@ mod fault;
 #[cfg(hir_c)]
 #[allow(unsafe_code)]
 mod ffi;
+mod fields;
 mod generics;
 mod ids;
 mod link;
@@ -93,6 +94,7 @@ pub use def::{
 };
 pub use error::{HirError, Result, SessionError};
 pub use fault::{BodyFault, FinishFault, Missing, NodeId, SignatureFault};
+pub use fields::{FieldData, FieldsShape, RawVisibility, RefusedFields, VariantFields};
 pub use generics::{
     ConstParamData, GenericParams, LifetimeBoundType, LifetimeParamData, TypeOrConstParamData,
     TypeParamData, TypeParamProvenance, WherePredicate,
@@ -107,9 +109,8 @@ pub use name::{HygieneId, Name};
 pub use prec::ExprPrecedence;
 pub use scopes::{Expansion, ExprScopes, Frame, ScopeEntry};
 pub use signature::{
-    FieldData, FieldsShape, FunctionData, FunctionSignature, GenericCounts, PlainSignature,
-    RawVisibility, RefusedFields, RefusedSignature, Signature, SignatureData, StructData,
-    StructSignature, VariantFields,
+    FunctionData, FunctionSignature, GenericCounts, PlainSignature, RefusedSignature, Signature,
+    SignatureData, StructData, StructSignature,
 };
 pub use source::{
     ExpressionStoreDiagnostics, InFile, MissingBodyItemKind, Source, SyntaxNodePtr, TextRange,

@@ -354,7 +354,7 @@ impl Sources {
         write_map("map-type", &self.types, line, |id, line| line.id(*id));
         write_back("map-type-back", &self.types_back, line);
         write_map("map-lifetime", &self.lifetimes, line, |id, line| {
-            line.id(*id)
+            line.id(*id);
         });
         write_back("map-lifetime-back", &self.lifetimes_back, line);
         write_back("map-field-back", &self.fields_back, line);

@@ -2,12 +2,13 @@
 
 use crate::def::{GenericDefId, LangItemTarget, NamedDef, VariantId};
 use crate::fault::Missing;
+use crate::fields::VariantFields;
 use crate::hir::{Expr, LifetimeRef, ModPath, Pat, Path, PathKind, TypeRef};
 use crate::ids::{CrateId, EnumId, EnumVariantId, StructId};
 use crate::name::Name;
 use crate::nodes::Nodes;
 use crate::notation::{Line, Notation};
-use crate::signature::{Signature, SignatureData, VariantFields};
+use crate::signature::{Signature, SignatureData};
 use std::collections::{BTreeSet, HashMap};
 use std::sync::atomic::{AtomicU64, Ordering};
 use std::sync::Arc;

@@ -137,7 +137,7 @@ fn each_node_is_read_and_written() {
                 Some(written) if written == *line => {}
                 // Characters in quotes may be written in several ways.
                 Some(written) if line.contains('"') && are_equal(line, &written, &mut session) => {
-                    others += 1
+                    others += 1;
                 }
                 written => {
                     differences.insert(format!("{}: {line} -> {written:?}", row.place));
