@@ -188,6 +188,7 @@ fn conflicts_are_said_with_both_places() {
         &["ref ^r#type"],
     );
     conflicts("(^self)", "this", "self has no other name", &[]);
+    conflicts("^self = other", "this", "self has no other name", &[]);
     conflicts(
         "match ^ä",
         "LIMIT",

@@ -1,5 +1,6 @@
 //! Assignments: the left side is a pattern.
 
+use super::paths::local_name;
 use super::pats::member_name;
 use super::{Lowering, Use};
 use crate::span::Span;
@@ -73,7 +74,7 @@ impl Lowering {
 
     fn path_target(&mut self, it: &syn::ExprPath, targets: &mut Vec<Target>) -> PatId {
         let path = self.path(it.qself.as_ref(), &it.path);
-        let name = path.as_ident().cloned();
+        let name = local_name(it, &path);
         let path = self.builder.alloc_pat(Pat::Path(path));
         if let Some(name) = name {
             targets.push(Target {

@@ -1,7 +1,7 @@
 //! Expressions.
 
 use super::assignments::is_underscore;
-use super::paths::name_of;
+use super::paths::{local_name, name_of};
 use super::pats::member_name;
 use super::verbatim::Inner;
 use super::{Lowering, Use};
@@ -10,7 +10,7 @@ use hir_expr_store::hir::{
     ArithOp, Array, BinaryOp, CmpOp, ConstRef, Expr, GenericArg, GenericArgs, LogicOp, Mutability,
     Ordering, Rawness, RecordLitField, RecordSpread, UnaryOp, Unsafe,
 };
-use hir_expr_store::{ExprId, ExprOrPatId, Name};
+use hir_expr_store::{ExprId, ExprOrPatId};
 use proc_macro2::TokenStream;
 
 /// An operator between two expressions. `+=` and the like are assignments.
@@ -73,11 +73,7 @@ impl Lowering {
     /// A path. One name may mean a variable, and so may `self`.
     pub(super) fn path_expr(&mut self, it: &syn::ExprPath) -> ExprId {
         let path = self.path(it.qself.as_ref(), &it.path);
-        let name = if it.qself.is_none() && it.path.is_ident("self") {
-            Some(Name::new("self"))
-        } else {
-            path.as_ident().cloned()
-        };
+        let name = local_name(it, &path);
         let at = self.alloc(Expr::Path(path));
         if let Some(name) = name {
             let span = Span::of(&it.path);

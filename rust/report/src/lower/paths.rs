@@ -139,6 +139,14 @@ fn kind_of(kind: PathKind, segment: &syn::PathSegment) -> Option<PathKind> {
     }
 }
 
+/// The name by which this path may mean a variable: that of one name, and `self`.
+pub(super) fn local_name(written: &syn::ExprPath, path: &Path) -> Option<Name> {
+    if written.qself.is_none() && written.path.is_ident("self") {
+        return Some(Name::new("self"));
+    }
+    path.as_ident().cloned()
+}
+
 /// The name of an identifier, without the `r#` of a raw one.
 pub(super) fn name_of(ident: &syn::Ident) -> Name {
     let text = ident.to_string();

@@ -61,6 +61,11 @@ impl P {
     fn itself(self) -> P {
         self
     }
+
+    fn replaced(mut self, other: P) -> P {
+        self = other;
+        self
+    }
 }
 
 fn macros(value: i32, other: i32) {
