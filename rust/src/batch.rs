@@ -32,7 +32,9 @@ impl<T> fmt::Debug for Question<T> {
 
 /// Questions on a store or a body, which are sent together: one crossing to the session for all of them.
 ///
-/// Each call that asks a store has a twin here, of the same name, which adds the question. A text is printed with the tables of the batch.
+/// Nearly each call that asks a store has a twin here, which adds the question, most of them of the same name: `print` is
+/// [`print_body`](Batch::print_body), and what a path resolves to is asked by [`resolve`](Batch::resolve) or
+/// [`usages`](Batch::usages). A text is printed with the tables of the batch.
 ///
 /// ```
 /// use hir_expr_store::{Batch, ExpressionStoreBuilder, FunctionId, HirError, make};
