@@ -64,6 +64,7 @@ impl GoldenSession {
 
     /// `keep`: keeps the store that questions ask, which probes ask until a line of the session comes.
     fn keep(&mut self, words: Words<'_>) -> Result<Option<Answer>, TextError> {
+        let mut words = words;
         words.end()?;
         let mut answer = Answer::new(self.alloc);
         if let Some(finished) = self.session.take_finished(&mut answer)? {
