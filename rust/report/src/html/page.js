@@ -183,8 +183,15 @@
     verdict.replaceChildren(...parts);
   };
 
+  // A warning in a line of its own.
+  const warning = (...parts) => {
+    const element = document.createElement("span");
+    element.className = "warning";
+    element.append(...parts);
+    return element;
+  };
   const aboutWarnings = (warnings) =>
-    warnings.flatMap(([what, line, column]) => [document.createElement("br"), "Warning at ", link(line, column), `: ${what}.`]);
+    warnings.map(([what, line, column]) => warning("Warning at ", link(line, column), `: ${what}.`));
 
   const judge = () => {
     restore();
@@ -201,7 +208,7 @@
     }
     const elements = byBinding.get(binding);
     preview(elements, text);
-    const upper = /^\p{Lu}/u.test(name) ? [document.createElement("br"), "Warning: a pattern with the name of an item is no variable."] : [];
+    const upper = /^\p{Lu}/u.test(name) ? [warning("Warning: a pattern with the name of an item is no variable.")] : [];
     return say("yes", `Yes: ${count(elements.length, "place changes", "places change")}, and every name keeps its meaning.`,
       ...upper, ...aboutWarnings(warningsOf(facts[at], id, name)));
   };
