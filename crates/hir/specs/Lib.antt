@@ -88,7 +88,6 @@ pub use Rattle.hir_store_core.specs.PatLinks
 pub use Rattle.hir_store_core.specs.PatLists
 pub use Rattle.hir_store_core.specs.RootSearch
 pub use Rattle.hir_store_core.specs.SideTables
-pub use Rattle.hir_store_core.specs.StoreParts
 pub use Rattle.hir_store_core.specs.Tries
 pub use Rattle.hir_store_core.specs.Under
 pub use Rattle.hir_store_core.specs.declared.missing.Missing

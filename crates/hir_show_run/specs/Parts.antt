@@ -9,7 +9,7 @@ use Rattle.hir_path.specs.NodeIds.{PatId, BindingId}
 use Rattle.hir_show_grammar.specs.Makers.{Maker}
 use Rattle.hir_show_grammar.specs.Makers as make
 use Rattle.hir_show_grammar.specs.Taking.{is_second as is_second_of}
-use Rattle.hir_validate.specs.Nodes.{Nodes}
+use Rattle.hir_validate.specs.Nodes.{Nodes, no_nodes}
 use Rattle.hir_store.specs.Building.{Building, building_of, contents_of, and_root, some_roots}
 use Rattle.hir_items.specs.declared.formals.Param.{Param}
 use Rattle.hir_items.specs.Bodies.{BodyContents, body_of}
@@ -23,9 +23,6 @@ pub record Parts : Type 0 where
   pub self_param : Option (Param BindingId)
   pub params : List (Param PatId)
   pub name : Option (List ℕ)
-
-abbrev pub no_nodes : Nodes
-no_nodes = record { exprs = []; pats = []; types = []; bindings = []; labels = []; lifetimes = [] }
 
 abbrev pub no_parts : Parts
 no_parts = record {

@@ -4,8 +4,6 @@ pub mod SideTables
 pub mod KeptParts
 -- the model of a store: its contents, and what an accepted store promises
 pub mod Contents
--- the contents of a store that is made of parts
-pub mod StoreParts
 -- the descendants of a node, and the nodes that are reached from entry nodes
 pub mod Under
 -- the parent of a node, its ancestors, and what encloses it

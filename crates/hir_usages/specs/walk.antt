@@ -4,5 +4,5 @@ pub mod Pending
 pub mod Marks
 pub mod Reading
 pub mod Groups
-pub mod Parts
+pub mod RenamedUses
 pub mod Seen

@@ -18,3 +18,5 @@ pub mod Recursion
 pub mod Ranges
 -- how calls change the visitor that also notes parents
 pub mod Edges
+-- proof that `==` decides whether the nodes of two stores are the same
+pub mod same
