@@ -22,7 +22,7 @@ use Rattle.hir_scope.proofs.UnderLemmas.{mapped, child_contexts_agree}
 use Rattle.hir_captures.specs.Captures.{IsClosure, IsOn, captured_binding, resolve_outside}
 use Rattle.hir_captures.specs.Uses.{Spot, spot, in_code, of_pattern, child_code, assignment_at, code_step, code_under, Use, if_assignment, use_of, expr_uses, pat_uses, uses_at, spot_uses, uses_in}
 use Rattle.hir_captures.specs.declared.tasks.Task.{Task}
-use Rattle.hir_captures.specs.walk.Pending.{tasks_of, task_node, code_of, AreInRange}
+use Rattle.hir_captures.specs.internal.Pending.{tasks_of, task_node, code_of, AreInRange}
 
 -- 1. The code under a node is the node, and then the code of its children in the order of its child contexts: that of the tasks that reading it puts.
 

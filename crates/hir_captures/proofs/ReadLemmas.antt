@@ -18,8 +18,8 @@ use Rattle.hir_scope.specs.{Order.met_in_form, Paths.chain, Scopes.Scopes}
 use Rattle.hir_captures.specs.Captures.{resolve_outside, with_new, AreChains, AreCaptures}
 use Rattle.hir_captures.specs.Uses.{Spot, Use, uses_in, spot, if_assignment, assignment_at, uses_at, spot_uses, code_under}
 use Rattle.hir_captures.specs.declared.{code.Code.Code, tasks.Task.Task, tasks.Tasks.Tasks}
-use Rattle.hir_captures.specs.walk.Pending.{task_of, tasks_of, pat_task, task_node, task_target, code_of, AreInRange}
-use Rattle.hir_captures.specs.walk.Reading.{chain_in, captured_binding_in, with_uses, with_code, ReadsTask}
+use Rattle.hir_captures.specs.internal.Pending.{task_of, tasks_of, pat_task, task_node, task_target, code_of, AreInRange}
+use Rattle.hir_captures.specs.internal.Reading.{chain_in, captured_binding_in, with_uses, with_code, ReadsTask}
 use Rattle.hir_captures.proofs.CodeLemmas.{code_read, children_in_range}
 
 -- 1. What a run of child calls leaves to be read.

@@ -2,5 +2,5 @@
 pub mod Uses
 -- the captures of a closure
 pub mod Captures
--- the state of the walk that finds uses, and its steps
-pub mod walk
+-- what only contracts within this crate cite
+pub mod internal

@@ -1,7 +1,5 @@
 -- the model of a body, the nodes that it reaches, the first fault of its parts
 pub mod Bodies
--- the parts that the refusal of a body gives back
-pub mod RefusedBodies
 -- the model of generic parameters
 pub mod Generics
 -- the first parameter of a name
@@ -12,5 +10,7 @@ pub mod Signatures
 pub mod Lookups
 -- the texts of faults
 pub mod FaultTexts
+-- what only contracts within this crate cite
+pub mod internal
 -- proofs that `==` decides whether two values are the same
 pub mod same

@@ -3,4 +3,5 @@ pub mod Bodies
 pub mod Variants
 pub mod Signatures
 pub mod Owners
-pub mod AddedDocs
+-- what only contracts within this crate cite
+pub mod internal

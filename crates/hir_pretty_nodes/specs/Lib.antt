@@ -15,3 +15,5 @@ pub mod Sizes
 pub mod Printing
 pub mod Printers
 pub mod TableLookups
+-- what only contracts within this crate cite
+pub mod internal

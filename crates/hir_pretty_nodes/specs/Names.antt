@@ -6,7 +6,6 @@ use Rattle.hir_node.specs.declared.{type_ref.LifetimeRef.LifetimeRef, binding.Bi
 use Rattle.hir_node.specs.declared.type_ref.LifetimeRef.TheVariants as lifetime
 use Rattle.hir_node.specs.declared.binding.BindingAnnotation.TheVariants.{Unannotated, Mutable, Ref, RefMut}
 use Rattle.hir_store_core.specs.declared.missing.Missing.{Missing}
-use Rattle.hir_pretty_nodes.specs.declared.names.NameParts.{NameParts}
 use Rattle.hir_pretty_nodes.specs.NameLookups.{PrintEnv}
 use Rattle.hir_pretty_nodes.specs.Docs.{Doc, MissingDoc, text, opt}
 
@@ -28,15 +27,6 @@ abbrev pub name_parts : List (List ℕ) → List ℕ → List (List ℕ)
 name_parts words [] = raw_parts words []
 name_parts words (c ∷ cs) = if c == 39 then (if same_text cs (codes "static") then (c ∷ cs) ∷ []
     else (c ∷ []) ∷ raw_parts words cs) else raw_parts words (c ∷ cs)
-
--- texts, the first of which is present where the condition holds
-abbrev pub first_if : Bool → List ℕ → List (List ℕ) → List (List ℕ)
-first_if holds first texts = if holds then first ∷ texts else texts
-
--- the parts as they were found
-abbrev pub texts_of : NameParts → List (List ℕ)
-texts_of parts = first_if parts.is_quoted (codes "'")
-    (first_if parts.is_raw (codes "r#") (parts.text.now ∷ []))
 
 -- the text of a printed name
 abbrev pub printed_name : List (List ℕ) → List ℕ → List ℕ

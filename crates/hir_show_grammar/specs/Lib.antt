@@ -10,6 +10,8 @@ pub mod ArmsAndStatements
 pub mod PatGrammar
 pub mod Pats
 pub mod Readings
+-- what only contracts within this crate cite
+pub mod internal
 pub mod same
 pub mod Taking
 pub mod Tokens

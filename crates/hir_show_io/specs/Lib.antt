@@ -6,3 +6,5 @@ pub mod Reading
 pub mod NextLine
 pub mod Reads
 pub mod FaultTexts
+-- what only contracts within this crate cite
+pub mod internal

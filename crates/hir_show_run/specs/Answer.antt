@@ -1,8 +1,6 @@
 -- The answers to questions.
 use Rattle.std.specs.Prelude.{◌≡◌, ℕ, List, [], ◌∷◌, ◌++◌, Option, None, Some, codes, length, nat_lt, if◌then◌else◌, flat_map}
 use Rattle.std.specs.Fmt.{decimal}
-use Rattle.std.specs.FinMap as map
-use Rattle.std.specs.Option.{option_map}
 use Rattle.hir_base.specs.declared.hygiene.SyntaxContext.{SyntaxContext}
 use Rattle.hir_base.specs.declared.hygiene.SyntaxContext.TheVariants.{Root, Expansion}
 use Rattle.hir_path.specs.NodeIds.{ExprId, BindingId}
@@ -23,9 +21,7 @@ use Rattle.hir_scope.specs.declared.scope.ScopeEntry.{ScopeEntry}
 use Rattle.hir_scope.specs.BodyScopes.{entry_nodes_of_body}
 use Rattle.hir_scope.specs.Chains.{HasChain}
 use Rattle.hir_scope.specs.Frames.{Chain}
-use Rattle.hir_scope.specs.Paths as path
 use Rattle.hir_scope.specs.Resolution.{resolve, entries_of}
-use Rattle.hir_scope.specs.Scopes.{Scopes}
 use Rattle.hir_captures.specs.Captures.{AreCaptures, IsReachedClosure}
 use Rattle.hir_show_run.specs.Printing.{print_text}
 
@@ -60,10 +56,6 @@ abbrev pub IsChainOf : BodyContents → ExprId → Option Chain → Type 0
 IsChainOf b expr None = BodyReaches b (node.Expr expr) → ⊥
 IsChainOf b expr (Some chain) =
     BodyReaches b (node.Expr expr) × HasChain b.store.nodes (entry_nodes_of_body b) expr chain
-
--- the chain of an expression by the scopes that were made, if it has one
-abbrev pub chain_by : Scopes → ExprId → Option Chain
-chain_by s expr = option_map (λ scope. path.chain s.scopes (Some scope)) (map.get s.scope_by_expr expr)
 
 -- the names of entries, each after a space
 abbrev pub entry_text : ScopeEntry → List ℕ
@@ -140,6 +132,3 @@ IsAnswer function b (OfBody question) text = IsBodyAnswer function b question te
 pub record NamedBody : Type 0 where
   pub body : BodyContents
   pub name : Option (List ℕ)
-
-abbrev pub IsAnswerOf : NamedBody → Question → List ℕ → Type 0
-IsAnswerOf named question text = IsAnswer named.name named.body question text

@@ -1,12 +1,10 @@
 pub mod Parts
 pub mod Answer
-pub mod OfLines
 pub mod Printing
-pub mod Output
-pub mod RunStates
 pub mod Program
 pub mod Outcomes
 pub mod Run
-pub mod Stages
 pub mod Faults
 pub mod Texts
+-- what only contracts within this crate cite
+pub mod internal

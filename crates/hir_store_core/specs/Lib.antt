@@ -10,10 +10,6 @@ pub mod Under
 pub mod Ancestors
 -- the loop or block that a `break` or a `continue` leaves
 pub mod JumpTargets
--- which child of a node is an anonymous constant of it
-pub mod AnonConsts
--- what a search around an expression looks for, and where it ends
-pub mod Sought
 -- the patterns, bindings and expressions of a pattern, and the children of an expression
 pub mod PatLists
 -- the root that an id was made for
@@ -30,7 +26,7 @@ pub mod MissingTexts
 pub mod Tries
 -- the links from each pattern to what comes after it
 pub mod PatLinks
--- the turns of a walk over the patterns of a pattern
-pub mod PatTurns
+-- what only contracts within this crate cite
+pub mod internal
 -- proofs that `==` decides whether two values are the same
 pub mod same

@@ -13,9 +13,3 @@ pub record Tries {P A E : Type 0} (step : P → A → Result (Unit {0}) E → P
     → Type 0) (p : P) (xs : List A) (r : Result (Unit {0}) E) (q : P) : Type 0 where
   pub ok : OnOk r (FoldsTo (λ u y v. step u y (Ok tt) v) p xs q)
   pub err : IfErr r (λ e. Stops step p xs e q)
-
--- what holds where items are tried after a result: a refusal stays, and nothing is tried
-abbrev pub TriesAfter : {P A E : Type 0} → (P → A → Result (Unit {0}) E → P → Type 0) → Result (Unit {0}) E
-    → P → List A → Result (Unit {0}) E → P → Type 0
-TriesAfter step (Ok done) p xs r q = Tries step p xs r q
-TriesAfter step (Err e) p xs r q = (r ≡ Err e) × (q ≡ p)

@@ -7,7 +7,7 @@ use Rattle.hir_node.specs.declared.{expr.Expr.Expr, pat.Pat.Pat}
 use Rattle.hir_validate.specs.Nodes.{Nodes}
 use Rattle.hir_usages.specs.Renamed.{change_at, rename_path, renamed_expr, renamed_pat}
 use Rattle.hir_usages.specs.declared.usage.Usage.{Usage}
-use Rattle.hir_usages.specs.walk.RenamedUses.{rename_use}
+use Rattle.hir_usages.specs.internal.RenamedUses.{rename_use}
 
 module _ {X : Type 0} (f : X → X) where
   -- an item past the end changes nothing

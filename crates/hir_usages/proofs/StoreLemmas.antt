@@ -22,7 +22,7 @@ use Rattle.hir_usages.specs.Usages.{usages_of, usages_of_body}
 use Rattle.hir_usages.specs.declared.usage.Usage.{Usage}
 use Rattle.hir_usages.proofs.AlikeLemmas.{Alike, alike, graph_same, changed_length, children_at_same}
 use Rattle.hir_store_core.specs.declared.side_tables.SideTables.{SideTables}
-use Rattle.hir_usages.specs.walk.RenamedUses.{rename_use}
+use Rattle.hir_usages.specs.internal.RenamedUses.{rename_use}
 use Rattle.hir_usages.proofs.ChangeLemmas.{uses_are_paths}
 use Rattle.hir_usages.proofs.RenamedLemmas.{has_before, under_before, as_many}
 

@@ -12,3 +12,5 @@ pub mod Renamed
 pub mod Kept
 -- the state of the walk that finds uses, and its steps
 pub mod walk
+-- what only contracts within this crate cite
+pub mod internal

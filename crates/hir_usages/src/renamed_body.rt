@@ -6,7 +6,7 @@ ghost use Rattle.hir_scope.specs.BodyScopes.{AreBodyScopes};
 ghost use Rattle.hir_usages.specs.Kept.{IsWhyNot, MayBeRenamed};
 ghost use Rattle.hir_usages.specs.Renamed.{change_at, rename_binding, rename_path, renamed_binding, renamed_body, renamed_expr, renamed_nodes, renamed_pat, renamed_path, with_nodes};
 ghost use Rattle.hir_usages.specs.Renames.{rename_fault};
-ghost use Rattle.hir_usages.specs.walk.RenamedUses.{rename_use};
+ghost use Rattle.hir_usages.specs.internal.RenamedUses.{rename_use};
 
 use crate::rename_fault::RenameFault;
 use crate::renames::rename;

@@ -2,8 +2,6 @@
 pub mod Sizes
 -- the parts of a node that are tested
 pub mod TestedParts
--- the model of a reference to such parts
-pub mod TypeParts
 -- the nodes of a store, and their graph
 pub mod Nodes
 -- the first fault of nodes with their roots
@@ -14,9 +12,7 @@ pub mod Sound
 pub mod Fits
 -- recursion over a store
 pub mod Recursion
--- how calls change the visitor that tests ids
-pub mod Ranges
--- how calls change the visitor that also notes parents
-pub mod Edges
+-- what only contracts within this crate cite
+pub mod internal
 -- proof that `==` decides whether the nodes of two stores are the same
 pub mod same

@@ -10,7 +10,7 @@ use Rattle.hir_node.specs.declared.type_ref.TypeRef.{TypeRef}
 use Rattle.hir_node.specs.declared.type_ref.TypeRef.TheVariants as type
 use Rattle.hir_path.specs.declared.path.GenericArg.{GenericArg}
 use Rattle.hir_path.specs.declared.path.GenericArgs.{GenericArgs, GenericArgs-F, fold-GenericArgs}
-use Rattle.hir_path.specs.declared.path.AssociatedTypeBinding.{AssociatedTypeBinding, AssociatedTypeBinding-F, fold-AssociatedTypeBinding}
+use Rattle.hir_path.specs.declared.path.AssociatedTypeBinding.{AssociatedTypeBinding-F}
 use Rattle.hir_path.specs.declared.path.Path.{Path}
 use Rattle.hir_path.specs.declared.path.Path.TheVariants as path
 use Rattle.hir_node.specs.declared.pat.Pat.{Pat}
@@ -188,10 +188,6 @@ args_paths_layer x = flat_map (λ ids. ids) x.bindings
 abbrev pub args_paths : GenericArgs → List TypeRefId
 args_paths = fold-GenericArgs (List TypeRefId) (List TypeRefId) binding_paths_layer args_paths_layer
 
-abbrev pub binding_paths : AssociatedTypeBinding → List TypeRefId
-binding_paths = fold-AssociatedTypeBinding (List TypeRefId)
-    (List TypeRefId) binding_paths_layer args_paths_layer
-
 -- whether a list of arguments isn't empty, if it begins with a self type
 abbrev pub self_given : Bool → List GenericArg → Bool
 self_given false args = true
@@ -211,9 +207,6 @@ args_self_layer x = self_given x.has_self_type x.args && list_all (λ given. giv
 
 abbrev pub args_give_self : GenericArgs → Bool
 args_give_self = fold-GenericArgs Bool Bool binding_self_layer args_self_layer
-
-abbrev pub binding_gives_self : AssociatedTypeBinding → Bool
-binding_gives_self = fold-AssociatedTypeBinding Bool Bool binding_self_layer args_self_layer
 
 -- the types that a path names as paths, in the generic arguments of its segments
 abbrev pub path_paths : Path → List TypeRefId

@@ -1,5 +1,7 @@
 use Rattle.std.proofs.Common.{◌∙◌, ap, List, ℕ, ◌∷◌, []}
-use Rattle.hir_captures.specs.{declared.code.Code.Code, declared.tasks.Task.Task, walk.Reading.with_code}
+use Rattle.hir_captures.specs.declared.code.Code.{Code}
+use Rattle.hir_captures.specs.declared.tasks.Task.{Task}
+use Rattle.hir_captures.specs.internal.Reading.{with_code}
 use Rattle.hir_captures.proofs.ReadLemmas.{are_captures}
 use Rattle.hir_captures.proofs.closures.captures.Goals as goal
 

@@ -6,7 +6,7 @@ use Rattle.hir_path.specs.NodeIds.{ExprId, BindingId}
 use Rattle.hir_scope.specs.{Frames.Chain, Paths.chain, Scopes.Scopes}
 use Rattle.hir_captures.specs.{Captures.resolve_outside, Captures.with_new, Uses.Use, Uses.spot_uses}
 use Rattle.hir_captures.specs.declared.{code.Code.Code, tasks.Task.Task}
-use Rattle.hir_captures.specs.walk.Pending.{AreInRange, code_of}
+use Rattle.hir_captures.specs.internal.Pending.{AreInRange, code_of}
 
 -- the chain that the scopes give an expression
 abbrev pub chain_in : Scopes → ExprId → Chain

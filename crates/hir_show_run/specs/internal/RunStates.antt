@@ -6,7 +6,7 @@ use Rattle.hir_show_io.specs.LineState.{LineState}
 use Rattle.hir_show_io.specs.declared.next.LineFault.{LineFault}
 use Rattle.hir_show_io.specs.NextLine.{NextTakes, NextWrites, is_found, bytes_left}
 use Rattle.hir_show_run.specs.declared.output.Output as code
-use Rattle.hir_show_run.specs.Output.{Output, output_of}
+use Rattle.hir_show_run.specs.internal.Output.{Output, output_of}
 
 -- the lines, what the source has left and by what number its reads are bounded, whether a read has failed,
 -- and the output

@@ -10,8 +10,8 @@ use Rattle.hir_scope.specs.{ScopingForms.ScopingForm, ScopingForms.form_of, Fram
 use Rattle.hir_scope.specs.ScopingForms as form
 use Rattle.hir_scope.specs.Scopes.{Scope, ScopeId, Scopes, frame_of}
 use Rattle.hir_scope.specs.declared.{tasks.CurrentScopes.CurrentScopes, tasks.Task.Task, walk.Walk.Walk}
-use Rattle.hir_scope.specs.walk.Pending.{form_tasks, opened_frames, opened_const_frames, future, task_children, task_frames}
-use Rattle.hir_scope.specs.walk.ContextsUnder.{in_context}
+use Rattle.hir_scope.specs.internal.Pending.{form_tasks, opened_frames, opened_const_frames, future, task_children, task_frames}
+use Rattle.hir_scope.specs.internal.ContextsUnder.{in_context}
 
 -- 1. The state
 

@@ -15,7 +15,7 @@ use Rattle.hir_scope.specs.Frames.{Frame, Chain, frame, of_kind, empty}
 use Rattle.hir_scope.specs.{OpenFrames.open_frames, Order.met_in_arm, Order.met_in_closure}
 use Rattle.hir_scope.specs.ChildContexts.{own_frame, block_const_frames, arm_child_contexts, loop_kind}
 use Rattle.hir_scope.specs.declared.{scope.ScopeKind.ScopeKind, tasks.CurrentScopes.CurrentScopes, tasks.Task.Task}
-use Rattle.hir_scope.specs.walk.ContextsUnder.{exprs_at, exprs_under}
+use Rattle.hir_scope.specs.internal.ContextsUnder.{exprs_at, exprs_under}
 
 -- a task is put onto others
 abbrev pub DefersTask : StackItems Task → Task → StackItems Task → Type 0

@@ -17,7 +17,8 @@ use Rattle.hir_items.specs.Signatures.{root_entry_nodes}
 use Rattle.hir_scope.specs.{Scopes.Scope, Scopes.Scopes, EntryNodes.root_frame}
 use Rattle.hir_scope.specs.declared.scope.{ScopeEntry.ScopeEntry, ScopeKind.ScopeKind}
 use Rattle.hir_scope.specs.declared.tasks.{CurrentScopes.CurrentScopes, Task.Task}
-use Rattle.hir_scope.specs.walk.{WalkState.WalkState, Pending.tasks_of}
+use Rattle.hir_scope.specs.internal.WalkState.{WalkState}
+use Rattle.hir_scope.specs.internal.Pending.{tasks_of}
 
 -- 1. What theorems say of nodes without a fault, where a walk over them needs it
 

@@ -17,10 +17,11 @@ use Rattle.hir_store_core.specs.Contents.{Contents}
 use Rattle.hir_store.specs.Building.{Building, contents_of, finish_fault}
 use Rattle.hir_show_run.specs.declared.fault.RunFault.{RunFault}
 use Rattle.hir_show_run.specs.declared.fault.RunFault.TheVariants.{Refused, BodyRefused, OutputFailed}
-use Rattle.hir_show_run.specs.Parts.{Parts, is_second, with_line}
+use Rattle.hir_show_run.specs.Parts.{Parts, with_line}
+use Rattle.hir_show_run.specs.internal.Parts.{is_second}
 use Rattle.hir_show_run.specs.Outcomes.{Outcomes}
-use Rattle.hir_show_run.specs.Output.{Output, Wrote, WrotePrefix, PutsText}
-use Rattle.hir_show_run.specs.RunStates.{RunState, unread}
+use Rattle.hir_show_run.specs.internal.Output.{Output, Wrote, WrotePrefix, PutsText}
+use Rattle.hir_show_run.specs.internal.RunStates.{RunState, unread}
 use Rattle.hir_show_run.specs.Run.{EndsWith}
 use Rattle.hir_show_run.specs.Program.{Outcome, line_after, says, script, built_by, IsLineAnswer, AreAnswers}
 

@@ -3,7 +3,7 @@ use Rattle.std.specs.Prelude.{◌≡◌, ℕ, ◌<◌, List, ◌++◌, fold, len
 use Rattle.hir_captures.specs.Uses.{Spot}
 use Rattle.hir_usages.specs.Usages.{usages_at, bound_at}
 use Rattle.hir_usages.specs.declared.{found.Found.Found, walk.Walk.Walk, to_visit.Task.Task, usage.Usage.Usage}
-use Rattle.hir_usages.specs.walk.Pending.{AreInRange, visits_of}
+use Rattle.hir_usages.specs.internal.Pending.{AreInRange, visits_of}
 
 -- what was found, as lists
 pub record FoundLists : Type 0 where
