@@ -1,5 +1,9 @@
--- Abbreviates the numbers of ids of definitions, so that a definition says which id it takes.
-use Rattle.std.specs.Prelude.{ℕ}
+-- Abbreviates names, and the numbers of ids of definitions, so that a definition says what it takes.
+use Rattle.std.specs.Prelude.{ℕ, List}
+
+-- a name, as its bytes
+abbrev pub Name : Type 0
+Name = List ℕ
 
 -- the id of a block expression that holds items
 abbrev pub BlockId : Type 0
