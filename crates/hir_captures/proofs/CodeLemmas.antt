@@ -242,9 +242,9 @@ module _ (n : List ℕ) (h : SyntaxContext) where
   found_outside : (between own : Chain) → outer_entry (resolve between n h) (resolve (between ++ own) n h) ≡ outer_entry (resolve between n h) (resolve own n h)
   found_outside between own =
       ap (λ (o : Option ScopeEntry). outer_entry (resolve between n h) o) (resolve_append n h between own) ∙ cases (resolve between n h) (resolve own n h) where
-    cases : (o p : Option ScopeEntry) → outer_entry o (option_or o p) ≡ outer_entry o p
-    cases None p = refl
-    cases (Some entry) p = refl
+        cases : (o p : Option ScopeEntry) → outer_entry o (option_or o p) ≡ outer_entry o p
+        cases None p = refl
+        cases (Some entry) p = refl
 
   by_append : (between own : Chain) → resolve_outside (length (between ++ own) - length own) (between ++ own) n h ≡ outer_entry (resolve between n h) (resolve own n h)
   by_append between own =

@@ -1,5 +1,6 @@
 -- What the helpers make of their parts.
 use Rattle.std.specs.Prelude.{ℕ, List, Option, Some, None, false, map, length, replicate}
+use Rattle.hir_base.specs.Ids.{Name}
 use Rattle.hir_base.specs.declared.abi.ExternAbi.TheVariants as abi
 use Rattle.hir_base.specs.declared.edition.Edition.TheVariants.{Edition2015}
 use Rattle.hir_base.specs.declared.hygiene.SyntaxContext.TheVariants as context
@@ -30,7 +31,7 @@ use Rattle.hir_store.specs.Building.{building_of, contents_of, nodes_of, has_exp
 use Rattle.hir_store.specs.declared.builder.ExpressionStoreBuilder.{ExpressionStoreBuilder}
 
 -- the binding of this name and this mode (`mut`, `ref` or neither), without hygiene
-abbrev pub binding_named : List ℕ → BindingAnnotation → Binding
+abbrev pub binding_named : Name → BindingAnnotation → Binding
 binding_named name mode = record {
   name = name;
   mode = mode;
@@ -39,11 +40,11 @@ binding_named name mode = record {
 }
 
 -- the binding of this name, without `mut`, `ref` or hygiene
-abbrev pub plain_binding : List ℕ → Binding
+abbrev pub plain_binding : Name → Binding
 plain_binding name = binding_named name Unannotated
 
 -- the label of this name
-abbrev pub label_named : List ℕ → Label
+abbrev pub label_named : Name → Label
 label_named name = record { name = name }
 
 -- `&target` or `&mut target`

@@ -1,6 +1,7 @@
 -- How names, lifetimes, bindings and labels are printed.
 use Rattle.std.specs.Prelude.{ℕ, Bool, false, List, [], ◌∷◌, ◌++◌, ◌==◌, ◌||◌, if◌then◌else◌, Result, Ok, Err, codes, slice_get, flat_map, nat_eq}
 use Rattle.std.specs.Cmp.Lexicographic.{pointwise}
+use Rattle.hir_base.specs.Ids.{Name}
 use Rattle.hir_path.specs.NodeIds.{BindingId, LabelId, LifetimeRefId}
 use Rattle.hir_node.specs.declared.{type_ref.LifetimeRef.LifetimeRef, binding.Binding.Binding, binding.Label.Label, binding.BindingAnnotation.BindingAnnotation}
 use Rattle.hir_node.specs.declared.type_ref.LifetimeRef.TheVariants as lifetime
@@ -32,11 +33,11 @@ name_parts words (c ∷ cs) = if c == 39 then (if same_text cs (codes "static") 
 abbrev pub printed_name : List (List ℕ) → List ℕ → List ℕ
 printed_name words name = flat_map (λ part. part) (name_parts words name)
 
-abbrev pub name_docs : PrintEnv → List ℕ → List Doc
+abbrev pub name_docs : PrintEnv → Name → List Doc
 name_docs s name = flat_map text (name_parts s.words name)
 
 -- a lifetime parameter by its name
-abbrev pub param_docs : PrintEnv → Result (List ℕ) Missing → List Doc
+abbrev pub param_docs : PrintEnv → Result Name Missing → List Doc
 param_docs s (Ok name) = name_docs s name
 param_docs s (Err missing) = MissingDoc missing ∷ []
 

@@ -1,6 +1,7 @@
 -- The answers to questions.
 use Rattle.std.specs.Prelude.{◌≡◌, ℕ, List, [], ◌∷◌, ◌++◌, Option, None, Some, codes, length, nat_lt, if◌then◌else◌, flat_map}
 use Rattle.std.specs.Fmt.{decimal}
+use Rattle.hir_base.specs.Ids.{Name}
 use Rattle.hir_base.specs.declared.hygiene.SyntaxContext.{SyntaxContext}
 use Rattle.hir_base.specs.declared.hygiene.SyntaxContext.TheVariants.{Root, Expansion}
 use Rattle.hir_path.specs.NodeIds.{ExprId, BindingId}
@@ -74,7 +75,7 @@ resolved_text None = codes " none"
 resolved_text (Some entry) = codes " = " ++ decimal entry.binding
 
 -- the binding that a name of this hygiene resolves to at an expression
-abbrev pub resolve_text : Option Chain → List ℕ → SyntaxContext → List ℕ
+abbrev pub resolve_text : Option Chain → Name → SyntaxContext → List ℕ
 resolve_text None name hygiene = codes " unreached"
 resolve_text (Some chain) name hygiene = resolved_text (resolve chain name hygiene)
 
@@ -84,7 +85,7 @@ abbrev pub expansion_text : SyntaxContext → List ℕ
 expansion_text (Root edition) = []
 expansion_text (Expansion number) = 32 ∷ decimal number
 
-abbrev pub asked_text : List ℕ → SyntaxContext → List ℕ
+abbrev pub asked_text : Name → SyntaxContext → List ℕ
 asked_text name hygiene = 32 ∷ name ++ expansion_text hygiene
 
 -- A closure that a body reaches has captures; any other expression has none
@@ -101,7 +102,7 @@ captures_text (Some bindings) = codes " =" ++ after_spaces bindings
 abbrev pub chain_answer : ExprId → Option Chain → List ℕ
 chain_answer e known = answer_line (codes "chain ") e (chain_text known)
 
-abbrev pub resolve_answer : ExprId → List ℕ → SyntaxContext → Option Chain → List ℕ
+abbrev pub resolve_answer : ExprId → Name → SyntaxContext → Option Chain → List ℕ
 resolve_answer e name hygiene known =
     answer_line (codes "resolve ") e (asked_text name hygiene ++ resolve_text known name hygiene)
 
@@ -131,4 +132,4 @@ IsAnswer function b (OfBody question) text = IsBodyAnswer function b question te
 -- a body with the name of its function
 pub record NamedBody : Type 0 where
   pub body : BodyContents
-  pub name : Option (List ℕ)
+  pub name : Option Name

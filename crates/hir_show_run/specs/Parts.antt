@@ -2,6 +2,7 @@
 -- function.
 use Rattle.std.specs.Prelude.{ℕ, List, [], ◌∷◌, ◌++◌, Option, None, Some}
 use Rattle.std.specs.FinMap as map
+use Rattle.hir_base.specs.Ids.{Name}
 use Rattle.hir_base.specs.declared.hygiene.SyntaxContext.{SyntaxContext}
 use Rattle.hir_path.specs.declared.ids.ExprOrPatId.{ExprOrPatId}
 use Rattle.hir_path.specs.Keys.{expr_or_pat_code}
@@ -20,7 +21,7 @@ pub record Parts : Type 0 where
   pub built : Building
   pub self_param : Option (Param BindingId)
   pub params : List (Param PatId)
-  pub name : Option (List ℕ)
+  pub name : Option Name
 
 abbrev pub no_parts : Parts
 no_parts = record {

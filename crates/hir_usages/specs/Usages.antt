@@ -1,7 +1,8 @@
 -- The uses of a body, what each resolves to, and the bindings that no use resolves to.
 use Rattle.std.specs.List.{flat_map, filter, list_any}
 use Rattle.std.specs.Option.{option_to_list}
-use Rattle.std.specs.Prelude.{ℕ, List, [], ◌∷◌, ◌++◌, Option, Some, None, Bool, false, ◌==◌, not, option_map, is_some, slice_get}
+use Rattle.std.specs.Prelude.{List, [], ◌∷◌, ◌++◌, Option, Some, None, Bool, false, ◌==◌, not, option_map, is_some, slice_get}
+use Rattle.hir_base.specs.Ids.{Name}
 use Rattle.hir_path.specs.declared.ids.ExprOrPatId.{ExprOrPatId}
 use Rattle.hir_path.specs.declared.ids.ExprOrPatId.TheVariants as either
 use Rattle.hir_path.specs.NodeIds.{ExprId, PatId, BindingId}
@@ -17,7 +18,7 @@ use Rattle.hir_usages.specs.{Visits.visits, declared.usage.Usage.Usage}
 
 -- a path that asks for a name is a use: the expression in whose scope it asks, and the binding that it
 -- resolves to there
-abbrev pub usage_with : ExprOrPatId → ExprId → Option BindingId → Option (List ℕ) → List Usage
+abbrev pub usage_with : ExprOrPatId → ExprId → Option BindingId → Option Name → List Usage
 usage_with path expr binding None = []
 usage_with path expr binding (Some name) = record { path = path; expr = expr; binding = binding } ∷ []
 

@@ -2,11 +2,12 @@
 use Rattle.std.specs.FinMap as map
 use Rattle.std.specs.{List.list_any, Ordering.nat_cmp}
 use Rattle.std.specs.Prelude.{◌≡◌, ℕ, Bool, List, is_some, ◌==◌}
+use Rattle.hir_path.specs.NodeIds.{BindingId}
 
 -- a number is listed
-abbrev pub is_listed : List ℕ → ℕ → Bool
+abbrev pub is_listed : List BindingId → BindingId → Bool
 is_listed found x = list_any (λ y. y == x) found
 
 -- a number has a mark exactly where it is listed
-abbrev pub AreMarks : {X : Type 0} → List ℕ → map.FinMap nat_cmp X → Type 0
+abbrev pub AreMarks : {X : Type 0} → List BindingId → map.FinMap nat_cmp X → Type 0
 AreMarks found marks = (x : ℕ) → is_some (map.get marks x) ≡ is_listed found x

@@ -1,6 +1,7 @@
 -- Where a node's anonymous constants are: whether an expression is one of them, without a look at lists that
 -- have none.
-use Rattle.std.specs.Prelude.{ℕ, ◌==◌, Bool, false, Some}
+use Rattle.std.specs.Prelude.{◌==◌, Bool, false, Some}
+use Rattle.hir_path.specs.NodeIds.{ExprId}
 use Rattle.hir_node.specs.declared.expr_types.Array.TheVariants as array
 use Rattle.hir_node.specs.declared.expr.Expr.{Expr}
 use Rattle.hir_node.specs.declared.expr.Expr.TheVariants as expr
@@ -11,7 +12,7 @@ use Rattle.hir_node.specs.declared.type_ref.TypeRef.TheVariants as type
 use Rattle.hir_node.specs.ChildCalls.{args_calls, path_calls}
 use Rattle.hir_store_core.specs.JumpTargets.{has_const}
 
-abbrev pub expr_has_const : Expr → ℕ → Bool
+abbrev pub expr_has_const : Expr → ExprId → Bool
 expr_has_const (expr.Const const) id = const == id
 expr_has_const (expr.Array (array.Repeat initializer repeat)) id = repeat == id
 expr_has_const (expr.Path path) id = has_const (path_calls path) id
@@ -20,13 +21,13 @@ expr_has_const (expr.MethodCall receiver method_name args (Some generic_args)) i
     has_const (args_calls generic_args) id
 expr_has_const x id = false
 
-abbrev pub pat_has_const : Pat → ℕ → Bool
+abbrev pub pat_has_const : Pat → ExprId → Bool
 pat_has_const (pat.Path path) id = has_const (path_calls path) id
 pat_has_const (pat.Record ellipsis path args) id = has_const (path_calls path) id
 pat_has_const (pat.TupleStruct path args ellipsis) id = has_const (path_calls path) id
 pat_has_const x id = false
 
-abbrev pub type_has_const : TypeRef → ℕ → Bool
+abbrev pub type_has_const : TypeRef → ExprId → Bool
 type_has_const (type.Array array) id = array.len.expr == id
 type_has_const (type.Path path) id = has_const (path_calls path) id
 type_has_const x id = false

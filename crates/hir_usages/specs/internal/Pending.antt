@@ -1,6 +1,7 @@
 -- What is still to be visited: the tasks of child calls.
 use Rattle.std.specs.List.{flat_map, AllByRecursion}
-use Rattle.std.specs.Prelude.{ℕ, List, [], ◌∷◌, Option, Some, None}
+use Rattle.std.specs.Prelude.{List, [], ◌∷◌, Option, Some, None}
+use Rattle.hir_path.specs.NodeIds.{ExprId, PatId}
 use Rattle.hir_node.specs.ChildCalls.{Call, OnExpr, OnAnonConst, OnPat, OnType, OnLifetime}
 use Rattle.hir_node.specs.declared.node_id.NodeId.{NodeId}
 use Rattle.hir_validate.specs.Nodes.{Nodes, Has}
@@ -8,19 +9,19 @@ use Rattle.hir_captures.specs.Uses.{Spot}
 use Rattle.hir_usages.specs.{Visits.visits_under, declared.to_visit.Task.Task}
 
 -- the task of a pattern, in the target of an assignment or in none
-abbrev pub pat_task : Option ℕ → ℕ → Task
+abbrev pub pat_task : Option ExprId → PatId → Task
 pat_task None id = Task.Pat id
 pat_task (Some assignment) id = Task.Target id assignment
 
 -- the task of a call, where it has one
-abbrev pub task_of : Option ℕ → Call → List Task
+abbrev pub task_of : Option ExprId → Call → List Task
 task_of assignment (OnExpr id) = Task.Expr id ∷ []
 task_of assignment (OnAnonConst id) = Task.Expr id ∷ []
 task_of assignment (OnPat id) = pat_task assignment id ∷ []
 task_of assignment (OnType id) = Task.Type id ∷ []
 task_of assignment (OnLifetime id) = []
 
-abbrev pub tasks_of : Option ℕ → List Call → List Task
+abbrev pub tasks_of : Option ExprId → List Call → List Task
 tasks_of assignment calls = flat_map (task_of assignment) calls
 
 -- the node and the assignment of a task
@@ -30,7 +31,7 @@ task_node (Task.Pat id) = NodeId.Pat id
 task_node (Task.Target id assignment) = NodeId.Pat id
 task_node (Task.Type id) = NodeId.TypeRef id
 
-abbrev pub task_target : Task → Option ℕ
+abbrev pub task_target : Task → Option ExprId
 task_target (Task.Expr id) = None
 task_target (Task.Pat id) = None
 task_target (Task.Target id assignment) = Some assignment

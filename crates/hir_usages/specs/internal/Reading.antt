@@ -1,5 +1,6 @@
 -- How the walk over a body goes on. Only contracts within this crate cite it.
-use Rattle.std.specs.Prelude.{◌≡◌, ℕ, ◌<◌, List, ◌++◌, fold, length}
+use Rattle.std.specs.Prelude.{◌≡◌, ◌<◌, List, ◌++◌, fold, length}
+use Rattle.hir_path.specs.NodeIds.{BindingId}
 use Rattle.hir_captures.specs.Uses.{Spot}
 use Rattle.hir_usages.specs.Usages.{usages_at, bound_at}
 use Rattle.hir_usages.specs.declared.{found.Found.Found, walk.Walk.Walk, to_visit.Task.Task, usage.Usage.Usage}
@@ -8,7 +9,7 @@ use Rattle.hir_usages.specs.internal.Pending.{AreInRange, visits_of}
 -- what was found, as lists
 pub record FoundLists : Type 0 where
   pub usages : List Usage
-  pub bound : List ℕ
+  pub bound : List BindingId
 
 abbrev pub lists_of : Found → FoundLists
 lists_of found = record { usages = found.usages.items; bound = found.bound.items }

@@ -1,8 +1,9 @@
 -- The nodes in which the path of one use has a new name.
-use Rattle.std.specs.Prelude.{ℕ, List}
+use Rattle.std.specs.Prelude.{List}
+use Rattle.hir_base.specs.Ids.{Name}
 use Rattle.hir_validate.specs.Nodes.{Nodes}
 use Rattle.hir_usages.specs.declared.usage.Usage.{Usage}
 use Rattle.hir_usages.specs.Renamed.{rename_path}
 
-abbrev pub rename_use : List ℕ → Nodes → Usage → Nodes
+abbrev pub rename_use : Name → Nodes → Usage → Nodes
 rename_use name s usage = rename_path name s usage.path

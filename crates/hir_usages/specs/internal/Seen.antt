@@ -1,6 +1,7 @@
 -- The names and hygienes that some entries have.
 use Rattle.std.specs.List.{list_any}
 use Rattle.std.specs.Prelude.{◌≡◌, ℕ, Bool, List, ◌&&◌}
+use Rattle.hir_base.specs.Ids.{Name}
 use Rattle.hir_base.specs.contracts.hygiene.HygieneIdPartialEq.TheImpl as hygienes
 use Rattle.hir_base.specs.contracts.name.NamePartialEq.TheImpl as names
 use Rattle.hir_base.specs.declared.hygiene.SyntaxContext.{SyntaxContext}
@@ -8,11 +9,11 @@ use Rattle.hir_scope.specs.Resolution.{matches}
 use Rattle.hir_scope.specs.declared.scope.ScopeEntry.{ScopeEntry}
 
 -- a hygiene and a name that were seen are these
-abbrev pub is_key : List ℕ → SyntaxContext → SyntaxContext → List ℕ → Bool
+abbrev pub is_key : Name → SyntaxContext → SyntaxContext → Name → Bool
 is_key name hygiene seen_hygiene seen_name =
     hygienes.ghosts.eq seen_hygiene hygiene && names.ghosts.eq seen_name name
 
 -- what was seen is what the entries have
-abbrev pub AreSeen : List ScopeEntry → (List ℕ → SyntaxContext → Bool) → Type 0
+abbrev pub AreSeen : List ScopeEntry → (Name → SyntaxContext → Bool) → Type 0
 AreSeen entries was_seen =
     (name : List ℕ) (hygiene : SyntaxContext) → was_seen name hygiene ≡ list_any (matches name hygiene) entries
