@@ -1,7 +1,5 @@
 -- owners of bindings, hygiene of paths, blocks that may hold items
 pub mod SideTables
--- the kept parts of a store without nodes
-pub mod KeptParts
 -- the model of a store: its contents, and what an accepted store promises
 pub mod Contents
 -- the descendants of a node, and the nodes that are reached from entry nodes
@@ -16,16 +14,18 @@ pub mod PatLists
 pub mod RootSearch
 -- sets of nodes
 pub mod NodeSets
--- the path of a bound
-pub mod Bounds
 -- the blocks with the maps of their items
 pub mod Blocks
+-- the path of a bound
+pub mod Bounds
 -- the text of a missing fact
 pub mod MissingTexts
 -- walks that stop at the first refusal
 pub mod Tries
 -- the links from each pattern to what comes after it
 pub mod PatLinks
+-- the kept parts of a store without nodes
+pub mod KeptParts
 -- what only contracts within this crate cite
 pub mod internal
 -- proofs that `==` decides whether two values are the same

@@ -23,6 +23,7 @@ visit_step s self n assignment =
     spot n assignment ∷ flat_map (visit_child self (assignment_at s n assignment)) (children_in_order s n)
 
 -- the visits under a node, its own first
+-- visits_under s n a = visit_step s (visits_under s) n a: lemma visits_at of VisitLemmas
 unfoldable pub visits_under : Nodes → NodeId → Option ExprId → List Spot
 visits_under s n assignment = fold_down s (visit_step s) (λ assignment. []) n assignment
 

@@ -33,7 +33,7 @@ pub struct Usages {
 
 impl Model for Usages {
     ghost use Rattle.hir_usages.specs.Usages.{FoundUsages};
-    ghost use Rattle.hir_usages.specs.walk.Groups.{AreGroups};
+    ghost use Rattle.hir_usages.specs.Groups.{AreGroups};
 
     ghost Value = { FoundUsages };
 

@@ -22,6 +22,8 @@ fold_down_within step default zero n = default
 fold_down_within step default (suc depth) n = step (fold_down_within step default depth) n
 
 -- the value of a node by a step: no path down is longer than the rank
+-- fold_down s step default n = step (fold_down s step default) n: theorem fold_down_unfold, where the step depends
+-- on children alone and the store has no fault
 unfoldable pub fold_down : {A : Type 0} → Nodes → ((NodeId → A) → NodeId → A) → A → NodeId → A
 fold_down s step default n = fold_down_within step default (suc (rank s n)) n
 

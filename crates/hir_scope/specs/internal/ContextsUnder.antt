@@ -15,6 +15,7 @@ under_step s self n scope const_scope =
     this ∷ flat_map (λ at. self at.node at.scope at.const_scope) (children_in_context s this)
 
 -- the contexts of a node and its descendants, preorder
+-- contexts_under s at = at ∷ flat_map (contexts_under s) (children_in_context s at): lemma under_at of UnderLemmas
 unfoldable pub contexts_under : Nodes → InContext → List InContext
 contexts_under s at = fold_down s (under_step s) (λ scope const_scope. []) at.node at.scope at.const_scope
 

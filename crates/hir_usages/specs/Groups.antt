@@ -1,7 +1,8 @@
 -- Uses in groups: those of each binding, and those that resolve to none.
 use Rattle.std.specs.FinMap as map
 use Rattle.std.specs.Ordering.{nat_cmp}
-use Rattle.std.specs.Prelude.{◌≡◌, ℕ, List, [], Option, Some, None}
+use Rattle.std.specs.Prelude.{◌≡◌, List, [], Option, Some, None}
+use Rattle.hir_path.specs.NodeIds.{BindingId}
 use Rattle.hir_usages.specs.Usages.{usages_of, unresolved_in}
 use Rattle.hir_usages.specs.declared.usage.Usage.{Usage}
 
@@ -12,5 +13,5 @@ or_none (Some usages) = usages
 -- the uses of each binding, and those that are unresolved, are these
 pub record AreGroups (usages : List Usage) (by_binding : map.FinMap nat_cmp (List Usage))
     (unresolved : List Usage) : Type 0 where
-  pub each : (binding : ℕ) → or_none (map.get by_binding binding) ≡ usages_of binding usages
+  pub each : (binding : BindingId) → or_none (map.get by_binding binding) ≡ usages_of binding usages
   pub rest : unresolved ≡ unresolved_in usages
