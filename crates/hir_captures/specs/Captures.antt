@@ -20,7 +20,10 @@ outer_entry (Some entry) found = None
 -- What a use in a closure captures. The chain of the use is the closure's own chain, `own`, with the frames on it
 -- that are `between` the closure and the use: its arguments, and what its code opens. The use captures the
 -- binding that its name resolves to along the closure's own chain, unless a frame between has an entry for it.
--- In `|z| x + z` own is B, R and between is C: `x` is found in R, and captured; `z` in C, and isn't.
+--
+-- In the running example (hir_node/specs/ChildCalls.antt; its frames are in hir_scope/specs/Chains.antt) the closure
+-- `|z| x + z` has the chain B R, its own, and its uses 0, `x`, and 1, `z`, have C B R: C is between. `x` isn't in C,
+-- and along B R it is found in R: binding 0 is captured. `z` is in C: nothing is.
 pub record IsCapturedBinding (own chain : Chain) (use_ : Use) (captured : Option BindingId) : Type 0 where
   pub between : Chain
   pub on : chain ≡ between ++ own

@@ -1,5 +1,12 @@
 -- The chain of an expression: the lexical frames around it, innermost first, found from the entry nodes
 -- downward.
+--
+-- The frames of the running example (hir_node/specs/ChildCalls.antt) are R, with the parameter `x`; B, of the body's
+-- block; C, with the `z` of the closure; Y, with the `y` of the statement; I, of the `if`; X, with the `x` of its
+-- `let`; T and E, of the blocks of its branches. B, I, T and E have no entries. The chains are
+--     of 0, the `x` in the closure: C B R             of 4, the `y` of the condition: I Y B R
+--     of 8, the `x` of `then`: T X I Y B R            of 10, the `x` of `else`: E Y B R
+-- So `x` resolves to binding 0 at 0 and 10, and to binding 3 at 8.
 use Rattle.std.specs.Prelude.{◌≡◌, List, ◌∷◌, ◌++◌, map, Contains}
 use Rattle.hir_path.specs.NodeIds.{ExprId}
 use Rattle.hir_node.specs.declared.node_id.NodeId.{NodeId}
