@@ -1,7 +1,8 @@
 -- What the definitions of this crate import of std and of lower crates, passed on from one place. Declares nothing.
 pub use Rattle.std.specs.List.{enumerate_from, list_any}
-pub use Rattle.std.specs.Prelude.{ℕ, List, [], ◌∷◌, ◌++◌, map, Option, Result, Ok, Err, codes, option_map, option_to_list, ◌≡◌, false, Some, None, String, Bool, ◌==◌, decimal, flat_map, get_or}
+pub use Rattle.std.specs.Prelude.{List, [], ◌∷◌, ◌++◌, map, Option, Result, Ok, Err, codes, option_map, option_to_list, ◌≡◌, ℕ, false, Some, None, String, Bool, ◌==◌, decimal, flat_map, get_or}
 pub use Rattle.hir_base.specs.Abi.{abi_text}
+pub use Rattle.hir_base.specs.Ids.{EnumId, EnumVariantId, FunctionId, StructId, Name}
 pub use Rattle.hir_base.specs.Keys.{fields_code}
 pub use Rattle.hir_base.specs.ModPath.{ModPath}
 pub use Rattle.hir_base.specs.declared.abi.ExternAbi.{ExternAbi}

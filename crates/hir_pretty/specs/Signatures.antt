@@ -1,5 +1,5 @@
 -- What the signatures of functions and structs are printed as.
-use Rattle.hir_pretty.specs.Prelude.{ℕ, Bool, false, ◌==◌, List, [], ◌∷◌, ◌++◌, map, Option, Some, None, codes, decimal, enumerate_from, list_any, abi_text, ExternAbi, TypeRefId, LifetimeParamData, TypeOrConstParamData, WherePredicate, Generics, FieldsShape, FunctionParts, StructParts, Repr, PrintEnv, Doc, text, br, into, out, e, t, opt, when, join, comma_joined, with_number, name_docs, l, bound_docs, for_names}
+use Rattle.hir_pretty.specs.Prelude.{ℕ, Bool, false, ◌==◌, List, [], ◌∷◌, ◌++◌, map, Option, Some, None, codes, decimal, enumerate_from, list_any, abi_text, ExternAbi, TypeRefId, LifetimeParamData, TypeOrConstParamData, WherePredicate, Generics, FieldsShape, FunctionParts, StructParts, Repr, PrintEnv, Doc, text, br, into, out, e, t, opt, when, join, comma_joined, with_number, name_docs, l, bound_docs, for_names, Name}
 use Rattle.hir_base.specs.declared.abi.ExternAbi.TheVariants as abi
 use Rattle.hir_generics.specs.declared.param.TypeOrConstParamData.TheVariants as param
 use Rattle.hir_generics.specs.declared.predicate.WherePredicate.TheVariants as predicate
@@ -7,7 +7,7 @@ use Rattle.hir_items.specs.declared.signatures.FieldsShape.TheVariants as shape
 
 -- 1. Generic parameters
 
-abbrev pub type_name : PrintEnv → ℕ → Option (List ℕ) → List Doc
+abbrev pub type_name : PrintEnv → ℕ → Option Name → List Doc
 type_name s at None = text (codes "Param[") ++ text (decimal at) ++ text (codes "]")
 type_name s at (Some name) = name_docs s name
 
