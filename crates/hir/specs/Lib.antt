@@ -71,7 +71,6 @@ pub use Rattle.hir_forest.specs.declared.roots.Root
 pub use Rattle.hir_validate.specs.Recursion
 pub use Rattle.hir_validate.specs.Faults as NodeFaults
 pub use Rattle.hir_validate.specs.Fits
-pub use Rattle.hir_validate.specs.TypeParts
 pub use Rattle.hir_validate.specs.Nodes
 pub use Rattle.hir_validate.specs.Sizes
 pub use Rattle.hir_validate.specs.Sound
@@ -88,7 +87,6 @@ pub use Rattle.hir_store_core.specs.PatLinks
 pub use Rattle.hir_store_core.specs.PatLists
 pub use Rattle.hir_store_core.specs.RootSearch
 pub use Rattle.hir_store_core.specs.SideTables
-pub use Rattle.hir_store_core.specs.StoreParts
 pub use Rattle.hir_store_core.specs.Tries
 pub use Rattle.hir_store_core.specs.Under
 pub use Rattle.hir_store_core.specs.declared.missing.Missing

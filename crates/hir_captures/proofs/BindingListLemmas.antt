@@ -5,7 +5,8 @@ use Rattle.std.proofs.lemmas.{Cmp.ranked, Cmp.nat_cmp_total, List.Folds.list_any
 use Rattle.std.specs.FinMap as map
 use Rattle.std.specs.Ordering.{nat_cmp, eq_by_cmp, is_eq, MatchOrdering}
 use Rattle.std.specs.{Prelude.is_some, Prelude.◌||◌, declared.cmp.Ordering.Ordering}
-use Rattle.hir_captures.specs.{Captures.with_new, walk.Marks.is_listed, walk.Marks.AreMarks}
+use Rattle.hir_captures.specs.Captures.{with_new}
+use Rattle.hir_captures.specs.internal.Marks.{is_listed, AreMarks}
 
 or_true : (b : Bool) → (b || (true || false)) ≡ true
 or_true true = refl

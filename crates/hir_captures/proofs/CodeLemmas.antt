@@ -1,8 +1,10 @@
 -- The code of a closure, and the chains of what is in it.
-use Rattle.std.proofs.Common.{◌≡◌, ◌<◌, ℕ, List, [], ◌∷◌, ◌++◌, Option, Some, None, map, refl, sym, ap, ◌∙◌, append_assoc, Contains, arith, subst, zero, suc, length, ◌-◌}
+use Rattle.std.proofs.Common.{◌≡◌, ◌<◌, ℕ, List, [], ◌∷◌, ◌++◌, Option, Some, None, map, refl, sym, ap, ◌∙◌, append_assoc, Contains, arith, subst, zero, suc, length, length-append, ◌-◌}
 use Rattle.std.proofs.Math.Path.{fun_ext}
+use Rattle.std.proofs.Math.Seq.{take-append_seam}
 use Rattle.std.proofs.lemmas.List.Sorted.{IsPermutation-sym, Contains-permutation}
 use Rattle.std.specs.List.{flat_map, slice_get, cons_option, AllByRecursion}
+use Rattle.std.specs.Option.{option_or}
 use Rattle.std.specs.Prelude.{filter_map}
 use Rattle.hir_base.specs.declared.hygiene.SyntaxContext.{SyntaxContext}
 use Rattle.hir_path.specs.declared.ids.ExprOrPatId.TheVariants.{ExprId, PatId}
@@ -15,14 +17,16 @@ use Rattle.hir_store_core.specs.{Contents.Contents, SideTables.hygiene_of, Under
 use Rattle.hir_scope.specs.Chains.{InContext, child_in_context, on_base, Occurs, child, HasChain, within_own}
 use Rattle.hir_scope.specs.ScopingForms.{form_of, ScopingForm, form_at, expr_form}
 use Rattle.hir_scope.specs.ScopingForms as form
-use Rattle.hir_scope.specs.{Frames.Chain, PathResolution.local_name, Order.met_in_form}
+use Rattle.hir_scope.specs.{Frames.Chain, PathResolution.local_name, Order.met_in_form, Resolution.resolve}
+use Rattle.hir_scope.specs.declared.scope.ScopeEntry.{ScopeEntry}
+use Rattle.hir_scope.proofs.ResolveLemmas.{resolve_append}
 use Rattle.hir_scope.specs.ChildContexts.{Base, Scope, ConstScope, ChildContext, child_with_base, children_with_base, child_contexts, own_frame}
 use Rattle.hir_scope.proofs.ChildLemmas.{children_in, child_contexts_children, child_contexts_follow}
 use Rattle.hir_scope.proofs.UnderLemmas.{mapped, child_contexts_agree}
-use Rattle.hir_captures.specs.Captures.{IsClosure, IsOn, captured_binding, resolve_outside}
+use Rattle.hir_captures.specs.Captures.{IsClosure, IsOn, IsCapturedBinding, EachCaptures, captured_binding, outer_entry, resolve_outside}
 use Rattle.hir_captures.specs.Uses.{Spot, spot, in_code, of_pattern, child_code, assignment_at, code_step, code_under, Use, if_assignment, use_of, expr_uses, pat_uses, uses_at, spot_uses, uses_in}
 use Rattle.hir_captures.specs.declared.tasks.Task.{Task}
-use Rattle.hir_captures.specs.walk.Pending.{tasks_of, task_node, code_of, AreInRange}
+use Rattle.hir_captures.specs.internal.Pending.{tasks_of, task_node, code_of, AreInRange}
 
 -- 1. The code under a node is the node, and then the code of its children in the order of its child contexts: that of the tasks that reading it puts.
 
@@ -231,6 +235,36 @@ uses_on c entry_nodes from base (x ∷ xs) h =
       one (NodeId.Pat id) a on t = of_pat c.nodes entry_nodes from base (hygiene_of c.side_tables (PatId id)) a (slice_get c.nodes.pats id) t
       one (NodeId.TypeRef id) a on t = tt
 
+-- What a use captures, by lengths
+
+module _ (n : List ℕ) (h : SyntaxContext) where
+  -- an entry that is found, and not further in, is found along the outer frames
+  found_outside : (between own : Chain) → outer_entry (resolve between n h) (resolve (between ++ own) n h) ≡ outer_entry (resolve between n h) (resolve own n h)
+  found_outside between own =
+      ap (λ (o : Option ScopeEntry). outer_entry (resolve between n h) o) (resolve_append n h between own) ∙ cases (resolve between n h) (resolve own n h) where
+        cases : (o p : Option ScopeEntry) → outer_entry o (option_or o p) ≡ outer_entry o p
+        cases None p = refl
+        cases (Some entry) p = refl
+
+  by_append : (between own : Chain) → resolve_outside (length (between ++ own) - length own) (between ++ own) n h ≡ outer_entry (resolve between n h) (resolve own n h)
+  by_append between own =
+      let many : length (between ++ own) - length own ≡ length between = omega (arith, length-append between own) in
+      ap (λ (m : ℕ). resolve_outside m (between ++ own) n h) many
+      ∙ (ap (λ (c : Chain). outer_entry (resolve c n h) (resolve (between ++ own) n h)) (take-append_seam between own) ∙ found_outside between own)
+
+  by_length : (chain between own : Chain) → chain ≡ between ++ own → resolve_outside (length chain - length own) chain n h ≡ outer_entry (resolve between n h) (resolve own n h)
+  by_length chain between own e = ap (λ (c : Chain). resolve_outside (length c - length own) c n h) e ∙ by_append between own
+
+by_its_length : (own chain : Chain) (u : Use) (captured : Option ℕ) → IsCapturedBinding own chain u captured → captured ≡ resolve_outside (length chain - length own) chain u.name u.hygiene
+by_its_length own chain u captured k = k.is ∙ sym (by_length u.name u.hygiene chain k.between own k.on)
+
+each_by_length : (chain : ℕ → Chain) (closure : ℕ) (us : List Use) → AllByRecursion (λ (u : Use). IsOn (chain closure) (chain u.expr)) us → EachCaptures chain closure (captured_binding chain closure) us
+each_by_length chain closure [] h = tt
+each_by_length chain closure (u ∷ us) h = (
+  record { between = h.0.0; on = h.0.1; is = by_length u.name u.hygiene (chain u.expr) h.0.0 (chain closure) h.0.1 },
+  each_by_length chain closure us h.1,
+)
+
 -- The chains of uses
 
 -- a closure has no frame of its own
@@ -275,14 +309,21 @@ module _ (c : Contents) (entry_nodes : List InContext) (from : List NodeId) (fal
   pub uses_stand_on : (chain : Chains) → AreTheirs chain → AllByRecursion (λ (u : Use). IsOn (chain closure) (chain u.expr)) (uses_in c closure)
   uses_stand_on chain are = chains_on chain are (uses_in c closure) (all_on chain are)
 
+  -- each use captures what lengths say
+  pub all_by_length : (chain : Chains) → AreTheirs chain → EachCaptures chain closure (captured_binding chain closure) (uses_in c closure)
+  all_by_length chain are = each_by_length chain closure (uses_in c closure) (uses_stand_on chain are)
+
   -- they capture the same by any chains
-  same_captures : (f g : Chains) → AreTheirs f → AreTheirs g → f closure ≡ g closure → (us : List Use) → UsesOn c.nodes entry_nodes from (f closure) us → filter_map (captured_binding f closure) us ≡ filter_map (captured_binding g closure) us
-  same_captures f g p q e [] h = refl
-  same_captures f g p q e (u ∷ us) h =
+  same_captures : (f g : Chains) → AreTheirs f → AreTheirs g → f closure ≡ g closure → (a d : Use → Option ℕ) (us : List Use) → UsesOn c.nodes entry_nodes from (f closure) us →
+      EachCaptures f closure a us → EachCaptures g closure d us → filter_map a us ≡ filter_map d us
+  same_captures f g p q e a d [] h k m = refl
+  same_captures f g p q e a d (u ∷ us) h k m =
       let x = one u.expr (f u.expr) (g u.expr) (p u.expr h.0.reached) (q u.expr h.0.reached) in
-      let first : captured_binding f closure u ≡ captured_binding g closure u = λ i. resolve_outside (length (x i) - length (e i)) (x i) u.name u.hygiene in
-      let rest = same_captures f g p q e us h.1 in
+      let same : captured_binding f closure u ≡ captured_binding g closure u = λ i. resolve_outside (length (x i) - length (e i)) (x i) u.name u.hygiene in
+      let first : a u ≡ d u = by_its_length (f closure) (f u.expr) u (a u) k.0 ∙ (same ∙ sym (by_its_length (g closure) (g u.expr) u (d u) m.0)) in
+      let rest = same_captures f g p q e a d us h.1 k.1 m.1 in
       λ i. cons_option (first i) (rest i)
 
-  pub one_list : (f g : Chains) → AreTheirs f → AreTheirs g → filter_map (captured_binding f closure) (uses_in c closure) ≡ filter_map (captured_binding g closure) (uses_in c closure)
-  one_list f g p q = same_captures f g p q (one closure (f closure) (g closure) (p closure reached) (q closure reached)) (uses_in c closure) (all_on f p)
+  pub one_list : (f g : Chains) → AreTheirs f → AreTheirs g → (a d : Use → Option ℕ) → EachCaptures f closure a (uses_in c closure) → EachCaptures g closure d (uses_in c closure) →
+      filter_map a (uses_in c closure) ≡ filter_map d (uses_in c closure)
+  one_list f g p q a d k m = same_captures f g p q (one closure (f closure) (g closure) (p closure reached) (q closure reached)) a d (uses_in c closure) (all_on f p) k m

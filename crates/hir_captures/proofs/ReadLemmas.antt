@@ -4,7 +4,7 @@ use Rattle.std.proofs.lemmas.List.{append-nil}
 use Rattle.std.proofs.lemmas.List.{Concat.flat_map-append, Elements.filter_map-append, Sums.fold-append}
 use Rattle.std.specs.FinMap as map
 use Rattle.std.specs.List.{flat_map, filter_map, slice_get}
-use Rattle.std.specs.Prelude.{IsSome, ◌↔◌, ◌-◌}
+use Rattle.std.specs.Prelude.{IsSome, IfOk, Result, Ok, Err, ◌↔◌, ◌-◌}
 use Rattle.hir_node.specs.{ChildCalls.Call, ChildCalls.pat_calls, Runs.Runs, Runs.no_call, Runs.a_call}
 use Rattle.hir_node.specs.declared.{expr.Expr.Expr, node_id.NodeId.NodeId, pat.Pat.Pat}
 use Rattle.hir_validate.specs.{Recursion.RankDecreases, Nodes.Nodes}
@@ -15,11 +15,11 @@ use Rattle.hir_stack.proofs.DeferredLemmas.{defers_none, defers_two}
 use Rattle.hir_scope.specs.{BodyScopes.ChainsAreFrames, BodyScopes.entry_nodes_of_body, Chains.HasChain}
 use Rattle.hir_scope.specs.ScopingForms.{form_of, form_at, expr_form, pat_form}
 use Rattle.hir_scope.specs.{Order.met_in_form, Paths.chain, Scopes.Scopes}
-use Rattle.hir_captures.specs.Captures.{resolve_outside, with_new, AreChains, AreCaptures}
+use Rattle.hir_captures.specs.Captures.{resolve_outside, with_new, captures_by, AreChains}
 use Rattle.hir_captures.specs.Uses.{Spot, Use, uses_in, spot, if_assignment, assignment_at, uses_at, spot_uses, code_under}
 use Rattle.hir_captures.specs.declared.{code.Code.Code, tasks.Task.Task, tasks.Tasks.Tasks}
-use Rattle.hir_captures.specs.walk.Pending.{task_of, tasks_of, pat_task, task_node, task_target, code_of, AreInRange}
-use Rattle.hir_captures.specs.walk.Reading.{chain_in, captured_binding_in, with_uses, with_code, ReadsTask}
+use Rattle.hir_captures.specs.internal.Pending.{task_of, tasks_of, pat_task, task_node, task_target, code_of, AreInRange}
+use Rattle.hir_captures.specs.internal.Reading.{chain_in, captured_binding_in, with_uses, with_code, ReadsTask}
 use Rattle.hir_captures.proofs.CodeLemmas.{code_read, children_in_range}
 
 -- 1. What a run of child calls leaves to be read.
@@ -99,27 +99,26 @@ module _ (code : Code) where
 -- The whole
 
 -- each reached expression has a scope, along which its frames are
-chains_are : (b : BodyContents) (scopes : Scopes) → ((x : ℕ) → IsSome (map.get scopes.scope_by_expr x) ↔ BodyReaches b (NodeId.Expr x)) → ChainsAreFrames b.store.nodes (entry_nodes_of_body b) scopes → AreChains b (chain_in scopes)
+pub chains_are : (b : BodyContents) (scopes : Scopes) → ((x : ℕ) → IsSome (map.get scopes.scope_by_expr x) ↔ BodyReaches b (NodeId.Expr x)) → ChainsAreFrames b.store.nodes (entry_nodes_of_body b) scopes → AreChains b (chain_in scopes)
 chains_are b scopes reached chains x r = at (map.get scopes.scope_by_expr x) refl ((reached x).1 r) where
   at : (o : Option ℕ) → map.get scopes.scope_by_expr x ≡ o → IsSome o → HasChain b.store.nodes (entry_nodes_of_body b) x (chain scopes.scopes (map.get scopes.scope_by_expr x))
   at None e h = absurd cc
   at (Some scope) e h = subst (λ (o : Option ℕ). HasChain b.store.nodes (entry_nodes_of_body b) x (chain scopes.scopes o)) (sym e) (chains x scope e)
 
-pub are_captures : (b : BodyContents) (code : Code) (closure scope : ℕ) (found : List ℕ) → code.store.now ≡ b.store → code.outermost ≡ length (chain code.scopes.now.scopes (Some scope)) →
-    ((x : ℕ) → IsSome (map.get code.scopes.now.scope_by_expr x) ↔ BodyReaches b (NodeId.Expr x)) → ChainsAreFrames b.store.nodes (entry_nodes_of_body b) code.scopes.now →
-    map.get code.scopes.now.scope_by_expr closure ≡ Some scope → found ≡ with_code code [] (Task.Expr closure ∷ []) → AreCaptures b closure found
+pub are_by_length : (b : BodyContents) (code : Code) (closure scope : ℕ) (found : List ℕ) → code.store.now ≡ b.store → code.outermost ≡ length (chain code.scopes.now.scopes (Some scope)) →
+    map.get code.scopes.now.scope_by_expr closure ≡ Some scope → found ≡ with_code code [] (Task.Expr closure ∷ []) → found ≡ captures_by (chain_in code.scopes.now) b.store closure
 unfolding uses_in
-are_captures b code closure scope found same out reached chains is e =
+are_by_length b code closure scope found same out is e =
     let scopes = code.scopes.now in
     let own : code.outermost ≡ length (chain_in scopes closure) = out ∙ ap (λ (o : Option ℕ). length (chain scopes.scopes o)) (sym is) in
     let by : ℕ → Use → Option ℕ = λ n u. resolve_outside (length (chain_in scopes u.expr) - n) (chain_in scopes u.expr) u.name u.hygiene in
-    record {
-      chain = chain_in scopes;
-      are_chains = chains_are b scopes reached chains;
-      are =
-          e
-          ∙ (ap (λ (spots : List Spot). with_uses code [] (flat_map (spot_uses code.store.now) spots)) (append-nil (code_under code.store.now.nodes (NodeId.Expr closure) None))
-          ∙ (λ i. fold with_new [] (filter_map (by (own i)) (uses_in (same i) closure))));
-    }
+    e
+    ∙ (ap (λ (spots : List Spot). with_uses code [] (flat_map (spot_uses code.store.now) spots)) (append-nil (code_under code.store.now.nodes (NodeId.Expr closure) None))
+    ∙ (λ i. fold with_new [] (filter_map (by (own i)) (uses_in (same i) closure))))
+
+-- two facts on what was returned are one
+pub ok_both : {X E : Type 0} (r : Result X E) (P Q R : X → Type 0) → ((x : X) → P x → Q x → R x) → IfOk r P → IfOk r Q → IfOk r R
+ok_both (Ok x) P Q R f p q = f x p q
+ok_both (Err e) P Q R f p q = tt
 
 pub ruleset reads = (read_expr, read_pat)

@@ -2,5 +2,7 @@
 pub mod Uses
 -- the captures of a closure
 pub mod Captures
--- the state of the walk that finds uses, and its steps
-pub mod walk
+-- what the files here import of std and of lower crates, from one place
+pub mod Prelude
+-- what only contracts within this crate cite
+pub mod internal

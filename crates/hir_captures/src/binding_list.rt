@@ -20,7 +20,7 @@ pub(crate) struct BindingList {
 
 impl Model for BindingList {
     ghost use Rattle.std.specs.Prelude.{List, ℕ};
-    ghost use Rattle.hir_captures.specs.walk.Marks.{AreMarks};
+    ghost use Rattle.hir_captures.specs.internal.Marks.{AreMarks};
 
     ghost Value = { List ℕ };
 

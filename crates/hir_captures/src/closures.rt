@@ -4,12 +4,14 @@ ghost use Rattle.std.specs.FinMap as map;
 ghost use Rattle.hir_node.specs.declared.node_id.NodeId.TheVariants as node;
 ghost use Rattle.hir_items.specs.Bodies.{BodyReaches};
 ghost use Rattle.hir_scope.specs.BodyScopes.{ChainsAreFrames, entry_nodes_of_body};
-ghost use Rattle.hir_captures.specs.Captures.{AreCaptures, IsClosure, IsReachedClosure};
+ghost use Rattle.hir_captures.specs.Captures.{AreCaptures, IsClosure, IsReachedClosure, captures_by};
+ghost use Rattle.hir_captures.specs.internal.Reading.{chain_in};
 
 use crate::binding_list::BindingList;
 use crate::captured_binding::depth;
 use crate::code::Code;
 use crate::fault::CapturesFault;
+use crate::laws::lengths_decide_captures;
 use crate::tasks::{Task, Tasks};
 use hir_items::Body;
 use hir_node::{BindingId, Expr, ExprId};
@@ -39,6 +41,37 @@ fn scope_of_closure(
     None
 }
 
+/// Returns the bindings that a closure captures, by the lengths of chains.
+fn captures_by_length(
+    alloc: Global,
+    body: &Body,
+    scopes: &ExprScopes,
+    closure: ExprId,
+) -> Result<Vec<BindingId>, CapturesFault>
+    requires reached { (expr : ℕ) → IsSome (map.get scopes.now.scope_by_expr expr)
+        ↔ BodyReaches body.now (node.Expr expr) }
+    requires chains { ChainsAreFrames body.now.store.nodes (entry_nodes_of_body body.now) scopes.now }
+    ensures captures { IfOk result (λ found.
+        found.items ≡ captures_by (chain_in scopes.now) body.now.store closure) }
+    ensures closure { IfOk result (λ found. IsReachedClosure body.now closure) }
+    ensures no_closure { result ≡ Err CapturesFault.NotAClosure ↔ (IsReachedClosure body.now closure → ⊥) }
+{
+    let store = body.store();
+    let Some(scope) = scope_of_closure(store, scopes, closure) else {
+        return Err(CapturesFault::NotAClosure);
+    };
+    let code = Code {
+        store,
+        scopes,
+        outermost: depth(scopes, scope),
+    };
+    let mut found = BindingList::new(alloc, store.bindings().len())?;
+    let mut unread = Tasks::new(alloc);
+    unread.stack.push(Task::Expr(closure))?;
+    code.read_all(&mut unread, &mut found)?;
+    Ok(found.into_bindings())
+}
+
 /// Returns the bindings that a closure captures: those of outside that its code uses, in the order of their
 /// first use, each once. What is in a constant or a type isn't the closure's code.
 ///
@@ -59,18 +92,8 @@ pub fn captures(
     ensures closure { IfOk result (λ found. IsReachedClosure body.now closure) }
     ensures no_closure { result ≡ Err CapturesFault.NotAClosure ↔ (IsReachedClosure body.now closure → ⊥) }
 {
-    let store = body.store();
-    let Some(scope) = scope_of_closure(store, scopes, closure) else {
-        return Err(CapturesFault::NotAClosure);
-    };
-    let code = Code {
-        store,
-        scopes,
-        outermost: depth(scopes, scope),
-    };
-    let mut found = BindingList::new(alloc, store.bindings().len())?;
-    let mut unread = Tasks::new(alloc);
-    unread.stack.push(Task::Expr(closure))?;
-    code.read_all(&mut unread, &mut found)?;
-    Ok(found.into_bindings())
+    body.has_no_fault();
+    body.store().has_no_fault();
+    lengths_decide_captures();
+    captures_by_length(alloc, body, scopes, closure)
 }

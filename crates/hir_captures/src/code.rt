@@ -5,8 +5,8 @@ ghost use Rattle.std.specs.Prelude.{◌≡◌, ◌<◌, ◌∷◌, length, None,
 ghost use Rattle.hir_node.specs.declared.node_id.NodeId.TheVariants as node;
 ghost use Rattle.hir_scope.specs.PathResolution.{local_name};
 ghost use Rattle.hir_captures.specs.Uses.{if_assignment, use_of, uses_at};
-ghost use Rattle.hir_captures.specs.walk.Pending.{AreInRange, pat_task};
-ghost use Rattle.hir_captures.specs.walk.Reading.{with_uses, with_code, ReadsTask};
+ghost use Rattle.hir_captures.specs.internal.Pending.{AreInRange, pat_task};
+ghost use Rattle.hir_captures.specs.internal.Reading.{with_uses, with_code, ReadsTask};
 
 use crate::binding_list::BindingList;
 use crate::captured_binding::captured_binding;

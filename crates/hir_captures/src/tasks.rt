@@ -6,7 +6,7 @@ ghost use Rattle.hir_node.specs.ChildCalls.{pat_calls};
 ghost use Rattle.hir_stack.specs.Stacks.{Defers};
 ghost use Rattle.hir_scope.specs.ScopingForms.{expr_form};
 ghost use Rattle.hir_scope.specs.Order.{met_in_form};
-ghost use Rattle.hir_captures.specs.walk.Pending.{task_of, tasks_of};
+ghost use Rattle.hir_captures.specs.internal.Pending.{task_of, tasks_of};
 
 use crate::fault::CapturesFault;
 use hir_node::{Expr, ExprId, LifetimeRefId, Pat, PatId, StoreVisitor, TypeRefId};

@@ -8,7 +8,7 @@ use Rattle.hir_node.proofs.RunLemmas.{may_always}
 use Rattle.hir_error.specs.declared.named_id.NamedId.{NamedId}
 use Rattle.hir_error.specs.declared.missing_ids.FirstMissing.{FirstMissing}
 use Rattle.hir_error.specs.NamedIds.{id_of_call, exists, first_out_of_range}
-use Rattle.hir_error.specs.Finding.{FindsAmong, Finds}
+use Rattle.hir_error.specs.internal.Finding.{FindsAmong, Finds}
 
 or_none : (o : Option NamedId) → o ≡ option_or o None
 or_none None = refl

@@ -6,7 +6,9 @@ pub mod NamedIds
 pub mod StoreErrors
 -- the sentence of each error
 pub mod Texts
--- private clauses alone: what a visitor leaves
-pub mod Finding
+-- what the files here import of std and of lower crates, from one place
+pub mod Prelude
+-- what only contracts within this crate cite
+pub mod internal
 -- proofs alone, of equality
 pub mod same

@@ -9,7 +9,7 @@ ghost use Rattle.hir_validate.specs.TestedParts.{all_of};
 ghost use Rattle.hir_store.specs.Building.{nodes_of};
 ghost use Rattle.hir_error.specs.declared.named_id.NamedId.TheVariants as named;
 ghost use Rattle.hir_error.specs.NamedIds.{exists, ids_of_expr, ids_of_pat, ids_of_type, first_out_of_range, missing_id};
-ghost use Rattle.hir_error.specs.Finding.{Finds, FindsAmong};
+ghost use Rattle.hir_error.specs.internal.Finding.{Finds, FindsAmong};
 
 use crate::NamedId;
 use hir_node::{

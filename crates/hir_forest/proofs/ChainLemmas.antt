@@ -6,7 +6,8 @@ use Rattle.std.proofs.lemmas.List.{get_or-set_same, get_or-set_other}
 use Rattle.std.proofs.lemmas.List.Sums.{sum_by-set}
 use Rattle.hir_forest.specs.Forest.{IsChild, Climbs, IsTop, ChainEnds, LiesUnder, Marks, LiesUnderMarked, HasOneParent}
 use Rattle.hir_forest.specs.Faults.{LiesUnderRoot}
-use Rattle.hir_forest.specs.Parents.{HasParents, IsOnChain, MeetsMarked, AreClear}
+use Rattle.hir_forest.specs.Parents.{HasParents}
+use Rattle.hir_forest.specs.internal.Parents.{IsOnChain, MeetsMarked, AreClear}
 use Rattle.hir_forest.proofs.HeightLemmas.{chain_short, join, extend}
 use Rattle.hir_forest.proofs.MarkLemmas.{Marks-set, Marks-kept, Marks-here}
 

@@ -7,7 +7,8 @@ use Rattle.std.proofs.lemmas.List.Sums.{sum_by-set}
 use Rattle.hir_forest.specs.declared.roots.Root.{Root}
 use Rattle.hir_forest.specs.declared.roots.Ends.{Ends}
 use Rattle.hir_forest.specs.Faults.{root_nodes, ends_before, no_ends, EndsFit}
-use Rattle.hir_forest.specs.Forest.{Marks, MarksAll}
+use Rattle.hir_forest.specs.Forest.{Marks}
+use Rattle.hir_forest.specs.internal.Forest.{MarksAll}
 
 -- only a place of the table is marked
 pub marks_in : (table : List Bool) (c : ℕ) → Marks table c → c < length table

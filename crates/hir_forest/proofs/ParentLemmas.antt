@@ -12,7 +12,8 @@ use Rattle.hir_forest.specs.Verdict.{◌unless◌, first_below}
 use Rattle.hir_forest.specs.Rows.{with_children}
 use Rattle.hir_forest.specs.Forest.{IsChild}
 use Rattle.hir_forest.specs.Faults.{edge_fault}
-use Rattle.hir_forest.specs.Parents.{parent_of, NameNodes, HasParent, HasParents, Parentage, shared_fault, IsParentageOf}
+use Rattle.hir_forest.specs.internal.Parents.{parent_of, NameNodes}
+use Rattle.hir_forest.specs.Parents.{HasParent, HasParents, Parentage, shared_fault, IsParentageOf}
 use Rattle.hir_forest.proofs.ForestLemmas.{parent_of_child, child_of_parent}
 use Rattle.hir_forest.proofs.RowsLemmas.{with_children-more, with_children-fresh, length-with_children}
 

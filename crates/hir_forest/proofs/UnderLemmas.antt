@@ -3,7 +3,8 @@ use Rattle.std.proofs.Common.{◌≡◌, ℕ, zero, suc, ◌<◌, ◌↔◌, Boo
 use Rattle.std.proofs.lemmas.Bool.{cases_eq, false≢true}
 use Rattle.std.proofs.lemmas.List.{get_or-set_same, get_or-set_other}
 use Rattle.hir_forest.specs.Forest.{IsChild, Climbs, Marks, LiesUnderMarked}
-use Rattle.hir_forest.specs.Parents.{HasParents, AreKnown}
+use Rattle.hir_forest.specs.Parents.{HasParents}
+use Rattle.hir_forest.specs.internal.Parents.{AreKnown}
 use Rattle.hir_forest.proofs.ChainLemmas.{only_parent, has_child}
 
 module _ (g : List (List ℕ)) (parents : List (Option ℕ)) (h : HasParents g parents) (marked : List Bool) where

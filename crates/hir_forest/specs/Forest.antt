@@ -1,7 +1,13 @@
 -- Defines when a graph of nodes numbered from 0, given by the list of each node's children, is a forest.
 -- An edge leads from a node to one of its children; edges are ordered by parent, and then by place among its
 -- children.
-use Rattle.std.specs.Prelude.{◌≡◌, ℕ, zero, suc, ◌<◌, ◌↔◌, Bool, true, false, List, [], length, take, slice_index, slice_index_or, Contains}
+--
+-- The nodes of the running example (hir_node/specs/ChildCalls.antt) are 0 to 13, the expressions, and 14 to 18, the
+-- patterns. Their graph, without the nodes that have no child, is
+--     2: 0 1    3: 2 16    6: 4 5    7: 18 6    9: 8    11: 10    12: 7 9 11    13: 3 15 12    18: 17
+-- It is a forest: each node occurs once at most as a child, and each chain of parents ends, at 13, the root, or at
+-- 14, the parameter. With a second parent for 8 it has a shared child; with 13 as a child of 9, a cycle.
+use Rattle.std.specs.Prelude.{◌≡◌, ℕ, zero, suc, ◌<◌, Bool, true, false, List, [], length, take, slice_index, slice_index_or, Contains}
 use Rattle.std.specs.List.{concat}
 
 -- c is a child of p
@@ -47,14 +53,6 @@ pub record IsForest (g : List (List ℕ)) : Type 0 where
 -- the table marks c
 abbrev pub Marks : List Bool → ℕ → Type 0
 Marks table c = slice_index_or table c false ≡ true
-
--- the table marks exactly the members of the list
-abbrev pub MarksAll : List Bool → List ℕ → Type 0
-MarksAll table xs = (c : ℕ) → Marks table c ↔ Contains xs c
-
--- the table marks exactly the listed nodes below limit
-abbrev pub MarksRoots : List Bool → ℕ → List ℕ → Type 0
-MarksRoots table limit roots = (c : ℕ) → Marks table c ↔ (Contains roots c × (c < limit))
 
 -- c is a descendant of a node that the table marks
 abbrev pub LiesUnderMarked : List (List ℕ) → List Bool → ℕ → Type 0

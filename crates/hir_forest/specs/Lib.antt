@@ -10,5 +10,7 @@ pub mod Faults
 pub mod Rows
 -- the parents of nodes, and chains of them
 pub mod Parents
+-- what only contracts within this crate cite
+pub mod internal
 -- proofs alone, of equality
 pub mod same

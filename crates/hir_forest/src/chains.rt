@@ -4,9 +4,11 @@
 
 ghost use Rattle.std.specs.Prelude.{◌≡◌, ◌⊎◌, ℕ, ◌<◌, ◌≤◌, ◌↔◌, Bool, List, [], length, IsTrue, IsFalse};
 ghost use Rattle.hir_forest.specs.Verdict.{first_below};
-ghost use Rattle.hir_forest.specs.Forest.{ChainEnds, LiesUnderMarked, Marks, MarksAll};
+ghost use Rattle.hir_forest.specs.Forest.{ChainEnds, LiesUnderMarked, Marks};
+ghost use Rattle.hir_forest.specs.internal.Forest.{MarksAll};
 ghost use Rattle.hir_forest.specs.Faults.{cycle_fault};
-ghost use Rattle.hir_forest.specs.Parents.{HasParents, IsOnChain, MeetsMarked, AreClear};
+ghost use Rattle.hir_forest.specs.Parents.{HasParents};
+ghost use Rattle.hir_forest.specs.internal.Parents.{IsOnChain, MeetsMarked, AreClear};
 
 use crate::ForestFault;
 use crate::parent_table::ParentTable;

@@ -3,7 +3,8 @@
 
 ghost use Rattle.std.specs.Prelude.{◌≡◌, ℕ, ◌<◌, ◌≤◌, List, [], length, IfNone, IfOk};
 ghost use Rattle.hir_forest.specs.Verdict.{◌before◌, first_below};
-ghost use Rattle.hir_forest.specs.Forest.{ChainEnds, LiesUnder, Marks, MarksAll, MarksRoots};
+ghost use Rattle.hir_forest.specs.Forest.{ChainEnds, LiesUnder, Marks};
+ghost use Rattle.hir_forest.specs.internal.Forest.{MarksAll, MarksRoots};
 ghost use Rattle.hir_forest.specs.Faults.{LiesUnderRoot, cycle_fault, root_fault, forest_fault, root_nodes};
 ghost use Rattle.hir_forest.specs.Parents.{HasParents, IsParentageOf};
 

@@ -1,7 +1,7 @@
 //! The parent of each node of a graph, in 32 bits a node if there are at most `u32::MAX` nodes.
 
 ghost use Rattle.std.specs.Prelude.{◌≡◌, ◌<◌, [], None, Some, length, replicate, IfOk, IfSome, slice_index_or, set};
-ghost use Rattle.hir_forest.specs.Parents.{parent_of};
+ghost use Rattle.hir_forest.specs.internal.Parents.{parent_of};
 
 use std::alloc::{AllocError, Global};
 use std::marker::Model;
@@ -21,7 +21,7 @@ pub(crate) struct ParentTable {
 
 impl Model for ParentTable {
     ghost use Rattle.std.specs.Prelude.{ℕ, List, Option};
-    ghost use Rattle.hir_forest.specs.Parents.{parents_in, AreSound};
+    ghost use Rattle.hir_forest.specs.internal.Parents.{parents_in, AreSound};
 
     ghost Value = { List (Option ℕ) };
 

@@ -3,8 +3,10 @@
 //! many steps as there are nodes.
 
 ghost use Rattle.std.specs.Prelude.{◌≡◌, ℕ, ◌<◌, ◌↔◌, List, [], length, IfOk, IsTrue};
-ghost use Rattle.hir_forest.specs.Forest.{ChainEnds, Marks, MarksAll, LiesUnderMarked};
-ghost use Rattle.hir_forest.specs.Parents.{HasParents, AreKnown};
+ghost use Rattle.hir_forest.specs.Forest.{ChainEnds, Marks, LiesUnderMarked};
+ghost use Rattle.hir_forest.specs.internal.Forest.{MarksAll};
+ghost use Rattle.hir_forest.specs.Parents.{HasParents};
+ghost use Rattle.hir_forest.specs.internal.Parents.{AreKnown};
 
 use crate::parent_table::ParentTable;
 use crate::parents::Parents;

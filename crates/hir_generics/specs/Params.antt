@@ -1,7 +1,8 @@
 -- Defines the parts of a generic parameter: its name, its default, the parameter of its kind, whether it is
 -- the Self of a trait, and how it is bound.
-use Rattle.std.specs.Prelude.{ℕ, List, Bool, true, false, Option, Some, None}
+use Rattle.std.specs.Prelude.{List, Bool, true, false, Option, Some, None}
 use Rattle.std.specs.Option.{is_some}
+use Rattle.hir_base.specs.Ids.{Name}
 use Rattle.hir_generics.specs.declared.data.TypeParamData.{TypeParamData}
 use Rattle.hir_generics.specs.declared.data.ConstParamData.{ConstParamData}
 use Rattle.hir_generics.specs.declared.data.LifetimeParamData.{LifetimeParamData}
@@ -14,7 +15,7 @@ use Rattle.hir_generics.specs.declared.param.TypeOrConstParamData.TheVariants as
 use Rattle.hir_generics.specs.declared.param.GenericParamData.{GenericParamData}
 use Rattle.hir_generics.specs.declared.param.GenericParamData.TheVariants as any
 
-abbrev pub name_of : TypeOrConstParamData → Option (List ℕ)
+abbrev pub name_of : TypeOrConstParamData → Option Name
 name_of (either.TypeParamData p) = p.name
 name_of (either.ConstParamData p) = Some p.name
 
@@ -50,7 +51,7 @@ same_bound LateBound LateBound = true
 abbrev pub is_bound : LifetimeBoundType → LifetimeParamData → Bool
 is_bound way lifetime = same_bound way lifetime.bound_type
 
-abbrev pub any_name_of : GenericParamData → Option (List ℕ)
+abbrev pub any_name_of : GenericParamData → Option Name
 any_name_of (any.TypeParamData p) = p.name
 any_name_of (any.ConstParamData p) = Some p.name
 any_name_of (any.LifetimeParamData p) = Some p.name

@@ -12,7 +12,8 @@ use Rattle.hir_store_core.specs.NodeSets.{MarkedNodes, IsIn, Gains}
 use Rattle.hir_items.specs.declared.formals.Param.{Param}
 use Rattle.hir_items.specs.declared.body_fault.BodyFault.{BodyFault}
 use Rattle.hir_items.specs.declared.body_fault.BodyFault.TheVariants.{NoRoot, SelfOutOfRange, ParamOutOfRange, ParamRepeated, ParamUnder, RootInParam}
-use Rattle.hir_items.specs.Bodies.{BodyContents, formals_of, user_written_of, last_root, fault_at_root, apart_fault, body_fault, GainsAll}
+use Rattle.hir_items.specs.Bodies.{BodyContents, formals_of, user_written_of, last_root, fault_at_root, apart_fault, body_fault}
+use Rattle.hir_items.specs.internal.Bodies.{GainsAll}
 
 pub read_at : {X : Type 0} (f : X → ℕ) (xs : List X) (i : ℕ) (x : X) → i < length xs → x ≡ get_or xs i x → get_or (map f xs) i 0 ≡ f x
 read_at f xs i x h e = get_or-map f xs i x 0 h ∙ ap f (sym e)

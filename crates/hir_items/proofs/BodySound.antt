@@ -19,7 +19,8 @@ use Rattle.hir_validate.specs.Sound.{RootsStandApart}
 use Rattle.hir_items.specs.declared.formals.Param.{Param}
 use Rattle.hir_items.specs.declared.body_fault.BodyFault.{BodyFault}
 use Rattle.hir_items.specs.declared.body_fault.BodyFault.TheVariants.{NoRoot, SelfOutOfRange, ParamOutOfRange, ParamRepeated, ParamUnder, RootInParam}
-use Rattle.hir_items.specs.Bodies.{BodyContents, formals_of, user_written_of, last_root, entry_nodes_of, entry_nodes, AreBelow, range_fault, repeated_fault, under_fault, fault_at_root, apart_fault, body_fault, GainsAll}
+use Rattle.hir_items.specs.Bodies.{BodyContents, formals_of, user_written_of, last_root, entry_nodes_of, entry_nodes, AreBelow, range_fault, repeated_fault, under_fault, fault_at_root, apart_fault, body_fault}
+use Rattle.hir_items.specs.internal.Bodies.{GainsAll}
 use Rattle.hir_items.proofs.BodyLemmas.{pat_of_node, node_of_pat}
 
 -- where a node is a descendant of two nodes, one of the two is a descendant of the other

@@ -1,10 +1,6 @@
 -- The first type, constant or lifetime of a name.
-use Rattle.std.specs.Prelude.{◌≡◌, ℕ, List, ◌∷◌, ◌++◌, length, Option, Some}
+use Rattle.hir_items.specs.Prelude.{◌≡◌, ℕ, List, ◌∷◌, ◌++◌, length, Option, Some, MatchOption, Name, LifetimeParamData, TypeOrConstParamData, TypeParamData, ConstParamData}
 use Rattle.std.specs.List.{All}
-use Rattle.std.specs.Option.{MatchOption}
-use Rattle.hir_generics.specs.declared.data.LifetimeParamData.{LifetimeParamData}
-use Rattle.hir_generics.specs.declared.param.TypeOrConstParamData.{TypeOrConstParamData}
-use Rattle.hir_generics.specs.declared.param.TypeOrConstParamData.TheVariants.{TypeParamData, ConstParamData}
 
 -- some members for which P doesn't hold, and after them, at the index `at`, one for which it does
 pub record FirstAt {X : Type 0} (P : X → Type 0) (xs : List X) (at : ℕ) : Type 0 where
@@ -20,13 +16,13 @@ pub record FirstAt {X : Type 0} (P : X → Type 0) (xs : List X) (at : ℕ) : Ty
 abbrev pub IsFirst : {X : Type 0} → (X → Type 0) → List X → Option ℕ → Type 0
 IsFirst P xs r = MatchOption r (All (λ x. P x → ⊥) xs) (FirstAt P xs)
 
-abbrev pub IsTypeNamed : List ℕ → TypeOrConstParamData → Type 0
+abbrev pub IsTypeNamed : Name → TypeOrConstParamData → Type 0
 IsTypeNamed name (TypeParamData p) = p.name ≡ Some name
 IsTypeNamed name (ConstParamData p) = ⊥
 
-abbrev pub IsConstNamed : List ℕ → TypeOrConstParamData → Type 0
+abbrev pub IsConstNamed : Name → TypeOrConstParamData → Type 0
 IsConstNamed name (TypeParamData p) = ⊥
 IsConstNamed name (ConstParamData p) = p.name ≡ name
 
-abbrev pub IsLifetimeNamed : List ℕ → LifetimeParamData → Type 0
+abbrev pub IsLifetimeNamed : Name → LifetimeParamData → Type 0
 IsLifetimeNamed name lifetime = lifetime.name ≡ name

@@ -1,18 +1,6 @@
 -- The model of generic parameters, as lists; the first of a name, and the index of a lifetime.
-use Rattle.std.specs.Prelude.{ℕ, nat_eq, List, [], ◌∷◌, length, take, slice_get, Bool, false, cond, Option, Some, None}
-use Rattle.std.specs.List.{filter, enumerate_from, position}
+use Rattle.hir_items.specs.Prelude.{ℕ, nat_eq, List, [], ◌∷◌, length, take, slice_get, Bool, false, cond, Option, Some, None, filter, enumerate_from, position, pointwise, Name, GenericDefId, TypeOrConstParamId, LifetimeParamId, is_bound, is_trait_self, LifetimeParamData, LifetimeBoundType, LateBound, TypeOrConstParamData, TypeParamData, ConstParamData, WherePredicate}
 use Rattle.std.specs.Option.{option_map}
-use Rattle.std.specs.Cmp.Lexicographic.{pointwise}
-use Rattle.hir_base.specs.declared.defs.GenericDefId.{GenericDefId}
-use Rattle.hir_base.specs.declared.params.TypeOrConstParamId.{TypeOrConstParamId}
-use Rattle.hir_base.specs.declared.params.LifetimeParamId.{LifetimeParamId}
-use Rattle.hir_generics.specs.Params.{is_bound, is_trait_self}
-use Rattle.hir_generics.specs.declared.data.LifetimeParamData.{LifetimeParamData}
-use Rattle.hir_generics.specs.declared.data.LifetimeBoundType.{LifetimeBoundType}
-use Rattle.hir_generics.specs.declared.data.LifetimeBoundType.TheVariants.{LateBound}
-use Rattle.hir_generics.specs.declared.param.TypeOrConstParamData.{TypeOrConstParamData}
-use Rattle.hir_generics.specs.declared.param.TypeOrConstParamData.TheVariants.{TypeParamData, ConstParamData}
-use Rattle.hir_generics.specs.declared.predicate.WherePredicate.{WherePredicate}
 
 -- the parameters that are types or constants, those that are lifetimes, and the predicates on them
 pub record Generics : Type 0 where
@@ -36,19 +24,19 @@ count_bound way lifetimes = length (filter (is_bound way) lifetimes)
 abbrev pub entries_bound : LifetimeBoundType → List LifetimeParamData → List (ℕ × LifetimeParamData)
 entries_bound way lifetimes = filter (λ entry. is_bound way entry.1) (enumerate_from 0 lifetimes)
 
-abbrev pub same_name : List ℕ → Option (List ℕ) → Bool
+abbrev pub same_name : Name → Option Name → Bool
 same_name name None = false
 same_name name (Some own) = pointwise nat_eq own name
 
-abbrev pub is_type_named : List ℕ → TypeOrConstParamData → Bool
+abbrev pub is_type_named : Name → TypeOrConstParamData → Bool
 is_type_named name (TypeParamData p) = same_name name p.name
 is_type_named name (ConstParamData p) = false
 
-abbrev pub is_const_named : List ℕ → TypeOrConstParamData → Bool
+abbrev pub is_const_named : Name → TypeOrConstParamData → Bool
 is_const_named name (TypeParamData p) = false
 is_const_named name (ConstParamData p) = same_name name (Some p.name)
 
-abbrev pub is_lifetime_named : List ℕ → LifetimeParamData → Bool
+abbrev pub is_lifetime_named : Name → LifetimeParamData → Bool
 is_lifetime_named name lifetime = same_name name (Some lifetime.name)
 
 -- the parameter of this index, of this parent
@@ -60,13 +48,13 @@ lifetime_of_parent parent at = record { parent = parent; local_id = at }
 
 -- the first type of this name, the first constant, the first lifetime: `position` is the index of the first
 -- member that passes
-abbrev pub first_type : List ℕ → GenericDefId → List TypeOrConstParamData → Option TypeOrConstParamId
+abbrev pub first_type : Name → GenericDefId → List TypeOrConstParamData → Option TypeOrConstParamId
 first_type name parent params = option_map (of_parent parent) (position (is_type_named name) params)
 
-abbrev pub first_const : List ℕ → GenericDefId → List TypeOrConstParamData → Option TypeOrConstParamId
+abbrev pub first_const : Name → GenericDefId → List TypeOrConstParamData → Option TypeOrConstParamId
 first_const name parent params = option_map (of_parent parent) (position (is_const_named name) params)
 
-abbrev pub first_lifetime : List ℕ → GenericDefId → List LifetimeParamData → Option LifetimeParamId
+abbrev pub first_lifetime : Name → GenericDefId → List LifetimeParamData → Option LifetimeParamId
 first_lifetime name parent lifetimes =
     option_map (lifetime_of_parent parent) (position (is_lifetime_named name) lifetimes)
 

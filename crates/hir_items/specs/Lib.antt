@@ -1,7 +1,5 @@
 -- the model of a body, the nodes that it reaches, the first fault of its parts
 pub mod Bodies
--- the parts that the refusal of a body gives back
-pub mod RefusedBodies
 -- the model of generic parameters
 pub mod Generics
 -- the first parameter of a name
@@ -12,5 +10,9 @@ pub mod Signatures
 pub mod Lookups
 -- the texts of faults
 pub mod FaultTexts
+-- what the files here import of std and of lower crates, from one place
+pub mod Prelude
+-- what only contracts within this crate cite
+pub mod internal
 -- proofs that `==` decides whether two values are the same
 pub mod same

@@ -93,7 +93,7 @@ struct UntestedBody {
 }
 
 impl UntestedBody {
-    ghost use Rattle.hir_items.specs.RefusedBodies.{refused_body};
+    ghost use Rattle.hir_items.specs.internal.RefusedBodies.{refused_body};
 
     /// Returns the first fault.
     fn first_fault(&self, alloc: Global) -> Result<Option<BodyFault>, AllocError>

@@ -6,7 +6,8 @@ ghost use Rattle.hir_forest.specs.Verdict.{first_below};
 ghost use Rattle.hir_node.specs.declared.node_id.NodeId.{NodeId};
 ghost use Rattle.hir_node.specs.declared.node_id.NodeId.TheVariants as node;
 ghost use Rattle.hir_store_core.specs.NodeSets.{IsIn};
-ghost use Rattle.hir_items.specs.Bodies.{AreBelow, formals_of, range_fault, repeated_fault, under_fault, GainsAll};
+ghost use Rattle.hir_items.specs.Bodies.{AreBelow, formals_of, range_fault, repeated_fault, under_fault};
+ghost use Rattle.hir_items.specs.internal.Bodies.{GainsAll};
 
 use crate::body_fault::BodyFault;
 use hir_base::{ExactEq, TryClone};

@@ -1,6 +1,14 @@
 -- Defines the child calls of a node: what a visitor is called with, and in which order. There is one clause
 -- a variant. An absent part gives no call. The children of a node are those of its child calls. The other ids
 -- that a node names are in `OtherIds`.
+--
+-- The running example of all definitions is the body of
+--     fn f(x) { let y = |z| x + z; if let Some(x) = y(1) { x } else { x } }
+-- Its expressions are, by id: 0 `x`, 1 `z`, 2 `x + z`, 3 the closure, 4 `y`, 5 `1`, 6 `y(1)`, 7 `let Some(x) = y(1)`,
+-- 8 `x`, 9 its block, 10 `x`, 11 its block, 12 the `if`, 13 the block of the body. Its patterns are 0 `x`, 1 `y`,
+-- 2 `z`, 3 the inner `x`, 4 `Some(x)`, and its bindings those of patterns 0 to 3. The child calls are
+--     of 12: OnExpr 7, OnExpr 9, OnExpr 11            of 7: OnPat 4, OnExpr 6
+--     of 3: OnExpr 2, OnPat 2                         of 13: OnExpr 3, OnPat 1, OnExpr 12
 use Rattle.std.specs.Prelude.{List, [], ◌∷◌, ◌++◌, Option, Some, None}
 use Rattle.std.specs.List.{flat_map}
 use Rattle.hir_path.specs.NodeIds.{ExprId, PatId, TypeRefId, LifetimeRefId}

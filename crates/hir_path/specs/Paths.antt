@@ -1,7 +1,8 @@
 -- Defines the parts of a path, its qualifier, and when it is `Self`.
-use Rattle.std.specs.Prelude.{◌≡◌, ℕ, Bool, cond, is_none, IsTrue, List, [], ◌∷◌, codes, Option, Some, None}
+use Rattle.std.specs.Prelude.{◌≡◌, Bool, cond, is_none, IsTrue, List, [], ◌∷◌, codes, Option, Some, None}
 use Rattle.std.specs.List.{list_all}
 use Rattle.std.specs.Option.{option_to_list}
+use Rattle.hir_base.specs.Ids.{Name}
 use Rattle.hir_base.specs.ModPath.{ModPath, ident_of}
 use Rattle.hir_base.specs.declared.mod_path.PathKind.{PathKind}
 use Rattle.hir_base.specs.declared.mod_path.PathKind.TheVariants.{Abs, Plain}
@@ -32,7 +33,7 @@ lists_of (Normal normal) = Some normal.generic_args
 lists_of (LangItem target name) = None
 
 -- the names of a path
-abbrev pub names_of : Path → List (List ℕ)
+abbrev pub names_of : Path → List Name
 names_of (BarePath path) = path.segments
 names_of (Normal normal) = normal.mod_path.segments
 names_of (LangItem target name) = option_to_list name
@@ -55,7 +56,7 @@ abbrev pub without_anchor : ModPath → List (Option GenericArgs) → NormalPath
 without_anchor path lists = record { generic_args = lists; type_anchor = None; mod_path = path }
 
 -- the plain path of one name
-abbrev pub one_name : List ℕ → Path
+abbrev pub one_name : Name → Path
 one_name name = BarePath (record { kind = Plain; segments = name ∷ [] })
 
 -- the path with this anchor and these arguments: a bare path, if it has neither
@@ -73,7 +74,7 @@ abbrev pub shorter : Option TypeRefId → ModPath → List (Option GenericArgs) 
 shorter anchor path lists = path_with anchor (but_last path) (all_but 1 lists)
 
 -- None for an identifier and for a path without segments, else the shorter path
-abbrev pub qualifier_of : Option (List ℕ) → List (List ℕ) → Path → Option Path
+abbrev pub qualifier_of : Option Name → List Name → Path → Option Path
 qualifier_of (Some name) names path = None
 qualifier_of None [] path = None
 qualifier_of None (name ∷ names) path = Some path

@@ -2,6 +2,7 @@
 -- cuts of such a view.
 use Rattle.std.specs.Prelude.{◌≡◌, ⊤, ℕ, nat_le, List, [], ◌∷◌, length, take, drop, Option, Some, None, cond}
 use Rattle.std.specs.Option.{option_map, option_copied}
+use Rattle.hir_base.specs.Ids.{Name}
 use Rattle.hir_path.specs.declared.path.GenericArgs.{GenericArgs}
 use Rattle.hir_path.specs.declared.segments.PathSegment.{PathSegment}
 use Rattle.hir_path.specs.declared.segments.PathSegments.{PathSegments}
@@ -9,12 +10,12 @@ use Rattle.hir_path.specs.declared.segments_iter.PathSegmentsIter.{PathSegmentsI
 use Rattle.hir_path.specs.Lists.{all_but}
 
 pub record Segments : Type 0 where
-  pub names : List (List ℕ)
+  pub names : List Name
   pub lists : Option (List (Option GenericArgs))
 
 -- one segment: its name, and its arguments if it has any
 pub record Segment : Type 0 where
-  pub name : List ℕ
+  pub name : Name
   pub args : Option GenericArgs
 
 -- the model of a segment
@@ -30,7 +31,7 @@ abbrev pub empty : Segments
 empty = record { names = []; lists = None }
 
 -- each name with the arguments at its index, and with none if the lists are shorter
-abbrev pub with_args : List (List ℕ) → List (Option GenericArgs) → List Segment
+abbrev pub with_args : List Name → List (Option GenericArgs) → List Segment
 with_args [] lists = []
 with_args (name ∷ names) [] = record { name = name; args = None } ∷ with_args names []
 with_args (name ∷ names) (args ∷ lists) = record { name = name; args = args } ∷ with_args names lists
@@ -66,7 +67,7 @@ strip n s = record { names = all_but n s.names; lists = option_map (all_but n) s
 
 -- there is one list for each name, as in a normal path, or no list of lists, as in every other path; an
 -- empty list of lists is one for each name only if there are no names
-abbrev pub one_each : List (List ℕ) → Option (List (Option GenericArgs)) → Type 0
+abbrev pub one_each : List Name → Option (List (Option GenericArgs)) → Type 0
 one_each names None = ⊤
 one_each names (Some lists) = length lists ≡ length names
 

@@ -1,26 +1,21 @@
 -- What bodies are printed as.
-use Rattle.std.specs.Prelude.{ℕ, List, [], ◌∷◌, ◌++◌, map, Option, Result, Ok, Err, codes, option_map, option_to_list}
-use Rattle.hir_base.specs.declared.defs.DefWithBodyId.{DefWithBodyId}
+use Rattle.hir_pretty.specs.Prelude.{List, [], ◌∷◌, ◌++◌, map, Option, Result, Ok, Err, codes, option_map, option_to_list, DefWithBodyId, PatId, BindingId, Missing, PrintEnv, Doc, MissingDoc, text, e, p, opt, comma_joined, binding_docs, found_name, Param, BodyContents, formals_of, last_root, EnumId, EnumVariantId}
 use Rattle.hir_base.specs.declared.defs.DefWithBodyId.TheVariants as body
 use Rattle.hir_base.specs.declared.defs.NamedDef.TheVariants as named
-use Rattle.hir_path.specs.NodeIds.{PatId, BindingId}
-use Rattle.hir_pretty_nodes.specs.Prelude.{Missing, PrintEnv, Doc, MissingDoc, text, e, p, opt, comma_joined, binding_docs, found_name}
-use Rattle.hir_items.specs.declared.formals.Param.{Param}
-use Rattle.hir_items.specs.Bodies.{BodyContents, formals_of, last_root}
 
 -- which enum each variant is of, where that is known
 abbrev pub Parents : Type 0
-Parents = ℕ → Result ℕ Missing
+Parents = EnumVariantId → Result EnumId Missing
 
 -- the name of a variant after that of its enum, which is looked up first
-abbrev pub of_enum : PrintEnv → ℕ → Result ℕ Missing → List Doc
+abbrev pub of_enum : PrintEnv → EnumVariantId → Result EnumId Missing → List Doc
 of_enum s id (Err missing) = MissingDoc missing ∷ []
 of_enum s id (Ok parent) =
     text (codes "enum ") ++ found_name (codes "<missing>") (s.tables.name (named.EnumId parent))
     ++ text (codes "::")
     ++ found_name (codes "<missing>") (s.tables.name (named.EnumVariantId id))
 
-abbrev pub variant_name : PrintEnv → Parents → ℕ → List Doc
+abbrev pub variant_name : PrintEnv → Parents → EnumVariantId → List Doc
 variant_name s parents id = of_enum s id (parents id)
 
 -- what a body begins with; a constant without a name is `_`

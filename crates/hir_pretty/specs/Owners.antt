@@ -1,20 +1,15 @@
 -- What printing the signature of any definition returns.
-use Rattle.std.specs.Prelude.{◌≡◌, ℕ, false, List, [], ◌∷◌, Option, Some, None, Result, Err, codes, String}
+use Rattle.hir_pretty.specs.Prelude.{◌≡◌, ℕ, false, List, [], ◌∷◌, Option, Some, None, Result, Err, codes, String, AdtId, GenericDefId, FunctionParts, StructParts, Tables, PrintFault, PrintEnv, print_env, lookups_of, PrintsPieces, doc_list_pieces, FunctionId, StructId}
 use Rattle.std.specs.FinMap as map
-use Rattle.hir_base.specs.declared.{defs.AdtId.AdtId, defs.GenericDefId.GenericDefId}
 use Rattle.hir_base.specs.declared.defs.AdtId.TheVariants as adt
 use Rattle.hir_base.specs.declared.defs.GenericDefId.TheVariants as generic
 use Rattle.hir_store_core.specs.declared.missing.Missing.TheVariants as missing
-use Rattle.hir_items.specs.declared.{signatures.FunctionParts.FunctionParts, signatures.StructParts.StructParts}
-use Rattle.hir_defs.specs.Lookups.{Tables}
-use Rattle.hir_pretty_nodes.specs.declared.fault.PrintFault.{PrintFault}
 use Rattle.hir_pretty_nodes.specs.declared.fault.PrintFault.TheVariants as fault
-use Rattle.hir_pretty_nodes.specs.Prelude.{PrintEnv, print_env, lookups_of, PrintsPieces, doc_list_pieces}
 use Rattle.hir_pretty.specs.FoundParts.{function_found, struct_found}
 use Rattle.hir_pretty.specs.Signatures.{function_docs, struct_docs, unimplemented_docs}
 
 -- The signature of a function: it is missing, or its doc pieces are printed, with the signature's own store.
-abbrev pub PrintsFunction : {Z : Type 0} → Tables → List (List ℕ) → ℕ → Option FunctionParts
+abbrev pub PrintsFunction : {Z : Type 0} → Tables → List (List ℕ) → FunctionId → Option FunctionParts
     → Result (String Z) PrintFault → Type 0
 PrintsFunction t words id None result = result
     ≡ Err (fault.Missing (missing.Signature (generic.FunctionId id)))
@@ -22,7 +17,7 @@ PrintsFunction t words id (Some f) result = let s = print_env f.store (lookups_o
     PrintsPieces s (doc_list_pieces s (function_docs s f)) result
 
 -- The signature of a struct: it is missing, or its doc pieces are printed, with the signature's own store.
-abbrev pub PrintsStruct : {Z : Type 0} → Tables → List (List ℕ) → ℕ → Option StructParts
+abbrev pub PrintsStruct : {Z : Type 0} → Tables → List (List ℕ) → StructId → Option StructParts
     → Result (String Z) PrintFault → Type 0
 PrintsStruct t words id None result = result ≡ Err
     (fault.Missing (missing.Signature (generic.AdtId (adt.StructId id))))

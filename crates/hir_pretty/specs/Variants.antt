@@ -1,14 +1,8 @@
 -- What structs, unions and variants of enums are printed as, with their fields.
-use Rattle.std.specs.Prelude.{◌≡◌, ℕ, Bool, List, [], ◌∷◌, ◌++◌, map, Some, codes, flat_map}
-use Rattle.hir_base.specs.ModPath.{ModPath}
-use Rattle.hir_base.specs.declared.{defs.VariantId.VariantId, mod_path.PathKind.PathKind}
+use Rattle.hir_pretty.specs.Prelude.{List, [], ◌∷◌, ◌++◌, map, codes, flat_map, ModPath, VariantId, PathKind, Plain, Super, Crate, Abs, DollarCrate, PrintEnv, Doc, MissingDoc, text, br, t, when, join, name_docs, found_name, supers, FieldData, FieldsShape, RawVisibility, VariantParts}
 use Rattle.hir_base.specs.declared.defs.NamedDef.TheVariants as named
 use Rattle.hir_base.specs.declared.defs.VariantId.TheVariants as variant
-use Rattle.hir_base.specs.declared.mod_path.PathKind.TheVariants.{Plain, Super, Crate, Abs, DollarCrate}
-use Rattle.hir_store_core.specs.Contents.{Contents}
-use Rattle.hir_pretty_nodes.specs.Prelude.{Missing, NameLookups, PrintEnv, print_env, first_missing, doc_list_pieces, Doc, MissingDoc, text, br, t, when, join, name_docs, found_name, supers}
 use Rattle.hir_store_core.specs.declared.missing.Missing.TheVariants as missing
-use Rattle.hir_items.specs.declared.{signatures.FieldData.FieldData, signatures.FieldsShape.FieldsShape, signatures.RawVisibility.RawVisibility, signatures.VariantParts.VariantParts}
 use Rattle.hir_items.specs.declared.signatures.FieldsShape.TheVariants as shape
 use Rattle.hir_items.specs.declared.signatures.RawVisibility.TheVariants as visibility
 use Rattle.hir_pretty.specs.Bodies.{Parents, variant_name}
@@ -67,10 +61,3 @@ variant_docs s parents owner v = variant_head s parents owner ++ fields_docs s v
 -- the documents of a variant whose fields are missing
 abbrev pub without_fields : PrintEnv → Parents → VariantId → List Doc
 without_fields s parents owner = variant_head s parents owner ++ (MissingDoc (missing.Fields owner) ∷ [])
-
--- this is missing first, where the fields are missing
-abbrev pub LacksFields : NameLookups → Parents → VariantId → Missing → Type 0
-LacksFields tables parents owner m =
-    (store : Contents) (words : List (List ℕ)) (one_line : Bool) → let s =
-    print_env store tables words one_line in
-    first_missing (doc_list_pieces s (without_fields s parents owner)) ≡ Some m

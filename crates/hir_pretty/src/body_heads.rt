@@ -4,7 +4,7 @@
 ghost use Rattle.std.specs.Prelude.{◌≡◌, ◌++◌, OnOk, Ok, codes, Bool, List, ℕ};
 ghost use Rattle.hir_pretty_nodes.specs.Prelude.{text, found_name, lookups_of, print_env, doc_list_pieces, first_missing, Adds};
 ghost use Rattle.hir_store_core.specs.Contents.{Contents};
-ghost use Rattle.hir_pretty.specs.AddedDocs.{error_of};
+ghost use Rattle.hir_pretty.specs.internal.AddedDocs.{error_of};
 ghost use Rattle.hir_pretty.specs.Bodies.{variant_name, body_head, of_enum};
 ghost use Rattle.hir_pretty.specs.Variants.{variant_head};
 ghost use Rattle.hir_pretty.specs.FoundParts.{parents};

@@ -4,7 +4,8 @@
 ghost use Rattle.std.specs.Prelude.{◌≡◌, OnOk, codes, false, IfSome, IfOk, IfErr, Some, None};
 ghost use Rattle.hir_pretty_nodes.specs.Prelude.{words_of, print_env, text, join, lookups_of, PrintsPieces, doc_list_pieces, Adds};
 ghost use Rattle.hir_store_core.specs.Contents.{Contents};
-ghost use Rattle.hir_pretty.specs.Variants.{LacksFields, kind_word, module_docs, visibility_docs, field_line, fields_begin, fields_end, fields_docs, variant_docs, without_fields};
+ghost use Rattle.hir_pretty.specs.internal.Variants.{LacksFields};
+ghost use Rattle.hir_pretty.specs.Variants.{kind_word, module_docs, visibility_docs, field_line, fields_begin, fields_end, fields_docs, variant_docs, without_fields};
 ghost use Rattle.hir_pretty.specs.FoundParts.{parents, fields_found};
 
 use crate::body_heads::{add_variant_head, missing_in_head};

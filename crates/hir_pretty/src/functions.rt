@@ -4,7 +4,7 @@
 ghost use Rattle.std.specs.Prelude.{◌≡◌, ◌<◌, ◌==◌, ◌++◌, OnOk, IfOk, map, ℕ, length, Some, get_or, false, codes, option_map};
 ghost use Rattle.std.specs.List.{enumerate_from, list_any};
 ghost use Rattle.hir_pretty_nodes.specs.Prelude.{words_of, print_env, text, comma_joined, lookups_of, PrintsPieces, doc_list_pieces, Adds};
-ghost use Rattle.hir_pretty.specs.AddedDocs.{marked_docs};
+ghost use Rattle.hir_pretty.specs.internal.AddedDocs.{marked_docs};
 ghost use Rattle.hir_pretty.specs.Signatures.{abi_docs, arguments, flags, function_head, function_types, function_docs};
 
 use crate::generics::{add_generics, add_where};

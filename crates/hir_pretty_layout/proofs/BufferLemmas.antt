@@ -2,7 +2,8 @@
 use Rattle.std.proofs.Common.{◌≡◌, ℕ, suc, false, List, [], ◌∷◌, ◌++◌, length, get_or, take, replicate, ◌-◌, ◌==◌, ◌||◌, nat_lt, refl, sym, ap, ◌∙◌, arith, ◌≤◌, subst, append_assoc, append-nil}
 use Rattle.std.proofs.lemmas.Bool.Decides.{nat_tests}
 use Rattle.hir_pretty_layout.specs.declared.line_format.LineFormat.{LineFormat}
-use Rattle.hir_pretty_layout.specs.Buffer.{lines_of, HasNoEnd, IsTrimmedLen, IsGrown}
+use Rattle.hir_pretty_layout.specs.Buffer.{lines_of, IsTrimmedLen, IsGrown}
+use Rattle.hir_pretty_layout.specs.internal.Buffer.{HasNoEnd}
 use Rattle.hir_pretty_layout.specs.Page.{Lines, Page, is_blank, trim, ends_in_space, is_empty_line, is_empty_text, lines_text, page_text}
 use Rattle.hir_pretty_layout.proofs.PageLemmas.{lines_of-plain, lines_of-end, text_of_lines}
 use Rattle.hir_pretty_layout.proofs.EndLemmas.{no_end_in_spaces, ending}

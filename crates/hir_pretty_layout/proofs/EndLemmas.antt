@@ -3,7 +3,8 @@ use Rattle.std.proofs.Common.{◌≡◌, ◌≢◌, ℕ, zero, suc, ◌+◌, ◌
 use Rattle.std.proofs.lemmas.Bool.Decides.{nat_tests}
 use Rattle.std.proofs.lemmas.Grind.{common_steps}
 use Rattle.std.proofs.lemmas.List.{drop_more, take_more, take_all, drop-append-le, length-replicate, get_or_append_left, get_or-append-add, replicate-append-replicate}
-use Rattle.hir_pretty_layout.specs.Buffer.{lines_of, HasNoEnd, IsTrimmedLen, EndsInLineEnd, level_of}
+use Rattle.hir_pretty_layout.specs.Buffer.{lines_of, IsTrimmedLen, level_of}
+use Rattle.hir_pretty_layout.specs.internal.Buffer.{HasNoEnd, EndsInLineEnd}
 use Rattle.hir_pretty_layout.specs.Page.{Lines, cut_lines, is_blank, trim, ends_in_space, is_empty_line}
 use Rattle.hir_pretty_layout.proofs.PageLemmas.{lines_of-plain, lines_of-end}
 use Rattle.std.proofs.Math.Seq.{drop-append-add}

@@ -3,7 +3,8 @@ use Rattle.std.proofs.Common.{◌≡◌, ◌≢◌, ℕ, suc, ◌<◌, Bool, tru
 use Rattle.std.proofs.lemmas.Bool.Decides.{nat_tests}
 use Rattle.hir_pretty_layout.specs.declared.line_format.LineFormat.{LineFormat}
 use Rattle.hir_pretty_layout.specs.declared.line_format.LineFormat.TheVariants.{Oneline, Newline, Indentation}
-use Rattle.hir_pretty_layout.specs.Buffer.{one_more, continue_lines, lines_of, HasNoEnd}
+use Rattle.hir_pretty_layout.specs.Buffer.{one_more, continue_lines, lines_of}
+use Rattle.hir_pretty_layout.specs.internal.Buffer.{HasNoEnd}
 use Rattle.hir_pretty_layout.specs.Page.{Lines, Page, begin, begin_in, indent, is_blank, put, put_all, lines_text, format_in_line, format_after_end, trim, line_ended}
 
 pub continued-append : (l : Lines) (xs ys : List ℕ) → continue_lines l (xs ++ ys) ≡ continue_lines (continue_lines l xs) ys

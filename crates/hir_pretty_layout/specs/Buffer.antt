@@ -1,7 +1,7 @@
 -- How the buffer holds a page.
 use Rattle.std.specs.Prelude.{◌≡◌, ◌≢◌, ℕ, ◌*◌, ◌-◌, ◌/◌, ◌<◌, ◌≤◌, List, [], ◌∷◌, ◌++◌, length, drop, replicate, ◌==◌, if◌then◌else◌, slice_index, string_bytes}
 use Rattle.hir_pretty_layout.specs.declared.buffer.PageBuffer.TheInside.{Inside}
-use Rattle.hir_pretty_layout.specs.Page.{Page, Lines, cut_lines, page_text}
+use Rattle.hir_pretty_layout.specs.Page.{Page, Lines, page_text}
 
 -- a character more
 abbrev pub one_more : ℕ → Lines → Lines
@@ -15,18 +15,11 @@ continue_lines l (c ∷ cs) = continue_lines (one_more c l) cs
 unfoldable pub lines_of : List ℕ → Lines
 lines_of = continue_lines ([], [])
 
--- a text without a line end
-abbrev pub HasNoEnd : List ℕ → Type 0
-HasNoEnd cs = (i : ℕ) → i < length cs → slice_index cs i ≢ 10
-
 -- up to the length are the text's characters but the trailing spaces
 pub record IsTrimmedLen (text : List ℕ) (len : ℕ) : Type 0 where
   pub within : len ≤ length text
   pub spaces : drop len text ≡ replicate (length text - len) 32
   pub before : 0 < len → slice_index text (len - 1) ≢ 32
-
-abbrev pub EndsInLineEnd : List ℕ → Type 0
-EndsInLineEnd text = (0 < length text) × (slice_index text (length text - 1) ≡ 10)
 
 -- the level of an indentation of four spaces a level
 abbrev pub level_of : List ℕ → ℕ
@@ -40,10 +33,6 @@ page_of b = let l = lines_of (string_bytes b.text) in
 pub record IsPageBuffer (b : Inside) : Type 0 where
   pub kept : IsTrimmedLen (string_bytes b.text) b.kept
   pub spaces : string_bytes b.indentation ≡ replicate (4 * level_of (string_bytes b.indentation)) 32
-
--- without the line ends at its end
-abbrev pub IsCutText : List ℕ → List ℕ → Type 0
-IsCutText old new = let l = lines_of old in lines_of new ≡ cut_lines l.0 l.1
 
 -- a page to which only text was added, in whatever format
 pub record IsGrown (old new : Page) : Type 0 where

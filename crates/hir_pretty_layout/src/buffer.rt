@@ -3,7 +3,8 @@
 #![tactic(auto, using(crate::proofs::BufferLemmas::grown))]
 
 ghost use Rattle.std.specs.Prelude.{◌≡◌, ◌∷◌, [], ◌++◌, ◌+◌, ◌-◌, ◌*◌, replicate, OnOk, OnErr, IsTrue, ◌↔◌, string_bytes};
-ghost use Rattle.hir_pretty_layout.specs.Buffer.{HasNoEnd, IsTrimmedLen, IsCutText, EndsInLineEnd, IsGrown};
+ghost use Rattle.hir_pretty_layout.specs.internal.Buffer.{HasNoEnd, IsCutText, EndsInLineEnd};
+ghost use Rattle.hir_pretty_layout.specs.Buffer.{IsTrimmedLen, IsGrown};
 ghost use Rattle.hir_pretty_layout.specs.Page.{begin, on_new_line, indent, put, put_all, trim, ends_in_space, is_empty_text, line_ended, with_join, without_empty_lines, is_blank, empty_page, page_text, format_in_line, format_after_end};
 
 use crate::{LineFormat, PieceWriter};

@@ -62,6 +62,7 @@ doc_pieces s self (TypeDoc id) = self (node.TypeRef id)
 abbrev pub pieces_step : PrintEnv → (NodeId → List DocPiece) → NodeId → List DocPiece
 pieces_step s self n = flat_map (doc_pieces s self) (docs_of s n)
 
+-- pieces s n = flat_map (doc_pieces s (pieces s)) (docs_of s n): theorem pieces_are_their_step
 unfoldable pub pieces : PrintEnv → NodeId → List DocPiece
 pieces s n = fold_down s.nodes (pieces_step s) [] n
 

@@ -142,6 +142,12 @@ abbrev pub printed_body : Nodes → ClosureKind → ExprId → ExprId
 printed_body s (closure.CoroutineClosure kind) body = coroutine_body (slice_get s.exprs body) body
 printed_body s kind body = body
 
+-- The documents of an expression.
+--
+-- In the running example (hir_node/specs/ChildCalls.antt) those of 12, the `if`, are the text `if `, the expression 7,
+-- the text ` `, the expression 9, the text ` else ` and the expression 11; those of 2, `x + z`, are 0 under the
+-- precedence of `+`, a soft space, the text `+`, a soft space, and 1 under the same. A name needs no parentheses
+-- there: `x + z`.
 abbrev pub expr_docs : PrintEnv → Expr → List Doc
 expr_docs s expr.Missing = replacement
 expr_docs s expr.Underscore = text (codes "_")

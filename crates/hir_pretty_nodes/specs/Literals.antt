@@ -1,10 +1,9 @@
 -- What literals are printed as.
-use Rattle.std.specs.Prelude.{ℕ, Bool, true, false, List, [], ◌∷◌, ◌++◌, map, codes, decimal}
+use Rattle.std.specs.Prelude.{ℕ, Bool, true, false, List, ◌++◌, map, codes, decimal}
 use Rattle.std.specs.Fmt.{signed_decimal}
 use Rattle.hir_base.specs.OpTexts.{int_text, uint_text, float_text}
 use Rattle.hir_node.specs.declared.literal.Literal.{Literal}
 use Rattle.hir_node.specs.declared.literal.Literal.TheVariants as literal
-use Rattle.hir_pretty_layout.specs.Layouts.{Layout}
 use Rattle.hir_pretty_layout.specs.Literals.{string_literal, char_literal, bytes_literal, c_string_literal}
 use Rattle.hir_pretty_nodes.specs.Docs.{Doc, Put, text, opt}
 
@@ -21,9 +20,3 @@ literal_docs (literal.Bool b) = text (bool_text b)
 literal_docs (literal.Int n suffix) = text (signed_decimal n) ++ opt (λ s. text (int_text s)) suffix
 literal_docs (literal.Uint n suffix) = text (decimal n) ++ opt (λ s. text (uint_text s)) suffix
 literal_docs (literal.Float number suffix) = text number ++ opt (λ s. text (float_text s)) suffix
-
--- the layouts among documents
-abbrev pub put_pieces : List Doc → List Layout
-put_pieces [] = []
-put_pieces (Put piece ∷ is) = piece ∷ put_pieces is
-put_pieces (item ∷ is) = put_pieces is

@@ -1,12 +1,12 @@
 -- How names, lifetimes, bindings and labels are printed.
 use Rattle.std.specs.Prelude.{ℕ, Bool, false, List, [], ◌∷◌, ◌++◌, ◌==◌, ◌||◌, if◌then◌else◌, Result, Ok, Err, codes, slice_get, flat_map, nat_eq}
 use Rattle.std.specs.Cmp.Lexicographic.{pointwise}
+use Rattle.hir_base.specs.Ids.{Name}
 use Rattle.hir_path.specs.NodeIds.{BindingId, LabelId, LifetimeRefId}
 use Rattle.hir_node.specs.declared.{type_ref.LifetimeRef.LifetimeRef, binding.Binding.Binding, binding.Label.Label, binding.BindingAnnotation.BindingAnnotation}
 use Rattle.hir_node.specs.declared.type_ref.LifetimeRef.TheVariants as lifetime
 use Rattle.hir_node.specs.declared.binding.BindingAnnotation.TheVariants.{Unannotated, Mutable, Ref, RefMut}
 use Rattle.hir_store_core.specs.declared.missing.Missing.{Missing}
-use Rattle.hir_pretty_nodes.specs.declared.names.NameParts.{NameParts}
 use Rattle.hir_pretty_nodes.specs.NameLookups.{PrintEnv}
 use Rattle.hir_pretty_nodes.specs.Docs.{Doc, MissingDoc, text, opt}
 
@@ -29,24 +29,15 @@ name_parts words [] = raw_parts words []
 name_parts words (c ∷ cs) = if c == 39 then (if same_text cs (codes "static") then (c ∷ cs) ∷ []
     else (c ∷ []) ∷ raw_parts words cs) else raw_parts words (c ∷ cs)
 
--- texts, the first of which is present where the condition holds
-abbrev pub first_if : Bool → List ℕ → List (List ℕ) → List (List ℕ)
-first_if holds first texts = if holds then first ∷ texts else texts
-
--- the parts as they were found
-abbrev pub texts_of : NameParts → List (List ℕ)
-texts_of parts = first_if parts.is_quoted (codes "'")
-    (first_if parts.is_raw (codes "r#") (parts.text.now ∷ []))
-
 -- the text of a printed name
 abbrev pub printed_name : List (List ℕ) → List ℕ → List ℕ
 printed_name words name = flat_map (λ part. part) (name_parts words name)
 
-abbrev pub name_docs : PrintEnv → List ℕ → List Doc
+abbrev pub name_docs : PrintEnv → Name → List Doc
 name_docs s name = flat_map text (name_parts s.words name)
 
 -- a lifetime parameter by its name
-abbrev pub param_docs : PrintEnv → Result (List ℕ) Missing → List Doc
+abbrev pub param_docs : PrintEnv → Result Name Missing → List Doc
 param_docs s (Ok name) = name_docs s name
 param_docs s (Err missing) = MissingDoc missing ∷ []
 

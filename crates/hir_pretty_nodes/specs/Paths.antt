@@ -1,5 +1,6 @@
 -- How paths, generic arguments and bounds are printed.
 use Rattle.std.specs.Prelude.{ℕ, zero, suc, Bool, true, false, List, [], ◌∷◌, ◌++◌, map, Option, Some, None, Result, Ok, Err, codes}
+use Rattle.hir_base.specs.Ids.{Name}
 use Rattle.hir_base.specs.ModPath.{ModPath}
 use Rattle.hir_base.specs.declared.{mod_path.PathKind.PathKind, prec.ExprPrecedence.TheVariants.Unambiguous, defs.LangItemTarget.LangItemTarget}
 use Rattle.hir_base.specs.declared.mod_path.PathKind.TheVariants.{Plain, Super, Crate, Abs, DollarCrate}
@@ -20,7 +21,7 @@ use Rattle.hir_pretty_nodes.specs.Docs.{Doc, MissingDoc, text, under, t, opt, wh
 use Rattle.hir_pretty_nodes.specs.Names.{name_docs, l}
 
 -- names after `for`
-abbrev pub for_names : PrintEnv → List (List ℕ) → List Doc
+abbrev pub for_names : PrintEnv → List Name → List Doc
 for_names s names = text (codes "for<") ++ comma_joined (map (name_docs s) names) ++ text (codes "> ")
 
 abbrev pub modifier_docs : TraitBoundModifier → List Doc
@@ -122,7 +123,7 @@ colons_first Plain = false
 colons_first kind = true
 
 -- each segment with its arguments; `::` is before it where it is not the first, or where `after` says so
-abbrev pub segments_from : PrintEnv → Bool → List (List ℕ) → List (Option GenericArgs) → List Doc
+abbrev pub segments_from : PrintEnv → Bool → List Name → List (Option GenericArgs) → List Doc
 segments_from s after [] lists = []
 segments_from s after (name ∷ names) [] = when after (text (codes "::")) ++ name_docs s name
     ++ segments_from s true names []

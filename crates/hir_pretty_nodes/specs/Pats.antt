@@ -1,5 +1,6 @@
 -- What patterns are printed as.
 use Rattle.std.specs.Prelude.{ℕ, Bool, true, false, ◌&&◌, not, List, [], ◌∷◌, ◌++◌, map, take, drop, Option, Some, None, codes, slice_get, flat_map, option_to_list}
+use Rattle.hir_base.specs.Ids.{Name}
 use Rattle.hir_base.specs.OpTexts.{range_text}
 use Rattle.hir_base.specs.declared.prec.ExprPrecedence.TheVariants.{Shift}
 use Rattle.hir_path.specs.NodeIds.{PatId}
@@ -26,12 +27,12 @@ is_unannotated mode = false
 
 -- The binding's own text is what is printed of the field's name. A field that is a word of the edition is
 -- printed after `r#`, so a binding of that word has another text.
-abbrev pub has_printed_name : PrintEnv → List ℕ → Option Binding → Bool
+abbrev pub has_printed_name : PrintEnv → Name → Option Binding → Bool
 has_printed_name s name None = false
 has_printed_name s name (Some b) = is_unannotated b.mode && same_text b.name (printed_name s.words name)
 
 -- the field's pattern binds its printed name, so that the name alone is printed
-abbrev pub is_short : PrintEnv → List ℕ → Option Pat → Bool
+abbrev pub is_short : PrintEnv → Name → Option Pat → Bool
 is_short s name (Some (pat.Bind id None)) = has_printed_name s name (slice_get s.nodes.bindings id)
 is_short s name found = false
 

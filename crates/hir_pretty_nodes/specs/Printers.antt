@@ -1,5 +1,5 @@
 -- What tokens stand for, and what becomes of them.
-use Rattle.std.specs.Prelude.{◌≡◌, ◌<◌, ◌≤◌, Bool, true, false, List, [], ◌∷◌, ◌++◌, Option, Some, None, codes, flat_map, decimal}
+use Rattle.std.specs.Prelude.{◌≡◌, ◌<◌, ◌≤◌, Bool, true, List, [], ◌∷◌, ◌++◌, Option, Some, None, codes, flat_map, decimal}
 use Rattle.hir_path.specs.NodeIds.{ExprId}
 use Rattle.hir_store_core.specs.declared.missing.Missing.{Missing}
 use Rattle.hir_pretty_layout.specs.Layouts.{Layout}
@@ -44,17 +44,6 @@ stands_for s (token.Type id) = t id
 stands_for s (token.GenericArgs x) = turbofish (args_docs s x.now)
 stands_for s (token.Missing missing) = MissingDoc missing ∷ []
 
--- a token that is neither text nor layout
-abbrev pub is_node : Token → Bool
-is_node (token.Expr id) = true
-is_node (token.ExprIn id parent) = true
-is_node (token.ExprList ending id others) = true
-is_node (token.Pattern id) = true
-is_node (token.Type id) = true
-is_node (token.GenericArgs x) = true
-is_node (token.Missing missing) = true
-is_node w = false
-
 -- the documents that tokens stand for, in order
 abbrev pub docs_of_tokens : PrintEnv → List Token → List Doc
 docs_of_tokens s tokens = flat_map (stands_for s) tokens
@@ -73,10 +62,6 @@ abbrev pub following : List Doc → Bool → List (List Doc) → List Doc
 following separator after [] = []
 following separator after (x ∷ xs) = when after separator ++ x ++ following separator true xs
 
--- documents, in parentheses where they need them
-abbrev pub enclose : Bool → List Doc → List Doc
-enclose b is = when b (text (codes "(")) ++ is ++ when b (text (codes ")"))
-
 -- What printing makes of a value: the value after the steps of the doc pieces before the first definition
 -- that is missing, and that definition.
 unfoldable pub printing : {W : Type 0} → (Layout → W → W) → W → List DocPiece → W × Option Missing
@@ -91,13 +76,6 @@ pub record PrintsAlike {W : Type 0} (step : Layout → W
     (js : List Doc) : Type 0 where
   pub alike : (more : List Doc) → printing step first (doc_list_pieces s (is ++ more))
       ≡ printing step second (doc_list_pieces s (js ++ more))
-
--- A printer after a token was written whose size is above 0.
-pub record WroteToken {W : Type 0} {step : Layout → W
-    → W} (w : Token) (old new : Printing step) : Type 0 where
-  pub same : new ≡ record old { value = new.value }
-  pub alike : PrintsAlike step old.from old.value (stands_for old.from w) new.value []
-  pub some : 0 < size old.from (stands_for old.from w)
 
 -- A printer after documents were added: they were written, or are kept after those that were.
 pub record AddsDocs {W : Type 0} {step : Layout → W → W} (old : Printing step) (docs : PrintEnv → List Doc)
@@ -114,13 +92,6 @@ pub record AddsList {W : Type 0} {step : Layout → W → W} (old : Printing ste
     (new : Printing step) : Type 0 where
   pub adds : AddsDocs old (λ s. docs_one_by_one s tokens) new
 
--- A printer after a node expanded to tokens that are kept, whose size is smaller.
-pub record ExpandsTo {W : Type 0} {step : Layout → W → W} (w : Token) (old new : Printing step) : Type 0 where
-  pub same : new ≡ record old { kept = new.kept; value = new.value }
-  pub alike : PrintsAlike step old.from old.value (stands_for old.from w) new.value
-      (docs_of_tokens old.from new.kept)
-  pub less : size old.from (docs_of_tokens old.from new.kept) < size old.from (stands_for old.from w)
-
 -- A step: a token was written, or expanded to tokens that wait before all others, and the size of what is to
 -- be done decreased.
 pub record PrintedToken {W : Type 0} {step : Layout → W
@@ -131,18 +102,8 @@ pub record PrintedToken {W : Type 0} {step : Layout → W
       (docs_of_tokens old.from expansion)
   pub less : size old.from (docs_of_tokens old.from expansion) < size old.from (stands_for old.from w)
 
--- what was written between two printers
-abbrev pub Wrote : {W : Type 0} → (Layout → W → W) → Token → Printer W → Printer W → Type 0
-Wrote step w old new = WroteToken w (printing_of step old) (printing_of step new)
-
 abbrev pub Adds : {W : Type 0} → (Layout → W → W) → Printer W → (PrintEnv → List Doc) → Printer W → Type 0
 Adds step old docs new = AddsDocs (printing_of step old) docs (printing_of step new)
 
 abbrev pub AddsTokens : {W : Type 0} → (Layout → W → W) → Printer W → List Token → Printer W → Type 0
 AddsTokens step old tokens new = AddsList (printing_of step old) tokens (printing_of step new)
-
-abbrev pub Expands : {W : Type 0} → (Layout → W → W) → Token → Printer W → Printer W → Type 0
-Expands step w old new = ExpandsTo w (printing_of step old) (printing_of step new)
-
-abbrev pub PrintsToken : {W : Type 0} → (Layout → W → W) → Token → Printer W → Printer W → Type 0
-PrintsToken step w old new = PrintedToken w (printing_of step old) (printing_of step new)

@@ -23,6 +23,8 @@ doc_size self (TypeDoc id) = 1 + self (node.TypeRef id)
 abbrev pub node_size_step : PrintEnv → (NodeId → ℕ) → NodeId → ℕ
 node_size_step s self n = total (doc_size self) (docs_of s n)
 
+-- the sizes of the documents of a node, together
+-- node_size s n = total (doc_size (node_size s)) (docs_of s n): lemma node_size_at of SizeLemmas
 unfoldable pub node_size : PrintEnv → NodeId → ℕ
 node_size s n = fold_down s.nodes (node_size_step s) 0 n
 

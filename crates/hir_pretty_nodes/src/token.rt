@@ -1,7 +1,7 @@
 //! What is still to be printed.
 
 ghost use Rattle.std.specs.Prelude.{◌≡◌};
-ghost use Rattle.hir_pretty_nodes.specs.Printers.{is_node};
+ghost use Rattle.hir_pretty_nodes.specs.internal.Printers.{is_node};
 
 use hir_base::ExprPrecedence;
 use hir_node::{ExprId, GenericArgs, Literal, PatId, TypeRefId};

@@ -1,14 +1,8 @@
 -- Defines how a write through the `&mut` that a rare value lends changes it.
-use Rattle.std.specs.Prelude.{Option, Some, Result}
-use Rattle.std.specs.Borrow.{Lends, LendsIfOk, MutBor, Fml, RattleType}
-use Rattle.hir_path.specs.contracts.boxed.Boxed as boxed
-use Rattle.std.specs.contracts.option.Option as option
+use Rattle.std.specs.Prelude.{Result}
+use Rattle.std.specs.Borrow.{LendsIfOk, MutBor, Fml, RattleType}
 use Rattle.hir_rare.specs.declared.empty.Empty as empty_value
 use Rattle.hir_rare.specs.contracts.lazy_box.LazyBox.{the_row}
-
--- once the borrow ends, the value is present, and is the last one written through r
-abbrev pub lends_made : (T : RattleType) → MutBor (Option T.Denot) → MutBor T.Denot → Fml
-lends_made T place r = Lends (option.the_row (boxed.the_row T)) T place r (λ value. Some value)
 
 -- once the borrow ends, the value is the last one written through r; it is unchanged if there is no r
 abbrev pub lends_value : {E : Type 0} (T : RattleType) → empty_value.Ghosts T.Denot → MutBor T.Denot

@@ -2,7 +2,8 @@
 //! before the first write.
 ghost use Rattle.std.specs.Prelude.{◌≡◌, Some, unwrap_or, option_copied, IfOk, IfErr, OnOk, OnErr, IsSome};
 ghost use Rattle.std.specs.Borrow.{sem};
-ghost use Rattle.hir_rare.specs.LazyBox.{lends_made, lends_value};
+ghost use Rattle.hir_rare.specs.internal.LazyBox.{lends_made};
+ghost use Rattle.hir_rare.specs.LazyBox.{lends_value};
 
 use crate::empty::Empty;
 use hir_base::{ExactEq, TryClone};

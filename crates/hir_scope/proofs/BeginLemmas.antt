@@ -22,10 +22,10 @@ use Rattle.hir_scope.specs.Frames.{Frame, Chain, entry_at, binds, empty}
 use Rattle.hir_scope.specs.Paths.{paths, frame_at}
 use Rattle.hir_scope.specs.Scopes.{Scope, Scopes, entry_count, frame_of, IsBelow, ParentsStandEarlier}
 use Rattle.hir_scope.specs.declared.{scope.ScopeEntry.ScopeEntry, scope.ScopeKind.ScopeKind, tasks.Task.Task}
-use Rattle.hir_scope.specs.walk.Begins.{IsSound, IsSoundBody, IsSoundStore, for_none, root_entries, body_root, body_begins, signature_root, scope_in_root, scopes_in_root, root_tasks, roots_begin, signature_begins}
-use Rattle.hir_scope.specs.walk.WalkState.{WalkState, IsReady, AreInRange, LeavesWithin, Exceeds, about, chain_of, future_of, node_frames, one, count_entries, total, weight, weight_left}
-use Rattle.hir_scope.specs.walk.Pending.{tasks_of, task_frames, future}
-use Rattle.hir_scope.specs.walk.ContextsUnder.{exprs_under}
+use Rattle.hir_scope.specs.internal.Begins.{IsSound, IsSoundBody, IsSoundStore, for_none, root_entries, body_root, body_begins, signature_root, scope_in_root, scopes_in_root, root_tasks, roots_begin, signature_begins}
+use Rattle.hir_scope.specs.internal.WalkState.{WalkState, IsReady, AreInRange, LeavesWithin, Exceeds, about, chain_of, future_of, node_frames, one, count_entries, total, weight, weight_left}
+use Rattle.hir_scope.specs.internal.Pending.{tasks_of, task_frames, future}
+use Rattle.hir_scope.specs.internal.ContextsUnder.{exprs_under}
 use Rattle.hir_scope.proofs.CountLemmas.{bound_by, calls_open, form_ones, frame_entries, reached_total}
 use Rattle.hir_scope.proofs.DoneLemmas.{in_range_all, leaves_calls}
 use Rattle.hir_scope.proofs.EntryLemmas.{entries_of_node, entries_total, no_around, one_entry}

@@ -12,9 +12,10 @@ use Rattle.hir_store_core.specs.{Contents.Contents, Under.IsReached, Under.reach
 use Rattle.hir_items.specs.{Bodies.BodyContents, Bodies.body_nodes, Bodies.entry_nodes, Signatures.root_entry_nodes}
 use Rattle.hir_scope.specs.BodyScopes.{ChainsAreFrames, expr_count, entry_nodes_of_body, entry_nodes_of_signature, AreBodyScopes, AreSignatureScopes, BodyIsTooLarge, SignatureIsTooLarge, limit}
 use Rattle.hir_scope.specs.{Chains.InContext, Chains.Occurs, Chains.within_own, ScopingForms.form_of, Scopes.entry_count}
-use Rattle.hir_scope.specs.walk.Begins.{IsSound, IsSoundBody, IsSoundStore, root_entries, body_begins, signature_begins}
-use Rattle.hir_scope.specs.walk.WalkState.{ScopeAssigned, write_all, WalkState, WalkSteps, IsRight, context_assigned, future_of, chain_of, IsReady, Exceeds, one, count_entries, weight, weight_left}
-use Rattle.hir_scope.specs.walk.{Pending.future, ContextsUnder.exprs_under}
+use Rattle.hir_scope.specs.internal.Begins.{IsSound, IsSoundBody, IsSoundStore, root_entries, body_begins, signature_begins}
+use Rattle.hir_scope.specs.internal.WalkState.{ScopeAssigned, write_all, WalkState, WalkSteps, IsRight, context_assigned, future_of, chain_of, IsReady, Exceeds, one, count_entries, weight, weight_left}
+use Rattle.hir_scope.specs.internal.Pending.{future}
+use Rattle.hir_scope.specs.internal.ContextsUnder.{exprs_under}
 use Rattle.hir_scope.proofs.BeginLemmas.{body_ready, body_exceeds, root_exceeds, signature_ready, signature_exceeds, body_same, body_whole, body_scopes_weigh, body_entries_weigh, signature_same, signature_whole, signature_scopes_weigh, signature_entries_weigh, roots_in, entry_nodes_in_range}
 use Rattle.hir_scope.proofs.CountLemmas.{exprs_counted}
 use Rattle.hir_scope.proofs.MemberLemmas.{In, contains_in, in_map, map_in}

@@ -14,8 +14,10 @@ use Rattle.hir_scope.specs.Frames.{Chain, frame, empty, of_kind}
 use Rattle.hir_scope.specs.OpenFrames.{open_frames, open_frames_of_calls, open_frames_of_call}
 use Rattle.hir_scope.specs.Order.{met_in_statement, met_in_arm, met_in_form, met_in_closure}
 use Rattle.hir_scope.specs.ChildContexts.{Base, ChildContext, child_with_base, children_with_base, call_child_context, in_turn, own_frame, block_const_frames, frames_after, const_frames_after, statement_child_contexts, block_child_contexts, arm_child_contexts, loop_kind, child_contexts_of_form, child_contexts}
-use Rattle.hir_scope.specs.{declared.tasks.CurrentScopes.CurrentScopes, declared.tasks.Task.Task, walk.WalkState.about}
-use Rattle.hir_scope.specs.walk.Pending.{tasks_of, one_arm, guarded_task, leave, statement_tasks, form_tasks, task_children}
+use Rattle.hir_scope.specs.declared.tasks.CurrentScopes.{CurrentScopes}
+use Rattle.hir_scope.specs.declared.tasks.Task.{Task}
+use Rattle.hir_scope.specs.internal.WalkState.{about}
+use Rattle.hir_scope.specs.internal.Pending.{tasks_of, one_arm, guarded_task, leave, statement_tasks, form_tasks, task_children}
 
 -- 1. The child contexts of a node follow the order in which scopes are made; its calls in that order are its child calls, each once.
 

@@ -24,9 +24,9 @@ use Rattle.hir_scope.specs.ScopingForms as form
 use Rattle.hir_scope.specs.{Frames.Frame, Frames.binds, Frames.frame, Order.met_in_closure, Order.met_in_form}
 use Rattle.hir_scope.specs.ChildContexts.{ChildContext, child_contexts, block_const_frames}
 use Rattle.hir_scope.specs.declared.tasks.{CurrentScopes.CurrentScopes, Task.Task}
-use Rattle.hir_scope.specs.walk.WalkState.{total, about, one, count_entries, total_step, tasks_weight, node_tasks, node_frames, weight_left, task_turns, node_turns, turns_left}
-use Rattle.hir_scope.specs.walk.Pending.{task_of, tasks_of, one_arm, guarded_task, leave, statement_tasks, form_tasks, opened_frames, opened_const_frames, task_children, task_frames}
-use Rattle.hir_scope.specs.walk.ContextsUnder.{contexts_under, exprs_under}
+use Rattle.hir_scope.specs.internal.WalkState.{total, about, one, count_entries, total_step, tasks_weight, node_tasks, node_frames, weight_left, task_turns, node_turns, turns_left}
+use Rattle.hir_scope.specs.internal.Pending.{task_of, tasks_of, one_arm, guarded_task, leave, statement_tasks, form_tasks, opened_frames, opened_const_frames, task_children, task_frames}
+use Rattle.hir_scope.specs.internal.ContextsUnder.{contexts_under, exprs_under}
 use Rattle.hir_scope.proofs.ChildLemmas.{children_in, child_contexts_children, children_of_form, about_form}
 use Rattle.hir_scope.proofs.MemberLemmas.{In, contains_in, sum_flat, sum_same, sum_mapped, sum_plus, sum_none, sum_ones, agree_in}
 use Rattle.hir_scope.proofs.UnderLemmas.{under_at, child_in_range, child_lower}

@@ -6,7 +6,7 @@ use Rattle.hir_node.proofs.RunLemmas.{may_freely, runs_one, runs_append, runs_th
 use Rattle.hir_stack.specs.Stacks.{StackItems, Defers}
 use Rattle.hir_stack.proofs.DeferredLemmas.{defers_none, defers_two}
 use Rattle.hir_scope.specs.declared.tasks.{Task.Task, Tasks.Tasks}
-use Rattle.hir_scope.specs.walk.Pending.{DefersTask, task_of, tasks_of}
+use Rattle.hir_scope.specs.internal.Pending.{DefersTask, task_of, tasks_of}
 
 -- By calls
 

@@ -15,9 +15,9 @@ use Rattle.hir_scope.specs.OpenFrames.{open_frames, open_frames_of_form}
 use Rattle.hir_scope.specs.Order.{met_in_closure, met_in_form, met_in_arm}
 use Rattle.hir_scope.specs.{Scopes.frame_of, Scopes.Scopes, ChildContexts.child_contexts, ChildContexts.child_contexts_of_form}
 use Rattle.hir_scope.specs.declared.{scope.ScopeKind.ScopeKind, tasks.CurrentScopes.CurrentScopes, tasks.Task.Task}
-use Rattle.hir_scope.specs.walk.WalkState.{Over, Exceeds, about, AreInRange, LeavesWithin, WalkState, chain_of, IsReady, total, tasks_weight, node_frames, weight_left, node_turns, task_turns, turns_left, OpensScopes, Step}
-use Rattle.hir_scope.specs.walk.Pending.{tasks_of, arm_task, one_arm, guarded_task, statement_tasks, form_tasks, task_children, leave, opened_frames, opened_const_frames, future, arm_with, task_frames}
-use Rattle.hir_scope.specs.walk.ContextsUnder.{in_context, exprs_under}
+use Rattle.hir_scope.specs.internal.WalkState.{Over, Exceeds, about, AreInRange, LeavesWithin, WalkState, chain_of, IsReady, total, tasks_weight, node_frames, weight_left, node_turns, task_turns, turns_left, OpensScopes, Step}
+use Rattle.hir_scope.specs.internal.Pending.{tasks_of, arm_task, one_arm, guarded_task, statement_tasks, form_tasks, task_children, leave, opened_frames, opened_const_frames, future, arm_with, task_frames}
+use Rattle.hir_scope.specs.internal.ContextsUnder.{in_context, exprs_under}
 use Rattle.hir_scope.proofs.CountLemmas.{left_cons, weight_met, turns_met}
 use Rattle.hir_scope.proofs.FutureLemmas.{future_form, turn_ended, future_arm_task}
 use Rattle.hir_scope.proofs.ChildLemmas.{children_of_form, children_in, child_contexts_children, about_form}

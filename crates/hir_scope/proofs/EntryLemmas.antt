@@ -15,8 +15,8 @@ use Rattle.hir_scope.specs.Counts.{node_entries}
 use Rattle.hir_scope.specs.ScopingForms.{form_at, form_of, expr_form, pat_form, type_form}
 use Rattle.hir_scope.specs.Frames.{entry_at, entry_of, binds}
 use Rattle.hir_scope.specs.{ChildContexts.child_contexts, declared.tasks.CurrentScopes.CurrentScopes}
-use Rattle.hir_scope.specs.walk.WalkState.{about, count_entries, total, node_frames}
-use Rattle.hir_scope.specs.walk.Pending.{form_tasks}
+use Rattle.hir_scope.specs.internal.WalkState.{about, count_entries, total, node_frames}
+use Rattle.hir_scope.specs.internal.Pending.{form_tasks}
 use Rattle.hir_scope.proofs.CountLemmas.{MeetsNone, expr_meets, type_meets, bound_by, form_entries, turn_entries, form_frames, total_at}
 use Rattle.hir_scope.proofs.ChildLemmas.{children_of_form, children_in, child_contexts_children, about_form}
 use Rattle.hir_scope.proofs.MemberLemmas.{In, contains_in, flat_map_in, sum_flat, sum_same, sum_plus, sum_ones}

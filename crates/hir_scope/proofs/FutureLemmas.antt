@@ -13,9 +13,11 @@ use Rattle.hir_scope.specs.Frames.{Frame, Chain, frame, of_kind, empty}
 use Rattle.hir_scope.specs.{OpenFrames.open_frames, OpenFrames.open_frames_of_calls, OpenFrames.open_frames_of_form, Order.met_in_arm, Order.met_in_closure}
 use Rattle.hir_scope.specs.ChildContexts.{ChildContext, call_child_context, in_turn, own_frame, block_const_frames, frames_after, const_frames_after, statement_child_contexts, block_child_contexts, arm_child_contexts, loop_kind, child_contexts_of_form}
 use Rattle.hir_scope.specs.EntryNodes.{root_frame, body_entry_nodes, signature_entry_nodes}
-use Rattle.hir_scope.specs.{declared.tasks.CurrentScopes.CurrentScopes, declared.tasks.Task.Task, walk.Begins.root_tasks}
-use Rattle.hir_scope.specs.walk.Pending.{tasks_of, arm_task, one_arm, arm_with, leave, statement_tasks, form_tasks, opened_frames, opened_const_frames, future}
-use Rattle.hir_scope.specs.walk.ContextsUnder.{in_context, exprs_under}
+use Rattle.hir_scope.specs.declared.tasks.CurrentScopes.{CurrentScopes}
+use Rattle.hir_scope.specs.declared.tasks.Task.{Task}
+use Rattle.hir_scope.specs.internal.Begins.{root_tasks}
+use Rattle.hir_scope.specs.internal.Pending.{tasks_of, arm_task, one_arm, arm_with, leave, statement_tasks, form_tasks, opened_frames, opened_const_frames, future}
+use Rattle.hir_scope.specs.internal.ContextsUnder.{in_context, exprs_under}
 use Rattle.hir_scope.proofs.ChildLemmas.{children_in, turn_children}
 
 -- 1. What is still to do before a task is what it does, and then what is still to do after it.

@@ -18,9 +18,9 @@ use Rattle.hir_scope.specs.{OpenFrames.open_frames, Paths.path, Paths.frame_at, 
 use Rattle.hir_scope.specs.{Scopes.Scope, Scopes.frame_of, Scopes.Scopes, Scopes.entry_count, ChildContexts.arm_child_contexts}
 use Rattle.hir_scope.specs.declared.scope.{ScopeEntry.ScopeEntry, ScopeKind.ScopeKind}
 use Rattle.hir_scope.specs.declared.{tasks.CurrentScopes.CurrentScopes, tasks.Task.Task, walk.Walk.Walk}
-use Rattle.hir_scope.specs.walk.WalkState.{with_next, chain_of, LeavesWithin, HasFrames, WalkState, frames_of_scope, frames_of_const_scope, future_of, about, AreInRange, IsReady, weight_left, one, count_entries, Over, Exceeds, turns_left, OpensScopes, Step, scope_within, ScopeAssigned, context_assigned, write_all, IsRight, WalkSteps, CountedStep}
-use Rattle.hir_scope.specs.walk.Pending.{future, arm_with, opened_frames}
-use Rattle.hir_scope.specs.walk.ContextsUnder.{in_context, exprs_under}
+use Rattle.hir_scope.specs.internal.WalkState.{with_next, chain_of, LeavesWithin, HasFrames, WalkState, frames_of_scope, frames_of_const_scope, future_of, about, AreInRange, IsReady, weight_left, one, count_entries, Over, Exceeds, turns_left, OpensScopes, Step, scope_within, ScopeAssigned, context_assigned, write_all, IsRight, WalkSteps, CountedStep}
+use Rattle.hir_scope.specs.internal.Pending.{future, arm_with, opened_frames}
+use Rattle.hir_scope.specs.internal.ContextsUnder.{in_context, exprs_under}
 use Rattle.hir_scope.proofs.MemberLemmas.{sum_mapped, sum_ones}
 use Rattle.hir_scope.proofs.PathLemmas.{path_kept, path_new, path_members}
 

@@ -17,7 +17,7 @@ use Rattle.hir_scope.specs.{ScopingForms.ScopingForm, ScopingForms.form_of, Fram
 use Rattle.hir_scope.specs.ScopingForms as form
 use Rattle.hir_scope.specs.OpenFrames.{open_frames, open_frames_of_calls, open_frames_of_form, open_frames_step}
 use Rattle.hir_scope.specs.{Order.met_in_form, ChildContexts.ChildContext, ChildContexts.child_contexts, ChildContexts.child_contexts_of_form}
-use Rattle.hir_scope.specs.walk.ContextsUnder.{in_context, contexts_under, under_step, exprs_under}
+use Rattle.hir_scope.specs.internal.ContextsUnder.{in_context, contexts_under, under_step, exprs_under}
 use Rattle.hir_scope.proofs.ChildLemmas.{met_children, children_of_form, children_in, child_contexts_children}
 use Rattle.hir_scope.proofs.MemberLemmas.{In, agree_in, in_contains, contains_in, in_flat_map, flat_map_in, in_map, map_in, in_filter, filter_in}
 

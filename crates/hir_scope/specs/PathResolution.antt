@@ -1,24 +1,21 @@
 -- The binding of the store that a path resolves to, by the name that it asks for.
+use Rattle.hir_scope.specs.Prelude.{zero, List, [], ◌∷◌, Option, Some, None, codes, length, nat_lt, slice_get, Name, SyntaxContext, PathKind, Plain, Super, ExprId, PatId, BindingId, Path, Expr, Pat, Contents, hygiene_of}
 use Rattle.std.specs.FinMap as map
-use Rattle.std.specs.Prelude.{ℕ, zero, List, [], ◌∷◌, Option, Some, None, codes, if◌then◌else◌, length, nat_lt, slice_get}
-use Rattle.hir_base.specs.declared.{hygiene.SyntaxContext.SyntaxContext, mod_path.PathKind.PathKind}
-use Rattle.hir_base.specs.declared.mod_path.PathKind.TheVariants.{Plain, Super}
-use Rattle.hir_path.specs.NodeIds.{ExprId, PatId, BindingId}
+use Rattle.std.specs.Prelude.{if◌then◌else◌}
 use Rattle.hir_path.specs.declared.ids.ExprOrPatId.TheVariants as either
-use Rattle.hir_path.specs.declared.path.Path.{Path}
-use Rattle.hir_node.specs.declared.{expr.Expr.Expr, pat.Pat.Pat}
-use Rattle.hir_store_core.specs.{Contents.Contents, SideTables.hygiene_of}
-use Rattle.hir_scope.specs.{Paths.chain, Resolution.resolve, Scopes.Scopes}
+use Rattle.hir_scope.specs.Paths.{chain}
+use Rattle.hir_scope.specs.Resolution.{resolve}
+use Rattle.hir_scope.specs.Scopes.{Scopes}
 use Rattle.hir_scope.specs.declared.scope.ScopeEntry.{ScopeEntry}
 
 -- A path that may resolve to a local variable asks for a name: one segment alone for itself, and `self` for
 -- `self`.
-abbrev pub local_name_of : PathKind → List (List ℕ) → Option (List ℕ)
+abbrev pub local_name_of : PathKind → List Name → Option Name
 local_name_of Plain (name ∷ []) = Some name
 local_name_of (Super zero) [] = Some (codes "self")
 local_name_of kind names = None
 
-abbrev pub local_name : Path → Option (List ℕ)
+abbrev pub local_name : Path → Option Name
 local_name (Path.BarePath p) = local_name_of p.kind p.segments
 local_name (Path.Normal n) = None
 local_name (Path.LangItem target name) = None
@@ -30,7 +27,7 @@ binding_of c (Some entry) =
     if nat_lt entry.binding (length c.nodes.bindings) then Some entry.binding else None
 
 -- the binding that a name resolves to at an expression, where a name is asked for
-abbrev pub resolve_path : Contents → Scopes → ExprId → SyntaxContext → Option (List ℕ) → Option BindingId
+abbrev pub resolve_path : Contents → Scopes → ExprId → SyntaxContext → Option Name → Option BindingId
 resolve_path c scopes expr hygiene None = None
 resolve_path c scopes expr hygiene (Some name) =
     binding_of c (resolve (chain scopes.scopes (map.get scopes.scope_by_expr expr)) name hygiene)

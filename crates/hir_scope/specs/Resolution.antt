@@ -2,6 +2,7 @@
 -- those asked.
 use Rattle.std.specs.List.{flat_map}
 use Rattle.std.specs.Prelude.{◌≡◌, ℕ, ◌<◌, List, [], ◌∷◌, ◌++◌, Option, Some, None, Bool, ◌&&◌, if◌then◌else◌, length}
+use Rattle.hir_base.specs.Ids.{Name}
 use Rattle.hir_base.specs.contracts.hygiene.HygieneIdPartialEq.TheImpl as hygienes
 use Rattle.hir_base.specs.contracts.name.NamePartialEq.TheImpl as names
 use Rattle.hir_base.specs.declared.hygiene.SyntaxContext.{SyntaxContext}
@@ -9,10 +10,10 @@ use Rattle.hir_scope.specs.Frames.{Frame, Chain}
 use Rattle.hir_scope.specs.{Paths.path, Paths.frame_at, Scopes.Scope, Scopes.ScopeId, declared.scope.ScopeEntry.ScopeEntry}
 
 -- the entry has this name and this hygiene
-abbrev pub matches : List ℕ → SyntaxContext → ScopeEntry → Bool
+abbrev pub matches : Name → SyntaxContext → ScopeEntry → Bool
 matches name hygiene entry = hygienes.ghosts.eq entry.hygiene hygiene && names.ghosts.eq entry.name name
 
-abbrev pub find_entry : List ℕ → SyntaxContext → List ScopeEntry → Option ScopeEntry
+abbrev pub find_entry : Name → SyntaxContext → List ScopeEntry → Option ScopeEntry
 find_entry name hygiene [] = None
 find_entry name hygiene (entry ∷ entries) =
     if matches name hygiene entry then Some entry else find_entry name hygiene entries
@@ -21,7 +22,7 @@ find_entry name hygiene (entry ∷ entries) =
 abbrev pub entries_of : Chain → List ScopeEntry
 entries_of chain = flat_map (λ (f : Frame). f.entries) chain
 
-abbrev pub resolve : Chain → List ℕ → SyntaxContext → Option ScopeEntry
+abbrev pub resolve : Chain → Name → SyntaxContext → Option ScopeEntry
 resolve chain name hygiene = find_entry name hygiene (entries_of chain)
 
 -- An entry is found in a scope on the way outward from another: it is the first of that scope with the name

@@ -5,8 +5,8 @@ ghost use Rattle.hir_validate.specs.TestedParts.{all_of};
 ghost use Rattle.hir_items.specs.Bodies.{AreBelow, body_nodes, formals_of};
 ghost use Rattle.hir_scope.specs.BodyScopes.{AreBodyScopes, AreSignatureScopes, BodyIsTooLarge, SignatureIsTooLarge, expr_count};
 ghost use Rattle.hir_scope.specs.Frames.{entry_at, binds};
-ghost use Rattle.hir_scope.specs.walk.Begins.{IsSoundBody, IsSoundStore, at_first, for_none, root_entries, body_root, body_begins, formal_tasks, signature_begins};
-ghost use Rattle.hir_scope.specs.walk.WalkState.{state};
+ghost use Rattle.hir_scope.specs.internal.Begins.{IsSoundBody, IsSoundStore, at_first, for_none, root_entries, body_root, body_begins, formal_tasks, signature_begins};
+ghost use Rattle.hir_scope.specs.internal.WalkState.{state};
 
 use crate::entries::{add_entry, add_pat};
 use crate::expr_scopes::ExprScopes;

@@ -6,8 +6,8 @@ ghost use Rattle.hir_scope.specs.ScopingForms.{form_of};
 ghost use Rattle.hir_scope.specs.Frames.{frame_with, of_kind};
 ghost use Rattle.hir_scope.specs.ChildContexts.{block_const_frames, loop_kind, own_frame};
 ghost use Rattle.hir_scope.specs.Scopes.{frame_of};
-ghost use Rattle.hir_scope.specs.walk.WalkState.{state, AreInRange, OpensScopes, Over};
-ghost use Rattle.hir_scope.specs.walk.Pending.{opened_frames, opened_const_frames};
+ghost use Rattle.hir_scope.specs.internal.WalkState.{state, AreInRange, OpensScopes, Over};
+ghost use Rattle.hir_scope.specs.internal.Pending.{opened_frames, opened_const_frames};
 
 use crate::entries::add_pats;
 use crate::fault::ScopesFault;

@@ -7,7 +7,7 @@ ghost use Rattle.hir_node.specs.ChildCalls.{e, opt, pat_calls};
 ghost use Rattle.hir_node.specs.Runs.{Runs};
 ghost use Rattle.hir_scope.specs.declared.tasks.Task.{Task};
 ghost use Rattle.hir_scope.specs.ScopingForms.{expr_form, type_form};
-ghost use Rattle.hir_scope.specs.walk.Pending.{DefersTask, task_of, tasks_of, form_tasks, leave};
+ghost use Rattle.hir_scope.specs.internal.Pending.{DefersTask, task_of, tasks_of, form_tasks, leave};
 
 use crate::fault::ScopesFault;
 use crate::order::visit_in_scope_order;
@@ -100,7 +100,7 @@ fn defer_each<T: Brings>(onto: &mut Tasks, items: &[T])
 
 // Of a `let` the type, the initializer and the else branch come before the pattern.
 impl Brings for Statement {
-    ghost use Rattle.hir_scope.specs.walk.Pending.{statement_tasks};
+    ghost use Rattle.hir_scope.specs.internal.Pending.{statement_tasks};
 
     ghost tasks = { statement_tasks };
 
@@ -125,7 +125,7 @@ impl Brings for Statement {
 }
 
 impl Brings for MatchArm {
-    ghost use Rattle.hir_scope.specs.walk.Pending.{one_arm};
+    ghost use Rattle.hir_scope.specs.internal.Pending.{one_arm};
 
     ghost tasks = { one_arm };
 

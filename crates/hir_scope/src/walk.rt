@@ -2,8 +2,8 @@
 ghost use Rattle.std.specs.Prelude.{◌≡◌, ◌≤◌, ◌+◌, [], length, Err, IfOk, IsTrue, OnErr};
 ghost use Rattle.hir_validate.specs.Nodes.{Nodes};
 ghost use Rattle.hir_scope.specs.ScopingForms.{InTurn, expr_form};
-ghost use Rattle.hir_scope.specs.walk.Pending.{guarded_task};
-ghost use Rattle.hir_scope.specs.walk.WalkState.{with_next, walk_state, state, future_of, scope_within, IsReady, Exceeds, EntersExpr, Step, CountedStep, WalkSteps};
+ghost use Rattle.hir_scope.specs.internal.Pending.{guarded_task};
+ghost use Rattle.hir_scope.specs.internal.WalkState.{with_next, walk_state, state, future_of, scope_within, IsReady, Exceeds, EntersExpr, Step, CountedStep, WalkSteps};
 
 use crate::expr_scopes::ExprScopes;
 use crate::fault::ScopesFault;

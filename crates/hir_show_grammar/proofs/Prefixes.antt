@@ -11,7 +11,8 @@ use Rattle.std.proofs.lemmas.List.Elements.{All-head, All-push, All-tail}
 use Rattle.std.proofs.lemmas.List.Splits.{slice_split_at, slice_split_none, slice_split-cons_no, join_with_byte-slice_split}
 use Rattle.std.proofs.lemmas.Slice.Eq.{starts_is}
 use Rattle.hir_show_grammar.specs.Numerals.{is_digit, number_of, value, has_needless_zero}
-use Rattle.hir_show_grammar.specs.Readings.{HasWord, Plain, StartsOtherwise, is_byte, split_parts, words_from}
+use Rattle.hir_show_grammar.specs.internal.Readings.{HasWord, Plain, StartsOtherwise, words_from}
+use Rattle.hir_show_grammar.specs.Readings.{is_byte, split_parts}
 use Rattle.hir_show_grammar.specs.Words.{number}
 use Rattle.hir_show_grammar.proofs.Digits.{no_number, no_number-empty, no_number-needless, no_number-large, no_zero, too_large, value-long, value-next}
 use Rattle.hir_show_grammar.proofs.Splits.{parts_begin, words_at, words_past}

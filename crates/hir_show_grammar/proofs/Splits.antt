@@ -2,7 +2,8 @@
 use Rattle.std.proofs.Common.{◌≡◌, ◌+◌, ◌<◌, ◌≤◌, ℕ, zero, suc, Bool, List, [], ◌∷◌, drop, length, refl, sym, ap, ◌∙◌, arith}
 use Rattle.std.specs.List.{slice_split}
 use Rattle.std.proofs.lemmas.List.Splits.{length-slice_split}
-use Rattle.hir_show_grammar.specs.Readings.{HasWord, IsRestFrom, is_byte, split_parts, words_from}
+use Rattle.hir_show_grammar.specs.internal.Readings.{HasWord, IsRestFrom, words_from}
+use Rattle.hir_show_grammar.specs.Readings.{is_byte, split_parts}
 
 -- a text has one part at least
 pub parts_are_there : (p : ℕ → Bool) (text : List ℕ) → slice_split p text ≡ [] → ⊥

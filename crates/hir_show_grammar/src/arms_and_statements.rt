@@ -1,7 +1,7 @@
 //! The arms of a match and the statements of a block: each is one word, whose parts are separated by colons.
 
 ghost use Rattle.hir_show_grammar.specs.ArmsAndStatements.{expr_statement, let_statement, macro_statement};
-ghost use Rattle.hir_show_grammar.specs.Readings.{SaysWhole};
+ghost use Rattle.hir_show_grammar.specs.internal.Readings.{SaysWhole};
 
 use crate::line_error::Malformed;
 use crate::words::{Word, Words};

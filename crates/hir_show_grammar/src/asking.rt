@@ -1,7 +1,7 @@
 //! Lines that ask something.
 
 ghost use Rattle.hir_show_grammar.specs.Line.{line_of, question, resolve};
-ghost use Rattle.hir_show_grammar.specs.Readings.{SaysAll, SaysWhole};
+ghost use Rattle.hir_show_grammar.specs.internal.Readings.{SaysAll, SaysWhole};
 ghost use Rattle.hir_show_grammar.specs.Taking.{Asks};
 ghost use Rattle.hir_show_grammar.specs.Words.{number};
 

@@ -3,7 +3,8 @@
 ghost use Rattle.std.specs.Prelude.{◌≡◌, ◌+◌, ◌≤◌, Some, None, IfOk, MatchResult, length};
 ghost use Rattle.std.specs.List.{list_all};
 ghost use Rattle.hir_show_grammar.specs.Numerals.{has_needless_zero, int_of, is_digit, is_numeral, without_minus};
-ghost use Rattle.hir_show_grammar.specs.Readings.{split_parts, words_from};
+ghost use Rattle.hir_show_grammar.specs.Readings.{split_parts};
+ghost use Rattle.hir_show_grammar.specs.internal.Readings.{words_from};
 ghost use Rattle.hir_show_grammar.specs.Words.{number};
 
 use crate::line_error::Malformed;

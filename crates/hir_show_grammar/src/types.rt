@@ -1,6 +1,6 @@
 //! The types that lines make.
 
-ghost use Rattle.hir_show_grammar.specs.Readings.{SaysAll};
+ghost use Rattle.hir_show_grammar.specs.internal.Readings.{SaysAll};
 ghost use Rattle.hir_show_grammar.specs.Types.{array_type, path_type, pattern_type, tuple_type, type_ref};
 
 use crate::line_error::LineError;

@@ -3,7 +3,8 @@
 ghost use Rattle.std.specs.Prelude.{◌≡◌, ◌∷◌, ◌++◌, ◌+◌, ◌<◌, ◌≤◌, ◌↔◌, [], ℕ, List, None, Some, MatchResult, IfOk, IsTrue, codes, false, length, take, true};
 ghost use Rattle.std.specs.List.{count_by};
 ghost use Rattle.hir_show_grammar.specs.Names.{is_name};
-ghost use Rattle.hir_show_grammar.specs.Readings.{HasWord, IsRestFrom, Plain, ReadsWords, ReadsAll, Says, SaysOrStops, StartsOtherwise, each, is_byte, split_parts, words_from};
+ghost use Rattle.hir_show_grammar.specs.internal.Readings.{HasWord, IsRestFrom, Plain, ReadsWords, ReadsAll, Says, SaysOrStops, StartsOtherwise, words_from};
+ghost use Rattle.hir_show_grammar.specs.Readings.{each, is_byte, split_parts};
 ghost use Rattle.hir_show_grammar.specs.Words.{expansion, hygiene, list, list_of, name, number, optional, plain};
 
 use crate::line_error::{LineError, Malformed};
@@ -28,7 +29,7 @@ pub type Line<'a> = Words<'a, b' '>;
 
 impl<'a, const SEPARATOR: u8> Model for Words<'a, SEPARATOR> {
     ghost use Rattle.std.specs.Prelude.{List, ℕ};
-    ghost use Rattle.hir_show_grammar.specs.Readings.{words_from};
+    ghost use Rattle.hir_show_grammar.specs.internal.Readings.{words_from};
 
     ghost Value = { List (List ℕ) };
 

@@ -3,7 +3,8 @@ use Rattle.std.proofs.Common.{◌≡◌, ◌+◌, ◌-◌, ◌≤◌, ℕ, Bool,
 use Rattle.std.specs.Prelude.{slice_range}
 use Rattle.std.proofs.lemmas.List.{take-take, take_at, drop_at, take-append-le}
 use Rattle.std.proofs.lemmas.List.Elements.{All-append}
-use Rattle.hir_show_io.specs.Text.{is_line_end, HasNoLineEnd, IsFirstLineEnd}
+use Rattle.hir_show_io.specs.Text.{is_line_end, HasNoLineEnd}
+use Rattle.hir_show_io.specs.internal.Text.{IsFirstLineEnd}
 use borrow.Rule.Slice.PartMut.{put_mid, post_of}
 use Rattle.hir_show_io.specs.LineState.{LineState}
 use Rattle.hir_show_io.specs.Reading.{with_bytes}

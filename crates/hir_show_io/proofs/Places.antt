@@ -3,7 +3,7 @@ use Rattle.std.proofs.Common.{◌≡◌, ◌+◌, ◌-◌, ◌<◌, ℕ, zero, s
 use Rattle.std.proofs.lemmas.Bool.{cases_lt, eqb-true, false≢true}
 use Rattle.std.proofs.lemmas.List.{get_or_default}
 use Rattle.std.proofs.lemmas.Grind.{common_steps}
-use Rattle.hir_show_io.specs.Text.{IsFirstLineEnd}
+use Rattle.hir_show_io.specs.internal.Text.{IsFirstLineEnd}
 use Rattle.memchr.specs.Find.{is_byte, IsFirstByte, Passes, Nowhere, NoneBefore, TakesFirst, places_from, places}
 
 module _ (test : ℕ → Bool) (hay : List ℕ) where

@@ -1,5 +1,5 @@
 -- The lines of a text, and which of them were read.
-use Rattle.std.specs.Prelude.{◌≡◌, ℕ, ◌+◌, ◌<◌, Bool, true, false, eqb, List, [], ◌∷◌, ◌++◌, length, take, drop, flat_map, All, ◌⊎◌, Option, None, Some}
+use Rattle.std.specs.Prelude.{◌≡◌, ℕ, ◌+◌, ◌<◌, Bool, true, false, eqb, List, [], ◌∷◌, ◌++◌, length, flat_map, All, ◌⊎◌}
 use Rattle.std.specs.List.{slice_split, AllByRecursion}
 
 abbrev pub is_line_end : ℕ → Bool
@@ -21,12 +21,6 @@ with_line_end line = line ++ 10 ∷ []
 
 abbrev pub HasNoLineEnd : List ℕ → Type 0
 HasNoLineEnd bytes = All (λ b. is_line_end b ≡ false) bytes
-
--- the index of the first line end
-abbrev pub IsFirstLineEnd : List ℕ → Option ℕ → Type 0
-IsFirstLineEnd bytes None = HasNoLineEnd bytes
-IsFirstLineEnd bytes (Some i) =
-    (i < length bytes) × HasNoLineEnd (take i bytes) × (bytes ≡ take i bytes ++ 10 ∷ drop (i + 1) bytes)
 
 -- the first line of a text, and the text after it; only if no more bytes can come is a line without its end
 -- one

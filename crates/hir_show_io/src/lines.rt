@@ -1,7 +1,7 @@
 //! The lines of a source, which is read block by block: a line that is whole in the buffer is borrowed from
 //! it and never copied.
 
-ghost use Rattle.hir_show_io.specs.Text.{IsFirstLineEnd};
+ghost use Rattle.hir_show_io.specs.internal.Text.{IsFirstLineEnd};
 ghost use Rattle.std.specs.Prelude.{◌≡◌, ◌+◌, ◌-◌, ◌*◌, ◌≤◌, ◌<◌, ◌^◌, ◌||◌, [], false, IfOk, OnOk, length, take, slice_range, vec_len, List, ℕ};
 
 use crate::ends::Source;

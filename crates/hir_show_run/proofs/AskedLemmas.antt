@@ -13,11 +13,11 @@ use Rattle.hir_show_grammar.specs.declared.question.Question.{Question}
 use Rattle.hir_show_run.specs.declared.fault.RunFault.{RunFault}
 use Rattle.hir_show_run.specs.declared.fault.RunFault.TheVariants.{BadLine, Refused, BodyRefused, InputFailed, OutputFailed, OutOfMemory}
 use Rattle.hir_show_run.specs.Faults.{fault_of_line}
-use Rattle.hir_show_run.specs.Output.{Output, Wrote}
+use Rattle.hir_show_run.specs.internal.Output.{Output, Wrote}
 use Rattle.hir_show_run.specs.Outcomes.{is_input_failed, is_output_failed}
-use Rattle.hir_show_run.specs.RunStates.{RunState, TakesNext, unread}
+use Rattle.hir_show_run.specs.internal.RunStates.{RunState, TakesNext, unread}
 use Rattle.hir_show_run.specs.Program.{IsLineAnswer, AreAnswers}
-use Rattle.hir_show_run.specs.Stages.{IsAsked, TakesLine, AsksLine, section_from, HaveAnswers, Answered, AsksUpTo, Asks}
+use Rattle.hir_show_run.specs.internal.Stages.{IsAsked, TakesLine, AsksLine, section_from, HaveAnswers, Answered, AsksUpTo, Asks}
 use Rattle.hir_show_run.proofs.Refusals.{after_line, after_none, some_text}
 use Rattle.hir_show_run.proofs.Scripts.{says-push}
 use Rattle.hir_show_run.proofs.WritingLemmas.{Wrote-then, WrotePrefix-then, all_written, cut, rest_waits}

@@ -5,7 +5,8 @@ use Rattle.hir_items.specs.Bodies.{BodyContents}
 use Rattle.hir_scope.specs.BodyScopes.{AreBodyScopes}
 use Rattle.hir_scope.specs.Paths.{chain}
 use Rattle.hir_scope.specs.Scopes.{Scopes}
-use Rattle.hir_show_run.specs.Answer.{IsChainOf, chain_by}
+use Rattle.hir_show_run.specs.Answer.{IsChainOf}
+use Rattle.hir_show_run.specs.internal.Answer.{chain_by}
 
 -- the chain of an expression, or it isn't reached
 pub chain_is : (b : BodyContents) (s : Scopes) → AreBodyScopes b s → (expr : ℕ) → IsChainOf b expr (chain_by s expr)

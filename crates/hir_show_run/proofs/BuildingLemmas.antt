@@ -13,11 +13,12 @@ use Rattle.hir_show_run.specs.declared.fault.RunFault.{RunFault}
 use Rattle.hir_show_run.specs.declared.fault.RunFault.TheVariants.{BadLine, Refused, BodyRefused, InputFailed, OutputFailed, OutOfMemory}
 use Rattle.hir_show_run.specs.Faults.{fault_of_line}
 use Rattle.hir_show_run.specs.Outcomes.{is_input_failed}
-use Rattle.hir_show_run.specs.Parts.{Parts, no_parts, is_second}
-use Rattle.hir_show_run.specs.RunStates.{RunState, TakesNext, unread}
+use Rattle.hir_show_run.specs.Parts.{Parts, no_parts}
+use Rattle.hir_show_run.specs.internal.Parts.{is_second}
+use Rattle.hir_show_run.specs.internal.RunStates.{RunState, TakesNext, unread}
 use Rattle.hir_show_run.specs.Program.{line_after}
 use Rattle.hir_show_run.specs.Run.{no_lines}
-use Rattle.hir_show_run.specs.Stages.{Makes, Builds, BuildsLine, IsAsked}
+use Rattle.hir_show_run.specs.internal.Stages.{Makes, Builds, BuildsLine, IsAsked}
 use Rattle.hir_show_run.proofs.AskedLemmas.{asked_marks_none}
 use Rattle.hir_show_run.proofs.Making.{Makes-none}
 use Rattle.hir_show_run.proofs.Refusals.{after_line, after_none, some_text}

@@ -15,12 +15,12 @@ use Rattle.hir_show_run.specs.declared.fault.RunFault.{RunFault}
 use Rattle.hir_show_run.specs.declared.fault.RunFault.TheVariants.{BadLine, Refused, BodyRefused, InputFailed, OutputFailed, OutOfMemory}
 use Rattle.hir_show_run.specs.Faults.{fault_of_line}
 use Rattle.hir_show_run.specs.Outcomes.{is_input_failed, is_output_failed}
-use Rattle.hir_show_run.specs.Output.{Output, Wrote, WrotePrefix}
+use Rattle.hir_show_run.specs.internal.Output.{Output, Wrote, WrotePrefix}
 use Rattle.hir_show_run.specs.Parts.{Parts}
-use Rattle.hir_show_run.specs.RunStates.{RunState}
+use Rattle.hir_show_run.specs.internal.RunStates.{RunState}
 use Rattle.hir_show_run.specs.Program.{Outcome}
 use Rattle.hir_show_run.specs.Run.{EndsWith, RunsTo}
-use Rattle.hir_show_run.specs.Stages.{Builds, IsBodyOf, Accepts, RunsUpTo, Closes}
+use Rattle.hir_show_run.specs.internal.Stages.{Builds, IsBodyOf, Accepts, RunsUpTo, Closes}
 
 -- what waited was written too, of a run that began where nothing waited
 then_all_waiting : (start p : Output) (new : Option (List ℕ)) (text : List ℕ) → start.waiting ≡ [] → Wrote start p text → Appends p.contents new p.waiting → Appends start.contents new text

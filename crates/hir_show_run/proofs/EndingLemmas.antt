@@ -9,11 +9,11 @@ use Rattle.hir_show_run.specs.declared.fault.RunFault.{RunFault}
 use Rattle.hir_show_run.specs.declared.fault.RunFault.TheVariants.{BadLine, Refused, BodyRefused, InputFailed, OutputFailed, OutOfMemory}
 use Rattle.hir_show_run.specs.Parts.{Parts, body_parts}
 use Rattle.hir_show_run.specs.Answer.{IsStoreAnswer, IsAnswer}
-use Rattle.hir_show_run.specs.Output.{Output, Wrote, WrotePrefix}
-use Rattle.hir_show_run.specs.RunStates.{RunState}
+use Rattle.hir_show_run.specs.internal.Output.{Output, Wrote, WrotePrefix}
+use Rattle.hir_show_run.specs.internal.RunStates.{RunState}
 use Rattle.hir_show_run.specs.Program.{is_of_store, Outcome, writes, section, stops, after_store, on_body, on_store, accepts, built_by, IsMeaning, HasAnswers, script, script_of}
 use Rattle.hir_show_run.specs.Run.{EndsWith, IsRefusedAfter}
-use Rattle.hir_show_run.specs.Stages.{Builds, Finishes, IsBodyOf, Accepts}
+use Rattle.hir_show_run.specs.internal.Stages.{Builds, Finishes, IsBodyOf, Accepts}
 use Rattle.hir_show_run.proofs.Scripts.{script-append, script-length, lines_after, suffix-cons}
 use Rattle.hir_show_run.proofs.TraceLemmas.{no_line, outside, runs_after, means_after}
 use Rattle.hir_show_run.proofs.QuestionLemmas.{StandsAt, stands_on, ends_there, refused_there}

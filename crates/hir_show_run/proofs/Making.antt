@@ -8,7 +8,7 @@ use Rattle.hir_show_grammar.specs.Makers.{Maker}
 use Rattle.hir_show_run.specs.Parts.{Parts, no_parts, with_line}
 use Rattle.hir_show_io.specs.LineState.{LineState}
 use Rattle.hir_show_run.specs.Program.{maker_of, built_by, script, line_after}
-use Rattle.hir_show_run.specs.Stages.{AllMake, Makes, MakesOrLeaves}
+use Rattle.hir_show_run.specs.internal.Stages.{AllMake, Makes, MakesOrLeaves}
 use Rattle.hir_show_run.proofs.Scripts.{Tells, script-push, suffix_is, after_make, tells_blank, tells_more}
 
 pub Makes-none : Makes [] no_parts

@@ -9,12 +9,12 @@ use Rattle.hir_show_grammar.specs.Grammar.{IsLine, IsMaker}
 use Rattle.hir_show_grammar.specs.Grammar as line
 use Rattle.hir_show_grammar.specs.Tokens.{Token}
 use Rattle.hir_show_run.specs.Parts.{Parts, no_parts, with_line}
-use Rattle.hir_show_run.specs.OfLines.{IsExprOfLine, IsPatOfLine, IsTypeOfLine, AreOfLines}
-use Rattle.hir_show_run.specs.RunStates.{RunState}
+use Rattle.hir_show_run.specs.internal.OfLines.{IsExprOfLine, IsPatOfLine, IsTypeOfLine, AreOfLines}
+use Rattle.hir_show_run.specs.internal.RunStates.{RunState}
 use Rattle.hir_show_run.specs.Program.{maker_of, built_by, gives_self, gives_name, unless_second, once_each, says, script}
 use Rattle.hir_store_core.specs.Contents.{Contents}
 use Rattle.hir_store.specs.Building.{Building}
-use Rattle.hir_show_run.specs.Stages.{Builds, Finishes}
+use Rattle.hir_show_run.specs.internal.Stages.{Builds, Finishes}
 
 -- an item of a list with one more is one of the list, or the one more
 in_one_more : {X : Type 0} (xs : List X) (x : X) (i : ℕ) (y : X) → slice_get (xs ++ x ∷ []) i ≡ Some y → (slice_get xs i ≡ Some y) ⊎ (x ≡ y)

@@ -42,7 +42,7 @@ use Rattle.hir_pretty_nodes.specs.TableLookups.{lookups_of, found_or}
 use Rattle.hir_pretty_nodes.specs.Paths.{found_name}
 use Rattle.hir_pretty.specs.Bodies.{body_docs, formal_params, formal_self}
 use Rattle.hir_pretty.specs.FoundParts.{parents}
-use Rattle.hir_show_run.specs.OfLines.{IsExprOfLine, IsPatOfLine, IsTypeOfLine, AreOfLines}
+use Rattle.hir_show_run.specs.internal.OfLines.{IsExprOfLine, IsPatOfLine, IsTypeOfLine, AreOfLines}
 use Rattle.hir_show_run.specs.Printing.{tables_of, printed_from, body_pieces}
 
 -- 1. Items of which none is a missing definition

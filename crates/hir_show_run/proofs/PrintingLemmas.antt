@@ -15,7 +15,7 @@ use Rattle.hir_pretty_nodes.specs.PrintEnvs.{print_env}
 use Rattle.hir_pretty_nodes.specs.DocPieces.{doc_list_pieces}
 use Rattle.hir_pretty.specs.Bodies.{body_docs}
 use Rattle.hir_pretty.specs.FoundParts.{parents}
-use Rattle.hir_show_run.specs.OfLines.{AreOfLines}
+use Rattle.hir_show_run.specs.internal.OfLines.{AreOfLines}
 use Rattle.hir_show_run.specs.Printing.{tables_of, printed_from, body_pieces, body_text}
 use Rattle.hir_show_run.proofs.OutsideLemmas.{nothing_missing}
 

@@ -7,7 +7,7 @@ use Rattle.hir_show_io.proofs.ReadLemmas.{ReadsPrefix-now}
 use Rattle.hir_show_grammar.specs.Line.{Line, Ask, line_of, asks}
 use Rattle.hir_show_grammar.specs.declared.question.Question.{Question}
 use Rattle.hir_show_run.specs.declared.fault.RunFault.TheVariants.{OutOfMemory}
-use Rattle.hir_show_run.specs.RunStates.{RunState, unread}
+use Rattle.hir_show_run.specs.internal.RunStates.{RunState, unread}
 use Rattle.hir_show_run.specs.Program.{Outcome, Trace, writes, ScriptRuns, IsMeaning, HasAnswers, says, script, script_of, line_after}
 use Rattle.hir_show_run.specs.Run.{EndsWith, IsComplete, IsRefusedAfter}
 use Rattle.hir_show_run.proofs.Refusals.{refused_asking}

@@ -7,7 +7,7 @@ use Rattle.hir_show_grammar.specs.Line.{Line, Blank, Make, Ask, Bad, asks, line_
 use Rattle.hir_show_grammar.specs.declared.question.Question.{Question}
 use Rattle.hir_show_run.specs.Program.{line_after, may_come, script}
 use Rattle.hir_show_run.specs.Run.{IsRefusedAfter}
-use Rattle.hir_show_run.specs.Stages.{AllMake, OutOfMemoryAt}
+use Rattle.hir_show_run.specs.internal.Stages.{AllMake, OutOfMemoryAt}
 use Rattle.hir_show_run.proofs.Scripts.{suffix_is, after_question}
 
 -- a line that isn't blank has a text

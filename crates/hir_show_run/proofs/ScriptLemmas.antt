@@ -9,13 +9,14 @@ use Rattle.hir_store_core.specs.Contents.{Contents}
 use Rattle.hir_items.specs.Bodies.{BodyContents, body_of}
 use Rattle.hir_show_run.specs.declared.fault.RunFault.{RunFault}
 use Rattle.hir_show_run.specs.declared.fault.RunFault.TheVariants.{OutOfMemory}
-use Rattle.hir_show_run.specs.Answer.{NamedBody, IsStoreAnswer, IsAnswerOf}
-use Rattle.hir_show_run.specs.Output.{Output, Wrote}
+use Rattle.hir_show_run.specs.Answer.{NamedBody, IsStoreAnswer}
+use Rattle.hir_show_run.specs.internal.Answer.{IsAnswerOf}
+use Rattle.hir_show_run.specs.internal.Output.{Output, Wrote}
 use Rattle.hir_show_run.specs.Parts.{Parts, body_parts}
-use Rattle.hir_show_run.specs.RunStates.{RunState}
+use Rattle.hir_show_run.specs.internal.RunStates.{RunState}
 use Rattle.hir_show_run.specs.Program.{Outcome, is_of_store, section, stops, after_store, on_body}
 use Rattle.hir_show_run.specs.Run.{RunsTo, no_lines}
-use Rattle.hir_show_run.specs.Stages.{Builds, Finishes, IsBodyOf, Accepts, Asks, AsksUpTo, RunsUpTo}
+use Rattle.hir_show_run.specs.internal.Stages.{Builds, Finishes, IsBodyOf, Accepts, Asks, AsksUpTo, RunsUpTo}
 use Rattle.hir_show_run.proofs.QuestionLemmas.{StandsAt}
 use Rattle.hir_show_run.proofs.SectionLemmas.{section_done, section_ends, section_left}
 use Rattle.hir_show_run.proofs.EndingLemmas.{answers-alone, build_ends, built_at, finish_ends, accept_ends, body_ends, store_end, store_bad, stops_end, stops_bad, at_store, at_body, in_body}

@@ -8,11 +8,11 @@ use Rattle.hir_show_grammar.specs.Line.{Line, Ask, line_of, asks, may_ask}
 use Rattle.hir_show_grammar.specs.declared.question.Question.{Question}
 use Rattle.hir_show_run.specs.declared.fault.RunFault.{RunFault}
 use Rattle.hir_show_run.specs.declared.fault.RunFault.TheVariants.{BadLine, Refused, BodyRefused, InputFailed, OutputFailed, OutOfMemory}
-use Rattle.hir_show_run.specs.Output.{Output, Wrote, WrotePrefix}
-use Rattle.hir_show_run.specs.RunStates.{RunState, unread}
+use Rattle.hir_show_run.specs.internal.Output.{Output, Wrote, WrotePrefix}
+use Rattle.hir_show_run.specs.internal.RunStates.{RunState, unread}
 use Rattle.hir_show_run.specs.Program.{Outcome, Trace, section, HasAnswers, says, script, script_of, line_after}
 use Rattle.hir_show_run.specs.Run.{EndsWith, IsRefusedAfter}
-use Rattle.hir_show_run.specs.Stages.{section_from, HaveAnswers, Asks, AsksUpTo, OutOfMemoryAt}
+use Rattle.hir_show_run.specs.internal.Stages.{section_from, HaveAnswers, Asks, AsksUpTo, OutOfMemoryAt}
 use Rattle.hir_show_run.proofs.Scripts.{lines_after, suffix-cons, suffix-bad}
 use Rattle.hir_show_run.proofs.TraceLemmas.{BeginsOutside, no_line, outside, section_after, all_asks, asks_not}
 use Rattle.hir_show_run.proofs.QuestionLemmas.{StandsAt, asked_script, refused_there}

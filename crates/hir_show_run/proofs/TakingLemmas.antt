@@ -6,8 +6,9 @@ use Rattle.hir_show_grammar.specs.Makers as make
 use Rattle.hir_show_grammar.specs.Taking.{with_line as with_text}
 use Rattle.hir_show_grammar.specs.declared.question.Question.{Question}
 use Rattle.hir_show_run.specs.declared.body_builder.BodyBuilder as code
-use Rattle.hir_show_run.specs.Parts.{builder_parts, with_line, with_maker, is_second}
-use Rattle.hir_show_run.specs.Stages.{MakesOrLeaves}
+use Rattle.hir_show_run.specs.internal.Parts.{builder_parts, with_maker, is_second}
+use Rattle.hir_show_run.specs.Parts.{with_line}
+use Rattle.hir_show_run.specs.internal.Stages.{MakesOrLeaves}
 
 -- the code has what the line makes
 made_with : (m : code.BodyBuilder) (maker : Maker) → builder_parts (with_maker m maker) ≡ with_line (builder_parts m) maker

@@ -3,7 +3,7 @@ use Rattle.std.proofs.Common.{◌++◌, List, ℕ, Option, Result, Ok, Err, OnOk
 use Rattle.std.specs.Io.KnownBytes.{Appends}
 use Rattle.hir_show_io.specs.Effects.{AppendsPrefix}
 use Rattle.hir_show_io.proofs.EndLemmas.{Appends-twice, AppendsPrefix-after, AppendsPrefix-more}
-use Rattle.hir_show_run.specs.Texts.{WritesText}
+use Rattle.hir_show_run.specs.internal.Texts.{WritesText}
 
 pub text_by : {X E : Type 0} (old new : Option (List ℕ)) (text : List ℕ) (result : Result X E) →
     OnOk result (Appends old new text) → OnErr result (AppendsPrefix old new text) → WritesText old new text result

@@ -13,7 +13,7 @@ use Rattle.hir_scope.specs.Frames.{Frame}
 use Rattle.hir_scope.specs.Resolution.{entries_of}
 use Rattle.hir_show_run.specs.Answer.{answer_line, after_spaces, entry_text, names_text}
 use Rattle.hir_show_run.specs.declared.output.Output as code
-use Rattle.hir_show_run.specs.Output.{Output, Wrote, WrotePrefix, PutsBy, OutputsText, output_of}
+use Rattle.hir_show_run.specs.internal.Output.{Output, Wrote, WrotePrefix, PutsBy, OutputsText, output_of}
 
 pub Wrote-none : (a : Output) → Wrote a a []
 Wrote-none a = rw (append-nil a.waiting) (IsWrittenUpTo-start a.contents a.waiting)

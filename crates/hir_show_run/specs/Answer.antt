@@ -1,32 +1,9 @@
 -- The answers to questions.
-use Rattle.std.specs.Prelude.{◌≡◌, ℕ, List, [], ◌∷◌, ◌++◌, Option, None, Some, codes, length, nat_lt, if◌then◌else◌, flat_map}
-use Rattle.std.specs.Fmt.{decimal}
-use Rattle.std.specs.FinMap as map
-use Rattle.std.specs.Option.{option_map}
-use Rattle.hir_base.specs.declared.hygiene.SyntaxContext.{SyntaxContext}
-use Rattle.hir_base.specs.declared.hygiene.SyntaxContext.TheVariants.{Root, Expansion}
-use Rattle.hir_path.specs.NodeIds.{ExprId, BindingId}
+use Rattle.hir_show_run.specs.Prelude.{◌≡◌, ℕ, List, [], ◌∷◌, ◌++◌, Option, None, Some, codes, length, nat_lt, flat_map, decimal, Name, SyntaxContext, Root, Expansion, ExprId, BindingId, Question, OfStore, OfBody, StoreQuestion, Children, RootOf, BodyQuestion, Nodes, root_for_expr, Contents, child_exprs, BodyContents, BodyReaches, ScopeEntry, entry_nodes_of_body, HasChain, Chain, resolve, entries_of, AreCaptures, IsReachedClosure}
+use Rattle.std.specs.Prelude.{if◌then◌else◌}
 use Rattle.hir_node.specs.declared.node_id.NodeId.TheVariants as node
-use Rattle.hir_show_grammar.specs.declared.question.Question.{Question}
-use Rattle.hir_show_grammar.specs.declared.question.Question.TheVariants.{OfStore, OfBody}
-use Rattle.hir_show_grammar.specs.declared.question.StoreQuestion.{StoreQuestion}
-use Rattle.hir_show_grammar.specs.declared.question.StoreQuestion.TheVariants.{Children, RootOf}
-use Rattle.hir_show_grammar.specs.declared.question.BodyQuestion.{BodyQuestion}
 use Rattle.hir_show_grammar.specs.declared.question.BodyQuestion.TheVariants as ask
-use Rattle.hir_forest.specs.declared.roots.Root as forest
-use Rattle.hir_validate.specs.Nodes.{Nodes}
-use Rattle.hir_store_core.specs.RootSearch.{root_for_expr}
-use Rattle.hir_store_core.specs.Contents.{Contents}
-use Rattle.hir_store_core.specs.PatLists.{child_exprs}
-use Rattle.hir_items.specs.Bodies.{BodyContents, BodyReaches}
-use Rattle.hir_scope.specs.declared.scope.ScopeEntry.{ScopeEntry}
-use Rattle.hir_scope.specs.BodyScopes.{entry_nodes_of_body}
-use Rattle.hir_scope.specs.Chains.{HasChain}
-use Rattle.hir_scope.specs.Frames.{Chain}
-use Rattle.hir_scope.specs.Paths as path
-use Rattle.hir_scope.specs.Resolution.{resolve, entries_of}
-use Rattle.hir_scope.specs.Scopes.{Scopes}
-use Rattle.hir_captures.specs.Captures.{AreCaptures, IsReachedClosure}
+use Rattle.hir_forest.specs.declared.roots.{Root as forest}
 use Rattle.hir_show_run.specs.Printing.{print_text}
 
 -- an answer: the question's word, the expression, what is known of it, and a line end
@@ -61,10 +38,6 @@ IsChainOf b expr None = BodyReaches b (node.Expr expr) → ⊥
 IsChainOf b expr (Some chain) =
     BodyReaches b (node.Expr expr) × HasChain b.store.nodes (entry_nodes_of_body b) expr chain
 
--- the chain of an expression by the scopes that were made, if it has one
-abbrev pub chain_by : Scopes → ExprId → Option Chain
-chain_by s expr = option_map (λ scope. path.chain s.scopes (Some scope)) (map.get s.scope_by_expr expr)
-
 -- the names of entries, each after a space
 abbrev pub entry_text : ScopeEntry → List ℕ
 entry_text entry = 32 ∷ entry.name
@@ -82,7 +55,7 @@ resolved_text None = codes " none"
 resolved_text (Some entry) = codes " = " ++ decimal entry.binding
 
 -- the binding that a name of this hygiene resolves to at an expression
-abbrev pub resolve_text : Option Chain → List ℕ → SyntaxContext → List ℕ
+abbrev pub resolve_text : Option Chain → Name → SyntaxContext → List ℕ
 resolve_text None name hygiene = codes " unreached"
 resolve_text (Some chain) name hygiene = resolved_text (resolve chain name hygiene)
 
@@ -92,7 +65,7 @@ abbrev pub expansion_text : SyntaxContext → List ℕ
 expansion_text (Root edition) = []
 expansion_text (Expansion number) = 32 ∷ decimal number
 
-abbrev pub asked_text : List ℕ → SyntaxContext → List ℕ
+abbrev pub asked_text : Name → SyntaxContext → List ℕ
 asked_text name hygiene = 32 ∷ name ++ expansion_text hygiene
 
 -- A closure that a body reaches has captures; any other expression has none
@@ -109,7 +82,7 @@ captures_text (Some bindings) = codes " =" ++ after_spaces bindings
 abbrev pub chain_answer : ExprId → Option Chain → List ℕ
 chain_answer e known = answer_line (codes "chain ") e (chain_text known)
 
-abbrev pub resolve_answer : ExprId → List ℕ → SyntaxContext → Option Chain → List ℕ
+abbrev pub resolve_answer : ExprId → Name → SyntaxContext → Option Chain → List ℕ
 resolve_answer e name hygiene known =
     answer_line (codes "resolve ") e (asked_text name hygiene ++ resolve_text known name hygiene)
 
@@ -139,7 +112,4 @@ IsAnswer function b (OfBody question) text = IsBodyAnswer function b question te
 -- a body with the name of its function
 pub record NamedBody : Type 0 where
   pub body : BodyContents
-  pub name : Option (List ℕ)
-
-abbrev pub IsAnswerOf : NamedBody → Question → List ℕ → Type 0
-IsAnswerOf named question text = IsAnswer named.name named.body question text
+  pub name : Option Name

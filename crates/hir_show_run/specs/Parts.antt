@@ -1,31 +1,15 @@
 -- The parts of a body that lines have made so far: what is built, the parameters and the name of the
 -- function.
-use Rattle.std.specs.Prelude.{ℕ, List, [], ◌∷◌, ◌++◌, Bool, Option, None, Some, is_some}
+use Rattle.hir_show_run.specs.Prelude.{ℕ, List, [], ◌∷◌, ◌++◌, Option, None, Some, Name, SyntaxContext, ExprOrPatId, expr_or_pat_code, PatId, BindingId, Maker, Nodes, no_nodes, Building, contents_of, and_root, some_roots, Param, BodyContents, body_of, SideTables, no_side_tables}
 use Rattle.std.specs.FinMap as map
-use Rattle.hir_base.specs.declared.hygiene.SyntaxContext.{SyntaxContext}
-use Rattle.hir_path.specs.declared.ids.ExprOrPatId.{ExprOrPatId}
-use Rattle.hir_path.specs.Keys.{expr_or_pat_code}
-use Rattle.hir_path.specs.NodeIds.{PatId, BindingId}
-use Rattle.hir_show_grammar.specs.Makers.{Maker}
 use Rattle.hir_show_grammar.specs.Makers as make
-use Rattle.hir_show_grammar.specs.Taking.{is_second as is_second_of}
-use Rattle.hir_validate.specs.Nodes.{Nodes}
-use Rattle.hir_store.specs.Building.{Building, building_of, contents_of, and_root, some_roots}
-use Rattle.hir_items.specs.declared.formals.Param.{Param}
-use Rattle.hir_items.specs.Bodies.{BodyContents, body_of}
-use Rattle.hir_store_core.specs.declared.side_tables.SideTables.{SideTables}
-use Rattle.hir_store_core.specs.SideTables.{no_side_tables}
-use Rattle.hir_show_run.specs.declared.body_builder.BodyBuilder as code
 
 -- what is built, the self parameter, the other parameters and the name of the function
 pub record Parts : Type 0 where
   pub built : Building
   pub self_param : Option (Param BindingId)
   pub params : List (Param PatId)
-  pub name : Option (List ℕ)
-
-abbrev pub no_nodes : Nodes
-no_nodes = record { exprs = []; pats = []; types = []; bindings = []; labels = []; lifetimes = [] }
+  pub name : Option Name
 
 abbrev pub no_parts : Parts
 no_parts = record {
@@ -34,11 +18,6 @@ no_parts = record {
   params = [];
   name = None;
 }
-
--- the model of the code's `BodyBuilder`
-abbrev pub builder_parts : code.BodyBuilder → Parts
-builder_parts m =
-    record { built = building_of m.builder; self_param = m.self_param; params = m.params; name = m.name }
 
 -- these parts with other nodes
 abbrev pub with_nodes : Parts → Nodes → Parts
@@ -69,37 +48,6 @@ with_line m (make.Param id) = record m { params = m.params ++ as_written id ∷ 
 with_line m (make.FnName name) = record m { name = Some name }
 with_line m make.Roots = record m { built = record m.built { roots = some_roots m.built.roots } }
 with_line m (make.Root id) = record m { built = record m.built { roots = and_root m.built id } }
-
--- whether the line gives a second self parameter or a second name
-abbrev pub is_second : Parts → Maker → Bool
-is_second m maker = is_second_of (is_some m.self_param) (is_some m.name) maker
-
--- `with_line` over the fields of the code's `BodyBuilder`
-abbrev pub with_maker : code.BodyBuilder → Maker → code.BodyBuilder
-with_maker m (make.Binding binding) =
-    record m { builder = record m.builder { bindings = m.builder.bindings ++ binding ∷ [] } }
-with_maker m (make.Pat pat) = record m { builder = record m.builder { pats = m.builder.pats ++ pat ∷ [] } }
-with_maker m (make.TypeRef type_ref) =
-    record m { builder = record m.builder { types = m.builder.types ++ type_ref ∷ [] } }
-with_maker m (make.Expr expr) = record m {
-  builder = record m.builder {
-    exprs = m.builder.exprs
-        ++ expr ∷ [];
-  };
-}
-with_maker m (make.Hygiene id hygiene) =
-    record m {
-      builder = record m.builder {
-        hygiene = map.insert m.builder.hygiene
-            (expr_or_pat_code id) hygiene;
-      };
-    }
-with_maker m (make.SelfParam id) = record m { self_param = Some (as_written id) }
-with_maker m (make.Param id) = record m { params = m.params ++ as_written id ∷ [] }
-with_maker m (make.FnName name) = record m { name = Some name }
-with_maker m make.Roots = record m { builder = record m.builder { roots = some_roots m.builder.roots } }
-with_maker m (make.Root id) =
-    record m { builder = record m.builder { roots = and_root (building_of m.builder) id } }
 
 -- the parts of the body of what was made
 abbrev pub body_parts : Parts → BodyContents

@@ -1,15 +1,9 @@
 -- What is written about the end of a run: the text of each fault.
-use Rattle.std.specs.Prelude.{ℕ, List, [], ◌∷◌, ◌++◌, Option, Some, Result, Ok, Err, codes}
-use Rattle.std.specs.Fmt.{decimal, option_append}
-use Rattle.std.specs.Io.KnownBytes.{Appends}
-use Rattle.hir_show_io.specs.Effects.{AppendsPrefix}
-use Rattle.hir_node.specs.declared.node_id.NodeId.{NodeId}
+use Rattle.hir_show_run.specs.Prelude.{ℕ, List, [], ◌∷◌, ◌++◌, Option, Some, Result, Ok, Err, codes, decimal, option_append, NodeId, FinishFault, body_fault_text}
 use Rattle.hir_node.specs.declared.node_id.NodeId.TheVariants as node
-use Rattle.hir_validate.specs.declared.fault.FinishFault.{FinishFault}
 use Rattle.hir_validate.specs.declared.fault.FinishFault.TheVariants as finish
 use Rattle.hir_validate.specs.contracts.fault.FinishFaultDisplay.TheImpl as finish_fault
 use Rattle.hir_show_run.specs.declared.fault.RunFault.{RunFault}
-use Rattle.hir_items.specs.FaultTexts.{body_fault_text}
 use Rattle.hir_show_run.specs.declared.fault.RunFault.TheVariants.{BadLine, Refused, BodyRefused, InputFailed, OutputFailed, OutOfMemory}
 
 -- the kind of an id and its number
@@ -55,8 +49,3 @@ display_text OutOfMemory = Some (fault_text OutOfMemory)
 abbrev pub text_of : Result (Unit {0}) RunFault → List ℕ
 text_of (Ok done) = []
 text_of (Err fault) = fault_text fault ++ 10 ∷ []
-
--- all of the text was written, or a prefix of it where a write failed
-abbrev pub WritesText : {X E : Type 0} → Option (List ℕ) → Option (List ℕ) → List ℕ → Result X E → Type 0
-WritesText old new text (Ok done) = Appends old new text
-WritesText old new text (Err e) = AppendsPrefix old new text

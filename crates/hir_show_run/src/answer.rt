@@ -4,7 +4,7 @@ ghost use Rattle.std.specs.Prelude.{◌∷◌, ◌<◌, length, codes};
 ghost use Rattle.std.specs.Fmt.{decimal};
 ghost use Rattle.hir_store_core.specs.PatLists.{child_exprs};
 ghost use Rattle.hir_show_run.specs.Answer.{store_answer, answer_line, children_text, root_text, after_spaces};
-ghost use Rattle.hir_show_run.specs.Output.{OutputsText, PutsText, output_of};
+ghost use Rattle.hir_show_run.specs.internal.Output.{OutputsText, PutsText, output_of};
 
 use crate::asking::{Answers, MemoryRefused};
 use crate::output::Output;

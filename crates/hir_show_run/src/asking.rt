@@ -3,9 +3,9 @@
 ghost use Rattle.std.specs.Prelude.{◌≡◌, ◌||◌, ℕ, List, [], Bool, true, false, IfOk, OnErr, OnOk};
 ghost use Rattle.hir_show_grammar.specs.Line.{Ask, line_of};
 ghost use Rattle.hir_show_run.specs.Outcomes.{is_input_failed, is_output_failed};
-ghost use Rattle.hir_show_run.specs.Output.{Untouched, output_of};
-ghost use Rattle.hir_show_run.specs.RunStates.{CountFits, run_state_of};
-ghost use Rattle.hir_show_run.specs.Stages.{Asks, AsksLine, IsAsked, Replies};
+ghost use Rattle.hir_show_run.specs.internal.Output.{Untouched, output_of};
+ghost use Rattle.hir_show_run.specs.internal.RunStates.{CountFits, run_state_of};
+ghost use Rattle.hir_show_run.specs.internal.Stages.{Asks, AsksLine, IsAsked, Replies};
 
 use crate::fault::RunFault;
 use crate::output::Output;

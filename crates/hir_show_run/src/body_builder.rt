@@ -1,7 +1,8 @@
 //! The parts of a body that lines make: a builder, the parameters and the name of the function.
 
 ghost use Rattle.std.specs.Prelude.{◌≡◌};
-ghost use Rattle.hir_show_run.specs.Parts.{builder_parts, no_parts};
+ghost use Rattle.hir_show_run.specs.internal.Parts.{builder_parts};
+ghost use Rattle.hir_show_run.specs.Parts.{no_parts};
 
 use hir_base::{HygieneId, Name, Seq};
 use hir_items::Param;
@@ -45,7 +46,7 @@ impl BodyBuilder {
 
 impl Builder for BodyBuilder {
     ghost use Rattle.std.specs.Prelude.{is_some};
-    ghost use Rattle.hir_show_run.specs.Parts.{with_maker};
+    ghost use Rattle.hir_show_run.specs.internal.Parts.{with_maker};
 
     ghost has_self = { λ b. is_some b.self_param };
 

@@ -5,8 +5,8 @@ ghost use Rattle.std.specs.Prelude.{◌≡◌, List, ℕ, IfOk, IfSome, OnOk, On
 ghost use Rattle.hir_scope.specs.BodyScopes.{AreBodyScopes};
 ghost use Rattle.hir_show_run.specs.Answer.{IsBodyAnswer};
 ghost use Rattle.hir_show_run.specs.Printing.{print_text};
-ghost use Rattle.hir_show_run.specs.OfLines.{AreOfLines};
-ghost use Rattle.hir_show_run.specs.Output.{OutputsText, Untouched};
+ghost use Rattle.hir_show_run.specs.internal.OfLines.{AreOfLines};
+ghost use Rattle.hir_show_run.specs.internal.Output.{OutputsText, Untouched};
 
 use crate::answer::answer_store;
 use crate::asking::{Answers, MemoryRefused};
@@ -35,7 +35,7 @@ impl Model for BodyOfLines {
     ghost use Rattle.std.specs.Prelude.{IfSome};
     ghost use Rattle.hir_scope.specs.BodyScopes.{AreBodyScopes};
     ghost use Rattle.hir_show_run.specs.Answer.{NamedBody};
-    ghost use Rattle.hir_show_run.specs.OfLines.{AreOfLines};
+    ghost use Rattle.hir_show_run.specs.internal.OfLines.{AreOfLines};
 
     ghost Value = { NamedBody };
 
@@ -157,7 +157,7 @@ impl BodyOfLines {
 /// Answers any question.
 impl Answers for BodyOfLines {
     ghost use Rattle.hir_show_grammar.specs.Line.{any_question};
-    ghost use Rattle.hir_show_run.specs.Answer.{IsAnswerOf};
+    ghost use Rattle.hir_show_run.specs.internal.Answer.{IsAnswerOf};
 
     ghost may = { any_question };
 

@@ -2,11 +2,12 @@
 
 ghost use Rattle.std.specs.Prelude.{◌≡◌, ◌||◌, [], OnOk};
 ghost use Rattle.hir_show_run.specs.Outcomes.{is_input_failed};
-ghost use Rattle.hir_show_run.specs.Output.{Untouched};
-ghost use Rattle.hir_show_run.specs.Parts.{builder_parts, no_parts};
-ghost use Rattle.hir_show_run.specs.RunStates.{CountFits, run_state_of};
+ghost use Rattle.hir_show_run.specs.internal.Output.{Untouched};
+ghost use Rattle.hir_show_run.specs.internal.Parts.{builder_parts};
+ghost use Rattle.hir_show_run.specs.Parts.{no_parts};
+ghost use Rattle.hir_show_run.specs.internal.RunStates.{CountFits, run_state_of};
 ghost use Rattle.hir_show_run.specs.Run.{no_lines};
-ghost use Rattle.hir_show_run.specs.Stages.{Builds, BuildsLine};
+ghost use Rattle.hir_show_run.specs.internal.Stages.{Builds, BuildsLine};
 
 use crate::asking::asked_by;
 use crate::body_builder::BodyBuilder;

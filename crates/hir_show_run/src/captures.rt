@@ -3,7 +3,7 @@
 ghost use Rattle.std.specs.Prelude.{Some, None, List, Option, ℕ, OnOk, OnErr};
 ghost use Rattle.hir_scope.specs.BodyScopes.{AreBodyScopes};
 ghost use Rattle.hir_show_run.specs.Answer.{AreCapturesOf, captures_answer, after_spaces};
-ghost use Rattle.hir_show_run.specs.Output.{OutputsText, Untouched};
+ghost use Rattle.hir_show_run.specs.internal.Output.{OutputsText, Untouched};
 
 use crate::asking::MemoryRefused;
 use crate::output::Output;

@@ -5,9 +5,9 @@ ghost use Rattle.std.specs.Prelude.{◌≡◌, ◌+◌, ◌≤◌, ◌∷◌, �
 ghost use Rattle.std.specs.Fmt.{decimal};
 ghost use Rattle.hir_show_io.specs.NextLine.{is_found, is_failed_input, is_failed_output};
 ghost use Rattle.hir_show_run.specs.Outcomes.{is_output_failed};
-ghost use Rattle.hir_show_run.specs.Output.{output_of, OutputsText, Untouched};
-ghost use Rattle.hir_show_run.specs.RunStates.{CountFits, TakesNext, run_state_of};
-ghost use Rattle.hir_show_run.specs.Stages.{Accepts, Closes};
+ghost use Rattle.hir_show_run.specs.internal.Output.{output_of, OutputsText, Untouched};
+ghost use Rattle.hir_show_run.specs.internal.RunStates.{CountFits, TakesNext, run_state_of};
+ghost use Rattle.hir_show_run.specs.internal.Stages.{Accepts, Closes};
 
 use crate::fault::RunFault;
 use hir_node::ExprId;

@@ -2,8 +2,8 @@
 
 ghost use Rattle.std.specs.Prelude.{◌≡◌, IfOk, OnOk, OnErr, string_bytes};
 ghost use Rattle.std.specs.Option.{option_copied};
-ghost use Rattle.hir_show_run.specs.OfLines.{AreOfLines};
-ghost use Rattle.hir_show_run.specs.Output.{OutputsText, Untouched};
+ghost use Rattle.hir_show_run.specs.internal.OfLines.{AreOfLines};
+ghost use Rattle.hir_show_run.specs.internal.Output.{OutputsText, Untouched};
 ghost use Rattle.hir_show_run.specs.Printing.{tables_of, body_text, print_text};
 
 use crate::asking::MemoryRefused;

@@ -8,11 +8,11 @@ ghost use Rattle.hir_items.specs.Bodies.{body_of};
 ghost use Rattle.hir_store.specs.Building.{building_of};
 ghost use Rattle.hir_show_run.specs.Faults.{status_of};
 ghost use Rattle.hir_show_run.specs.Outcomes.{is_input_failed, is_output_failed};
-ghost use Rattle.hir_show_run.specs.Output.{output_of};
-ghost use Rattle.hir_show_run.specs.RunStates.{run_state_of};
+ghost use Rattle.hir_show_run.specs.internal.Output.{output_of};
+ghost use Rattle.hir_show_run.specs.internal.RunStates.{run_state_of};
 ghost use Rattle.hir_show_run.specs.Program.{Outcome};
 ghost use Rattle.hir_show_run.specs.Run.{IsRun, Unfailed, no_lines};
-ghost use Rattle.hir_show_run.specs.Stages.{Finishes, IsBodyOf, RunsUpTo};
+ghost use Rattle.hir_show_run.specs.internal.Stages.{Finishes, IsBodyOf, RunsUpTo};
 ghost use Rattle.hir_show_run.specs.Texts.{text_of};
 
 use crate::asking::answer_lines;

@@ -7,7 +7,8 @@ ghost use Rattle.std.specs.Io.KnownBytes.{Appends};
 ghost use Rattle.hir_show_io.specs.Effects.{AppendsPrefix};
 ghost use Rattle.hir_show_run.specs.Faults.{status_of};
 ghost use Rattle.hir_items.specs.FaultTexts.{body_fault_text};
-ghost use Rattle.hir_show_run.specs.Texts.{fault_text, finish_fault_text, node_text, text_of, WritesText};
+ghost use Rattle.hir_show_run.specs.Texts.{fault_text, finish_fault_text, node_text, text_of};
+ghost use Rattle.hir_show_run.specs.internal.Texts.{WritesText};
 
 use crate::fault::RunFault;
 use hir_items::BodyFault;

@@ -3,8 +3,9 @@
 ghost use Rattle.std.specs.Prelude.{◌<◌, ◌∷◌, Some, length};
 ghost use Rattle.hir_scope.specs.Paths.{chain, frame_at};
 ghost use Rattle.hir_scope.specs.Resolution.{resolve, entries_of};
-ghost use Rattle.hir_show_run.specs.Answer.{asked_text, chain_answer, chain_by, chain_text, expansion_text, names_text, resolve_answer, resolve_text, resolved_text};
-ghost use Rattle.hir_show_run.specs.Output.{OutputsText};
+ghost use Rattle.hir_show_run.specs.Answer.{asked_text, chain_answer, chain_text, expansion_text, names_text, resolve_answer, resolve_text, resolved_text};
+ghost use Rattle.hir_show_run.specs.internal.Answer.{chain_by};
+ghost use Rattle.hir_show_run.specs.internal.Output.{OutputsText};
 
 use crate::output::Output;
 use hir_base::{HygieneId, Name, SyntaxContext};

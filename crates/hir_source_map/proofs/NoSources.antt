@@ -7,7 +7,7 @@ use Rattle.hir_source_map.specs.declared.source_map.ExpressionStoreSourceMap.{Ex
 use Rattle.hir_base.specs.Table.{by_code}
 use Rattle.hir_source_map.specs.Sources.{source_key, id_key, no_expr_sources, has_news, list_or_none}
 use Rattle.hir_source_map.specs.Lookups.{entry, patterns_in, expansions_in, diagnostics_in}
-use Rattle.hir_source_map.specs.NoSources.{HasNoSources}
+use Rattle.hir_source_map.specs.internal.NoSources.{HasNoSources}
 
 -- what gives v where there are no entries gives it where the part isn't kept or has none
 of_no_entries : {V : Type 0} (f : Option ExprSources → V) (v : V) → f None ≡ v → f (Some no_expr_sources) ≡ v → (m : Option ExprSources) → unwrap_or m no_expr_sources ≡ no_expr_sources → f m ≡ v

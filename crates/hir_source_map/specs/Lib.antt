@@ -4,11 +4,13 @@ pub mod Sources
 pub mod Additions
 -- what each lookup returns
 pub mod Lookups
--- when a source map has nothing in its expression part
-pub mod NoSources
 -- macro calls with their expansions
 pub mod Calls
 -- the part that `==` compares
 pub mod ComparedPart
+-- what the files here import of std and of lower crates, from one place
+pub mod Prelude
+-- what only contracts within this crate cite
+pub mod internal
 -- proofs alone, of equality
 pub mod same

@@ -40,7 +40,7 @@ impl Drop for ExpressionStoreSourceMap {
 }
 
 impl ExpressionStoreSourceMap {
-    ghost use Rattle.hir_source_map.specs.NoSources.{HasNoSources};
+    ghost use Rattle.hir_source_map.specs.internal.NoSources.{HasNoSources};
     ghost use Rattle.hir_source_map.specs.Lookups.{expr_at, pat_at, label_at, type_at, expansion_at, expr_source, pat_source, expr_or_pat_source, label_source, type_source, field_source, pat_field_source, or_synthetic, patterns_for, expansions_of, diagnostics_of};
 
     /// Returns the expression part, if it is kept and has memory. Otherwise the part has no entries.

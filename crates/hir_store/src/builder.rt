@@ -20,8 +20,8 @@ use hir_node::{
 };
 use hir_rare::LazyBox;
 use hir_source_map::{ExpressionStoreSourceMap, SourceMapBuilder};
-use hir_store_core::{ExpressionStore, KeptParts, RootList, SideTables, StoreParts};
-use hir_validate::{FinishFault, NodeSlices};
+use hir_store_core::{ExpressionStore, KeptParts, RootList, SideTables};
+use hir_validate::{FinishFault, NodeSlices, Nodes};
 use std::alloc::{AllocError, AllocFailed, Global};
 use std::fmt::{self, Display};
 use std::mem::replace;
@@ -342,22 +342,25 @@ impl ExpressionStoreBuilder {
             roots,
             alloc,
         } = self;
-        let side_tables = SideTables {
-            owners,
-            hygiene,
-            blocks: block_scopes,
-        };
-        let store = ExpressionStore::new(StoreParts {
+        let nodes = Nodes {
             exprs,
             pats,
             types,
             bindings,
             labels,
             lifetimes,
-            roots: roots_or_none(alloc, roots),
-            side_tables: kept_side_tables(alloc, keeps_exprs, side_tables),
+        };
+        let side_tables = SideTables {
+            owners,
+            hygiene,
+            blocks: block_scopes,
+        };
+        let store = ExpressionStore::new(
+            nodes,
+            roots_or_none(alloc, roots),
+            kept_side_tables(alloc, keeps_exprs, side_tables),
             kept,
-        });
+        );
         (store, source_map.finish(keeps_exprs))
     }
 }

@@ -24,7 +24,7 @@ use Rattle.hir_node.specs.declared.type_ref.TypeRef.{TypeRef}
 use Rattle.hir_node.specs.declared.type_ref.TypeRef.TheVariants as type
 use Rattle.hir_store_core.specs.declared.anon_consts.ConstFinder.{ConstFinder}
 use Rattle.hir_store_core.specs.JumpTargets.{is_const_call, has_const}
-use Rattle.hir_store_core.specs.AnonConsts.{expr_has_const, pat_has_const, type_has_const}
+use Rattle.hir_store_core.specs.internal.AnonConsts.{expr_has_const, pat_has_const, type_has_const}
 
 -- the calls are made with no anonymous constant
 abbrev pub NoConst : List Call → Type 0

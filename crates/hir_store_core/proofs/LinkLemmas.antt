@@ -15,7 +15,8 @@ use Rattle.hir_validate.proofs.SoundLemmas.{sound_falls}
 use Rattle.hir_validate.proofs.RecursionLemmas.{parent_in_range}
 use Rattle.hir_store_core.specs.declared.pat_links.PatLink.{PatLink}
 use Rattle.hir_store_core.specs.declared.pat_links.PatLink.TheVariants.{Next, Last, Alone}
-use Rattle.hir_store_core.specs.PatLinks.{children_at, IsOnce, EachHasOnePlace, link_at, link_children, AreLinked}
+use Rattle.hir_store_core.specs.PatLinks.{children_at, IsOnce, EachHasOnePlace, link_at, AreLinked}
+use Rattle.hir_store_core.specs.internal.PatLinks.{link_children}
 use Rattle.hir_store_core.specs.Under.{itself}
 use Rattle.hir_store_core.proofs.ApartLemmas.{one_parent, children_apart, contains_read}
 

@@ -10,7 +10,7 @@ use Rattle.hir_store_core.specs.declared.jump_roles.JumpRole.{JumpRole}
 use Rattle.hir_store_core.specs.declared.jump_roles.JumpRole.TheVariants.{Closure, Loop, Block, Other}
 use Rattle.hir_store_core.specs.Ancestors.{parent, and_on, ancestors}
 use Rattle.hir_store_core.specs.JumpTargets.{is_const_of, up_to_const, expr_of, exprs_around, role_at, nearest, is_closure, enclosing_closure, target_by_role}
-use Rattle.hir_store_core.specs.Sought.{unless_const, parent_in_code}
+use Rattle.hir_store_core.specs.internal.Sought.{unless_const, parent_in_code}
 use Rattle.hir_store_core.proofs.AncestorLemmas.{ancestors_is}
 
 -- the search from a node on

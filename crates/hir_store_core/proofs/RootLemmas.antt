@@ -11,7 +11,8 @@ use Rattle.hir_validate.specs.Faults.{RootedNodes, ends_of}
 use Rattle.hir_validate.specs.Sound.{RootsStandApart}
 use Rattle.hir_store_core.specs.declared.root_search.EndOf.{EndOf}
 use Rattle.hir_store_core.specs.declared.root_search.EndOf.TheVariants as ends
-use Rattle.hir_store_core.specs.RootSearch.{end_of, exceeds, end_at, EndsRise}
+use Rattle.hir_store_core.specs.RootSearch.{end_of, exceeds}
+use Rattle.hir_store_core.specs.internal.RootSearch.{end_at, EndsRise}
 
 -- half of fewer than 2 ^ m is fewer than 2 ^ (m - 1)
 pub half_is_fewer : (w v m : ℕ) → 0 < w → v + v ≤ w → w < 2 ^ m → (n : ℕ) × (suc n ≡ m) × (v < 2 ^ n)

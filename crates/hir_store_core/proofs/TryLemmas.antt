@@ -6,7 +6,8 @@ use Rattle.std.proofs.lemmas.List.Concat.{flat_map-append}
 use Rattle.hir_node.specs.Runs.{Runs, no_call, a_call, MayRun}
 use Rattle.hir_node.proofs.ChildPatLemmas.{folds_on}
 use Rattle.hir_node.proofs.RunLemmas.{may_then}
-use Rattle.hir_store_core.specs.Tries.{Stops, Tries, TriesAfter}
+use Rattle.hir_store_core.specs.Tries.{Stops, Tries}
+use Rattle.hir_store_core.specs.internal.Tries.{TriesAfter}
 
 -- the step of an item that goes on
 abbrev pub goes : {P A E : Type 0} → (P → A → Result (Unit {0}) E → P → Type 0) → P → A → P → Type 0

@@ -12,7 +12,7 @@ use Rattle.hir_store_core.specs.declared.pat_turns.Turn.{Turn}
 use Rattle.hir_store_core.specs.declared.pat_turns.Turn.TheVariants.{Enter, Leave}
 use Rattle.hir_store_core.specs.PatLists.{child_pats_of, pats, bindings_at, bindings_in, exprs_in}
 use Rattle.hir_store_core.specs.PatLinks.{link_at, AreLinked, HasPatLinks}
-use Rattle.hir_store_core.specs.PatTurns.{pat_of, turns_step, turns, entered_pat, exprs_left, turn_within, turn_by, turn_after}
+use Rattle.hir_store_core.specs.internal.PatTurns.{pat_of, turns_step, turns, entered_pat, exprs_left, turn_within, turn_by, turn_after}
 use Rattle.hir_store_core.proofs.PatLemmas.{pats_agree, flat_map-twice, pats_unfold, exprs_in_parted}
 use Rattle.hir_store_core.proofs.WalkLemmas.{IsBelow, pats_below}
 

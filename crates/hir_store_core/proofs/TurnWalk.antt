@@ -12,7 +12,7 @@ use Rattle.hir_store_core.specs.declared.pat_turns.Turn.TheVariants.{Enter, Leav
 use Rattle.hir_store_core.specs.PatLists.{child_pats_of}
 use Rattle.hir_store_core.specs.PatLinks.{HasPatLinks}
 use Rattle.hir_store_core.specs.Tries.{Tries}
-use Rattle.hir_store_core.specs.PatTurns.{pat_of, turns, turn_after}
+use Rattle.hir_store_core.specs.internal.PatTurns.{pat_of, turns, turn_after}
 use Rattle.hir_store_core.proofs.TryLemmas.{goes, Trying, trying_from, trying_on, trying_refused, trying_ended}
 use Rattle.hir_store_core.proofs.TurnLemmas.{Follows, at_top, turns_is, behind_in_range, follows, steps_step, steps, steps_is}
 

@@ -1,38 +1,34 @@
 -- owners of bindings, hygiene of paths, blocks that may hold items
 pub mod SideTables
--- the kept parts of a store without nodes
-pub mod KeptParts
 -- the model of a store: its contents, and what an accepted store promises
 pub mod Contents
--- the contents of a store that is made of parts
-pub mod StoreParts
 -- the descendants of a node, and the nodes that are reached from entry nodes
 pub mod Under
 -- the parent of a node, its ancestors, and what encloses it
 pub mod Ancestors
 -- the loop or block that a `break` or a `continue` leaves
 pub mod JumpTargets
--- which child of a node is an anonymous constant of it
-pub mod AnonConsts
--- what a search around an expression looks for, and where it ends
-pub mod Sought
 -- the patterns, bindings and expressions of a pattern, and the children of an expression
 pub mod PatLists
 -- the root that an id was made for
 pub mod RootSearch
 -- sets of nodes
 pub mod NodeSets
--- the path of a bound
-pub mod Bounds
 -- the blocks with the maps of their items
 pub mod Blocks
+-- the path of a bound
+pub mod Bounds
 -- the text of a missing fact
 pub mod MissingTexts
 -- walks that stop at the first refusal
 pub mod Tries
 -- the links from each pattern to what comes after it
 pub mod PatLinks
--- the turns of a walk over the patterns of a pattern
-pub mod PatTurns
+-- the kept parts of a store without nodes
+pub mod KeptParts
+-- what the files here import of std and of lower crates, from one place
+pub mod Prelude
+-- what only contracts within this crate cite
+pub mod internal
 -- proofs that `==` decides whether two values are the same
 pub mod same

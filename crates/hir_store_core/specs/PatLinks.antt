@@ -1,11 +1,6 @@
 -- The links of patterns: from each child of a pattern to the next one, and from the last one back to the
 -- pattern.
-use Rattle.std.specs.Prelude.{◌≡◌, ◌<◌, List, [], ◌∷◌, ⊤, length, set, slice_index_or, Contains}
-use Rattle.std.specs.List.{flat_map}
-use Rattle.hir_path.specs.NodeIds.{PatId}
-use Rattle.hir_node.specs.declared.pat.Pat.{Pat}
-use Rattle.hir_node.specs.ChildCalls.{pat_of_call, pat_calls}
-use Rattle.hir_validate.specs.Nodes.{calls_at}
+use Rattle.hir_store_core.specs.Prelude.{◌≡◌, ◌<◌, List, [], ◌∷◌, ⊤, length, slice_index_or, Contains, flat_map, PatId, Pat, pat_of_call, pat_calls, calls_at}
 use Rattle.hir_store_core.specs.declared.pat_links.PatLink.{PatLink}
 use Rattle.hir_store_core.specs.declared.pat_links.PatLink.TheVariants.{Next, Last, Alone}
 
@@ -27,12 +22,6 @@ pub record EachHasOnePlace (pats : List Pat) : Type 0 where
 -- the link of a pattern
 abbrev pub link_at : List PatLink → PatId → PatLink
 link_at links p = slice_index_or links p Alone
-
--- the links with those of the children of a pattern
-abbrev pub link_children : PatId → List PatId → List PatLink → List PatLink
-link_children m [] links = links
-link_children m (k ∷ []) links = set links k (Last m)
-link_children m (k ∷ q ∷ more) links = link_children m (q ∷ more) (set links k (Next q))
 
 -- each of these children of a pattern is linked to the next one, and the last one to the pattern
 abbrev pub AreLinked : List PatLink → PatId → List PatId → Type 0

@@ -1,11 +1,6 @@
 -- Root search: the first root whose end exceeds an id, and how many ends are read until it is found.
-use Rattle.std.specs.Prelude.{ℕ, Bool, ◌<◌, ◌≤◌, ◌^◌, nat_lt, List, length, slice_index_or, Option}
-use Rattle.std.specs.Option.{option_map}
+use Rattle.hir_store_core.specs.Prelude.{ℕ, Bool, ◌<◌, ◌≤◌, ◌^◌, nat_lt, List, Option, option_map, ExprId, PatId, BindingId, Ends, Root}
 use Rattle.std.specs.List.{find}
-use Rattle.hir_path.specs.NodeIds.{ExprId, PatId, BindingId}
-use Rattle.hir_forest.specs.declared.roots.Ends.{Ends}
-use Rattle.hir_forest.specs.declared.roots.Root.{Root}
-use Rattle.hir_forest.specs.Faults.{no_ends}
 use Rattle.hir_store_core.specs.declared.root_search.EndOf.{EndOf}
 use Rattle.hir_store_core.specs.declared.root_search.EndOf.TheVariants as ends
 
@@ -36,11 +31,3 @@ root_for_binding = root_for ends.Bindings
 -- that suffice to write it
 abbrev pub AtMostDigitsOf : ℕ → ℕ → Type 0
 AtMostDigitsOf n steps = (k : ℕ) → n < 2 ^ k → steps ≤ k
-
--- the end of a root in the list
-abbrev pub end_at : EndOf → List Root → ℕ → ℕ
-end_at kind roots i = end_of kind (slice_index_or roots i record { node = 0; ends = no_ends }).ends
-
--- no end is less than one before it
-abbrev pub EndsRise : EndOf → List Root → Type 0
-EndsRise kind roots = (i j : ℕ) → i ≤ j → j < length roots → end_at kind roots i ≤ end_at kind roots j

@@ -1,6 +1,5 @@
 -- A walk that can stop: items are tried one after the other, up to the first that is refused.
-use Rattle.std.specs.Prelude.{◌≡◌, List, ◌∷◌, ◌++◌, Result, Ok, Err, OnOk, IfErr}
-use Rattle.std.specs.List.{FoldsTo}
+use Rattle.hir_store_core.specs.Prelude.{◌≡◌, List, ◌∷◌, ◌++◌, Result, Ok, Err, OnOk, IfErr, FoldsTo}
 
 -- the items of a prefix were accepted, and the one after them was refused with this; none after that one was
 -- tried
@@ -13,9 +12,3 @@ pub record Tries {P A E : Type 0} (step : P → A → Result (Unit {0}) E → P
     → Type 0) (p : P) (xs : List A) (r : Result (Unit {0}) E) (q : P) : Type 0 where
   pub ok : OnOk r (FoldsTo (λ u y v. step u y (Ok tt) v) p xs q)
   pub err : IfErr r (λ e. Stops step p xs e q)
-
--- what holds where items are tried after a result: a refusal stays, and nothing is tried
-abbrev pub TriesAfter : {P A E : Type 0} → (P → A → Result (Unit {0}) E → P → Type 0) → Result (Unit {0}) E
-    → P → List A → Result (Unit {0}) E → P → Type 0
-TriesAfter step (Ok done) p xs r q = Tries step p xs r q
-TriesAfter step (Err e) p xs r q = (r ≡ Err e) × (q ≡ p)

@@ -5,7 +5,7 @@
 ghost use Rattle.std.specs.Prelude.{◌≡◌, ◌||◌};
 ghost use Rattle.hir_node.specs.ChildCalls.{args_calls, path_calls};
 ghost use Rattle.hir_store_core.specs.JumpTargets.{is_const_call, has_const};
-ghost use Rattle.hir_store_core.specs.AnonConsts.{expr_has_const, pat_has_const, type_has_const};
+ghost use Rattle.hir_store_core.specs.internal.AnonConsts.{expr_has_const, pat_has_const, type_has_const};
 
 use hir_node::{
     Array, Expr, ExprId, GenericArgs, LifetimeRefId, Pat, PatId, Path, StoreVisitor,

@@ -5,7 +5,7 @@ ghost use Rattle.std.specs.Prelude.{◌≡◌};
 ghost use Rattle.hir_node.specs.declared.node_id.NodeId.TheVariants as node;
 ghost use Rattle.hir_validate.specs.Nodes.{calls_of};
 ghost use Rattle.hir_store_core.specs.JumpTargets.{has_const, is_const_of, role_at, is_loop, nearest, nearest_in_closure, if_passes, left_by, enclosing_closure, enclosing_loop, jump_target};
-ghost use Rattle.hir_store_core.specs.Sought.{passes, passes_alone, parent_in_code};
+ghost use Rattle.hir_store_core.specs.internal.Sought.{passes, passes_alone, parent_in_code};
 
 use crate::anon_consts::{expr_has_const, pat_has_const, type_has_const};
 use crate::jump_roles::JumpRole;

@@ -2,7 +2,6 @@
 ghost use Rattle.std.specs.Prelude.{◌≡◌};
 
 use crate::pat_links::PatLinks;
-use crate::zip_ok::zip_ok;
 use hir_base::TryClone;
 use hir_forest::Parents;
 use hir_rare::Empty;
@@ -19,7 +18,8 @@ impl Clone for KeptParts {
     ghost is_clone = { λ kept copy. copy ≡ kept };
 
     fn clone(&self) -> Result<KeptParts, AllocError> {
-        let (parents, links) = zip_ok(self.parents.clone()?, self.links.clone())?;
+        let parents = self.parents.clone()?;
+        let links = self.links.clone()?;
         Ok(KeptParts { parents, links })
     }
 }

@@ -29,7 +29,6 @@ mod try_walks;
 mod under;
 mod visits;
 mod walks;
-mod zip_ok;
 
 pub use ancestors::Ancestors;
 pub use blocks::Blocks;
@@ -39,7 +38,7 @@ pub use missing::Missing;
 pub use pat_links::PatLinks;
 pub use root_list::RootList;
 pub use side_tables::SideTables;
-pub use store::{ExpressionStore, StoreParts};
+pub use store::ExpressionStore;
 pub use store_iter::ExprRoots;
 pub use stored::Stored;
 pub use under::NodeSet;

@@ -4,7 +4,7 @@
 
 ghost use Rattle.std.specs.Prelude.{◌≡◌};
 ghost use Rattle.hir_store_core.specs.PatLists.{own_exprs};
-ghost use Rattle.hir_store_core.specs.Tries.{TriesAfter};
+ghost use Rattle.hir_store_core.specs.internal.Tries.{TriesAfter};
 
 use hir_node::{ExprId, LifetimeRefId, PatId, StoreVisitor, TypeRefId};
 

@@ -3,7 +3,8 @@
 
 ghost use Rattle.std.specs.Prelude.{◌≡◌, ◌<◌, ◌≤◌, [], All, length, IfOk};
 ghost use Rattle.hir_node.specs.ChildCalls.{child_pats};
-ghost use Rattle.hir_store_core.specs.PatLinks.{link_at, link_children, HasPatLinks, EachHasOnePlace};
+ghost use Rattle.hir_store_core.specs.PatLinks.{link_at, HasPatLinks, EachHasOnePlace};
+ghost use Rattle.hir_store_core.specs.internal.PatLinks.{link_children};
 
 use hir_node::{Pat, PatId};
 use std::alloc::{AllocError, Global};

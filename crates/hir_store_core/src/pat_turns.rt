@@ -7,7 +7,7 @@ ghost use Rattle.hir_node.specs.Runs.{MayRun};
 ghost use Rattle.hir_store_core.specs.PatLinks.{HasPatLinks};
 ghost use Rattle.hir_store_core.specs.PatLists.{child_pats_of};
 ghost use Rattle.hir_store_core.specs.Tries.{Tries};
-ghost use Rattle.hir_store_core.specs.PatTurns.{turn_within, turn_behind, turns};
+ghost use Rattle.hir_store_core.specs.internal.PatTurns.{turn_within, turn_behind, turns};
 
 use crate::pat_links::{PatLink, PatLinks};
 use crate::store::ExpressionStore;

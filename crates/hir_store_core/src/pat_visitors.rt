@@ -9,7 +9,7 @@ ghost use Rattle.hir_node.specs.declared.node_id.NodeId.TheVariants as node;
 ghost use Rattle.hir_validate.specs.Nodes.{calls_of};
 ghost use Rattle.hir_store_core.specs.PatLists.{bindings_at, own_exprs};
 ghost use Rattle.hir_store_core.specs.Tries.{Tries};
-ghost use Rattle.hir_store_core.specs.PatTurns.{pat_of, entered_pat, exprs_left};
+ghost use Rattle.hir_store_core.specs.internal.PatTurns.{pat_of, entered_pat, exprs_left};
 
 use crate::own_exprs::OwnExprs;
 use crate::pat_turns::TurnVisitor;

@@ -2,7 +2,8 @@
 //! decrease.
 
 ghost use Rattle.std.specs.Prelude.{◌≡◌, ◌+◌, ◌-◌, ◌<◌, ◌≤◌, ℕ, length, slice_get, option_map};
-ghost use Rattle.hir_store_core.specs.RootSearch.{end_of, root_for, end_at, EndsRise, AtMostDigitsOf};
+ghost use Rattle.hir_store_core.specs.RootSearch.{end_of, root_for, AtMostDigitsOf};
+ghost use Rattle.hir_store_core.specs.internal.RootSearch.{end_at, EndsRise};
 
 use hir_base::Steps;
 use hir_forest::{Ends, Root};

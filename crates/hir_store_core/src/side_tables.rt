@@ -2,7 +2,6 @@
 
 ghost use Rattle.std.specs.Prelude.{◌≡◌};
 
-use crate::zip_ok::zip_ok;
 use hir_base::{BlockId, ExactEq, HygieneId, Seq, Table, TryClone};
 use hir_node::{BindingId, ExprId, ExprOrPatId};
 use hir_rare::LazyBox;
@@ -45,8 +44,9 @@ impl Clone for SideTables {
     ghost is_clone = { λ side_tables copy. copy ≡ side_tables };
 
     fn clone(&self) -> Result<SideTables, AllocError> {
-        let copy = zip_ok(self.owners.try_clone()?, self.hygiene.try_clone())?;
-        let ((owners, hygiene), blocks) = zip_ok(copy, self.blocks.try_clone())?;
+        let owners = self.owners.try_clone()?;
+        let hygiene = self.hygiene.try_clone()?;
+        let blocks = self.blocks.try_clone()?;
         Ok(SideTables {
             owners,
             hygiene,

@@ -12,16 +12,15 @@ use crate::kept_parts::KeptParts;
 use crate::root_list::RootList;
 use crate::side_tables::SideTables;
 use crate::store_iter::ExprRoots;
-use crate::zip_ok::zip_ok;
-use hir_base::{Arena, ArenaIter, ExactEq, TryClone};
+use hir_base::{ArenaIter, ExactEq, TryClone};
 use hir_forest::Root;
 use hir_node::{
-    Binding, BindingId, BindingKind, Expr, ExprId, ExprKind, Label, LabelId, LabelKind,
-    LifetimeRef, LifetimeRefId, LifetimeRefKind, Pat, PatId, PatKind, Path, PathId, TypeBound,
-    TypeRef, TypeRefId, TypeRefKind,
+    Binding, BindingId, BindingKind, Expr, ExprId, ExprKind, Label, LabelId, LifetimeRef,
+    LifetimeRefId, LifetimeRefKind, Pat, PatId, PatKind, Path, PathId, TypeBound, TypeRef,
+    TypeRefId, TypeRefKind,
 };
 use hir_rare::LazyBox;
-use hir_validate::{NodeSlices, Sizes, as_path};
+use hir_validate::{NodeSlices, Nodes, Sizes, as_path};
 use std::alloc::{AllocError, Global};
 use std::marker::Model;
 use std::ops::Index;
@@ -30,12 +29,7 @@ use std::ops::Index;
 /// names exists, and the nodes are a forest. `ExpressionStoreBuilder::finish` makes it. It keeps the parent
 /// of each node, which `finish` has to find, and for walks over patterns what comes after each pattern.
 pub struct ExpressionStore {
-    exprs: Arena<ExprKind, Expr>,
-    pats: Arena<PatKind, Pat>,
-    types: Arena<TypeRefKind, TypeRef>,
-    bindings: Arena<BindingKind, Binding>,
-    labels: Arena<LabelKind, Label>,
-    lifetimes: Arena<LifetimeRefKind, LifetimeRef>,
+    nodes: Nodes,
     roots: RootList,
     side_tables: SideTables,
     kept: LazyBox<KeptParts>,
@@ -46,12 +40,7 @@ pub struct ExpressionStore {
 impl Drop for ExpressionStore {
     fn drop(self) {
         let ExpressionStore {
-            exprs,
-            pats,
-            types,
-            bindings,
-            labels,
-            lifetimes,
+            nodes,
             roots,
             side_tables,
             kept,
@@ -65,119 +54,65 @@ impl Model for ExpressionStore {
     ghost Value = { Contents };
 
     ghost use Rattle.std.specs.Coded.{codes};
-    ghost use Rattle.hir_path.specs.contracts.path.GenericArgs as args;
+    ghost use Rattle.hir_validate.specs.contracts.node_arenas.Nodes as listed;
     ghost use Rattle.hir_store_core.specs.contracts.side_tables.SideTables as said;
 
-    ghost coded = { Prim.hlevel (codes, args.the_row.coded, said.the_row.coded) };
+    ghost coded = { Prim.hlevel (codes, listed.the_row.coded, said.the_row.coded) };
 
     ghost view = { λ s. record {
-      nodes = record {
-        exprs = s.exprs;
-        pats = s.pats;
-        types = s.types;
-        bindings = s.bindings;
-        labels = s.labels;
-        lifetimes = s.lifetimes;
-      };
+      nodes = s.nodes;
       roots = s.roots;
       side_tables = s.side_tables;
     } };
 
     ghost invariant = { λ s. IsStore record {
-      nodes = record {
-        exprs = s.exprs;
-        pats = s.pats;
-        types = s.types;
-        bindings = s.bindings;
-        labels = s.labels;
-        lifetimes = s.lifetimes;
-      };
+      nodes = s.nodes;
       roots = s.roots;
       side_tables = s.side_tables;
     } s.kept };
 }
 
-/// The parts of a store: the nodes and what they name, the roots, the side tables, and what follows from the
-/// nodes and is kept.
-#[derive(Drop)]
-pub struct StoreParts {
-    pub exprs: Arena<ExprKind, Expr>,
-    pub pats: Arena<PatKind, Pat>,
-    pub types: Arena<TypeRefKind, TypeRef>,
-    pub bindings: Arena<BindingKind, Binding>,
-    pub labels: Arena<LabelKind, Label>,
-    pub lifetimes: Arena<LifetimeRefKind, LifetimeRef>,
-    pub roots: RootList,
-    pub side_tables: SideTables,
-    pub kept: LazyBox<KeptParts>,
-}
-
 impl ExpressionStore {
-    ghost use Rattle.hir_store_core.specs.Contents.{no_contents, contents_fault, IsStore};
+    ghost use Rattle.hir_store_core.specs.Contents.{no_contents, contents_of_parts, contents_fault, IsStore};
     ghost use Rattle.hir_validate.specs.Faults.{nodes_in};
     ghost use Rattle.hir_validate.specs.Nodes.{graph, sizes_of};
     ghost use Rattle.hir_validate.specs.Sizes.{Few};
     ghost use Rattle.hir_forest.specs.Parents.{HasParents};
     ghost use Rattle.hir_store_core.specs.PatLinks.{HasPatLinks};
-    ghost use Rattle.hir_store_core.specs.StoreParts.{contents_of_parts};
 
     /// Returns a store of these parts. A caller has to prove that they have no fault, and that what is kept
-    /// follows from them: a builder tests the nodes once.
-    pub fn new(parts: StoreParts) -> ExpressionStore
-        requires { IsStore (contents_of_parts parts) parts.kept }
-        ensures { result ≡ contents_of_parts parts }
+    /// follows from the nodes: a builder tests these once.
+    pub fn new(
+        nodes: Nodes,
+        roots: RootList,
+        side_tables: SideTables,
+        kept: LazyBox<KeptParts>,
+    ) -> ExpressionStore
+        requires { IsStore (contents_of_parts nodes roots side_tables) kept }
+        ensures { result ≡ contents_of_parts nodes roots side_tables }
     {
-        let StoreParts {
-            exprs,
-            pats,
-            types,
-            bindings,
-            labels,
-            lifetimes,
-            roots,
-            side_tables,
-            kept,
-        } = parts;
+        // As they are: the invariant is what a caller has proved.
         ExpressionStore {
-            exprs,
-            pats,
-            types,
-            bindings,
-            labels,
-            lifetimes,
+            nodes,
             roots,
             side_tables,
             kept,
         }
     }
 
-    /// Returns ownership of the parts. They still are a store's, so `new` takes them as they are.
-    pub fn into_parts(self) -> StoreParts
-        ensures contents { contents_of_parts result ≡ self }
-        ensures store { IsStore (contents_of_parts result) result.kept }
+    /// Returns ownership of the parts, in the order of `new`. They still are a store's, so `new` takes them
+    /// as they are.
+    pub fn into_parts(self) -> (Nodes, RootList, SideTables, LazyBox<KeptParts>)
+        ensures contents { contents_of_parts result.0 result.1 result.2 ≡ self }
+        ensures store { IsStore (contents_of_parts result.0 result.1 result.2) result.3 }
     {
         let ExpressionStore {
-            exprs,
-            pats,
-            types,
-            bindings,
-            labels,
-            lifetimes,
+            nodes,
             roots,
             side_tables,
             kept,
         } = self;
-        StoreParts {
-            exprs,
-            pats,
-            types,
-            bindings,
-            labels,
-            lifetimes,
-            roots,
-            side_tables,
-            kept,
-        }
+        (nodes, roots, side_tables, kept)
     }
 
     /// Returns an empty store, without an allocation.
@@ -185,12 +120,7 @@ impl ExpressionStore {
         ensures { result ≡ no_contents }
     {
         ExpressionStore {
-            exprs: Arena::new(alloc),
-            pats: Arena::new(alloc),
-            types: Arena::new(alloc),
-            bindings: Arena::new(alloc),
-            labels: Arena::new(alloc),
-            lifetimes: Arena::new(alloc),
+            nodes: Nodes::new(alloc),
             roots: RootList::new(alloc),
             side_tables: SideTables::new(alloc),
             kept: LazyBox::new(alloc),
@@ -201,7 +131,7 @@ impl ExpressionStore {
     pub fn has_no_fault(&self)
         ensures { contents_fault self.now None }
     {
-        let _ = &self.exprs;
+        let _ = &self.nodes;
     }
 
     /// Returns the roots with their ends.
@@ -223,14 +153,7 @@ impl ExpressionStore {
         ensures nodes { nodes_in result ≡ self.now.nodes }
         ensures few { Few (sizes_of (nodes_in result)) }
     {
-        NodeSlices {
-            exprs: self.exprs.as_slice(),
-            pats: self.pats.as_slice(),
-            types: self.types.as_slice(),
-            bindings: self.bindings.as_slice(),
-            labels: self.labels.as_slice(),
-            lifetimes: self.lifetimes.as_slice(),
-        }
+        self.nodes.as_slices()
     }
 
     /// Returns the number of items of each arena.
@@ -254,42 +177,42 @@ impl ExpressionStore {
     pub fn has_expr(&self, id: ExprId) -> bool
         ensures { IsTrue result ↔ (id < length self.now.nodes.exprs) }
     {
-        self.exprs.has(id)
+        self.nodes.exprs.has(id)
     }
 
     /// Returns whether a pattern of this id exists.
     pub fn has_pat(&self, id: PatId) -> bool
         ensures { IsTrue result ↔ (id < length self.now.nodes.pats) }
     {
-        self.pats.has(id)
+        self.nodes.pats.has(id)
     }
 
     /// Returns whether a type of this id exists.
     pub fn has_type(&self, id: TypeRefId) -> bool
         ensures { IsTrue result ↔ (id < length self.now.nodes.types) }
     {
-        self.types.has(id)
+        self.nodes.types.has(id)
     }
 
     /// Returns whether a binding of this id exists.
     pub fn has_binding(&self, id: BindingId) -> bool
         ensures { IsTrue result ↔ (id < length self.now.nodes.bindings) }
     {
-        self.bindings.has(id)
+        self.nodes.bindings.has(id)
     }
 
     /// Returns whether a label of this id exists.
     pub fn has_label(&self, id: LabelId) -> bool
         ensures { IsTrue result ↔ (id < length self.now.nodes.labels) }
     {
-        self.labels.has(id)
+        self.nodes.labels.has(id)
     }
 
     /// Returns whether a lifetime of this id exists.
     pub fn has_lifetime(&self, id: LifetimeRefId) -> bool
         ensures { IsTrue result ↔ (id < length self.now.nodes.lifetimes) }
     {
-        self.lifetimes.has(id)
+        self.nodes.lifetimes.has(id)
     }
 
     /// Returns whether the type of this id exists and is a path.
@@ -326,35 +249,35 @@ impl ExpressionStore {
     pub fn exprs(&self) -> ArenaIter<'_, ExprKind, Expr>
         ensures { result ≡ enumerate_from 0 self.now.nodes.exprs }
     {
-        self.exprs.iter()
+        self.nodes.exprs.iter()
     }
 
     /// Returns the patterns with their ids, in their order. It can be taken from both ends.
     pub fn pats(&self) -> ArenaIter<'_, PatKind, Pat>
         ensures { result ≡ enumerate_from 0 self.now.nodes.pats }
     {
-        self.pats.iter()
+        self.nodes.pats.iter()
     }
 
     /// Returns the bindings with their ids, in their order. It can be taken from both ends.
     pub fn bindings(&self) -> ArenaIter<'_, BindingKind, Binding>
         ensures { result ≡ enumerate_from 0 self.now.nodes.bindings }
     {
-        self.bindings.iter()
+        self.nodes.bindings.iter()
     }
 
     /// Returns the types with their ids, in their order. It can be taken from both ends.
     pub fn types(&self) -> ArenaIter<'_, TypeRefKind, TypeRef>
         ensures { result ≡ enumerate_from 0 self.now.nodes.types }
     {
-        self.types.iter()
+        self.nodes.types.iter()
     }
 
     /// Returns the lifetimes with their ids, in their order. It can be taken from both ends.
     pub fn lifetimes(&self) -> ArenaIter<'_, LifetimeRefKind, LifetimeRef>
         ensures { result ≡ enumerate_from 0 self.now.nodes.lifetimes }
     {
-        self.lifetimes.iter()
+        self.nodes.lifetimes.iter()
     }
 
     /// Returns the roots in their order. It can be taken from both ends.
@@ -374,7 +297,7 @@ impl Index<ExprId> for ExpressionStore {
     ghost index_gives = { λ store id item. slice_get store.nodes.exprs id ≡ Some item };
 
     fn index(&self, id: ExprId) -> &Expr {
-        &self.exprs[id]
+        &self.nodes.exprs[id]
     }
 }
 
@@ -387,7 +310,7 @@ impl Index<PatId> for ExpressionStore {
     ghost index_gives = { λ store id item. slice_get store.nodes.pats id ≡ Some item };
 
     fn index(&self, id: PatId) -> &Pat {
-        &self.pats[id]
+        &self.nodes.pats[id]
     }
 }
 
@@ -400,7 +323,7 @@ impl Index<LabelId> for ExpressionStore {
     ghost index_gives = { λ store id item. slice_get store.nodes.labels id ≡ Some item };
 
     fn index(&self, id: LabelId) -> &Label {
-        &self.labels[id]
+        &self.nodes.labels[id]
     }
 }
 
@@ -413,7 +336,7 @@ impl Index<BindingId> for ExpressionStore {
     ghost index_gives = { λ store id item. slice_get store.nodes.bindings id ≡ Some item };
 
     fn index(&self, id: BindingId) -> &Binding {
-        &self.bindings[id]
+        &self.nodes.bindings[id]
     }
 }
 
@@ -426,7 +349,7 @@ impl Index<TypeRefId> for ExpressionStore {
     ghost index_gives = { λ store id item. slice_get store.nodes.types id ≡ Some item };
 
     fn index(&self, id: TypeRefId) -> &TypeRef {
-        &self.types[id]
+        &self.nodes.types[id]
     }
 }
 
@@ -439,7 +362,7 @@ impl Index<LifetimeRefId> for ExpressionStore {
     ghost index_gives = { λ store id item. slice_get store.nodes.lifetimes id ≡ Some item };
 
     fn index(&self, id: LifetimeRefId) -> &LifetimeRef {
-        &self.lifetimes[id]
+        &self.nodes.lifetimes[id]
     }
 }
 
@@ -452,7 +375,7 @@ impl Index<PathId> for ExpressionStore {
     ghost index_gives = { λ store id path. path_at store.nodes.types id ≡ Some path };
 
     fn index(&self, id: PathId) -> &Path {
-        match as_path(&self.types[id.type_ref()]) {
+        match as_path(&self.nodes.types[id.type_ref()]) {
             Some(path) => path,
             None => unreachable!(),
         }
@@ -463,23 +386,12 @@ impl Clone for ExpressionStore {
     ghost is_clone = { λ store copy. copy ≡ store };
 
     fn clone(&self) -> Result<ExpressionStore, AllocError> {
-        let copy = zip_ok(self.exprs.try_clone()?, self.pats.try_clone())?;
-        let copy = zip_ok(copy, self.types.try_clone())?;
-        let copy = zip_ok(copy, self.bindings.try_clone())?;
-        let copy = zip_ok(copy, self.labels.try_clone())?;
-        let copy = zip_ok(copy, self.lifetimes.try_clone())?;
-        let copy = zip_ok(copy, self.roots.try_clone())?;
-        let copy = zip_ok(copy, self.side_tables.try_clone())?;
-        let (copy, kept) = zip_ok(copy, self.kept.try_clone())?;
-        let (((((((exprs, pats), types), bindings), labels), lifetimes), roots), side_tables) =
-            copy;
+        let nodes = self.nodes.try_clone()?;
+        let roots = self.roots.try_clone()?;
+        let side_tables = self.side_tables.try_clone()?;
+        let kept = self.kept.try_clone()?;
         Ok(ExpressionStore {
-            exprs,
-            pats,
-            types,
-            bindings,
-            labels,
-            lifetimes,
+            nodes,
             roots,
             side_tables,
             kept,
@@ -497,12 +409,7 @@ impl PartialEq for ExpressionStore {
     ghost laws = { stores_per };
 
     fn eq(&self, other: &ExpressionStore) -> bool {
-        self.exprs == other.exprs
-            && self.pats == other.pats
-            && self.types == other.types
-            && self.bindings == other.bindings
-            && self.labels == other.labels
-            && self.lifetimes == other.lifetimes
+        self.nodes == other.nodes
             && self.roots == other.roots
             && self.side_tables == other.side_tables
     }

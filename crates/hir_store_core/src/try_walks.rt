@@ -7,7 +7,8 @@ ghost use Rattle.std.specs.Prelude.{◌≡◌, ◌<◌, IsTrue, length};
 ghost use Rattle.hir_validate.specs.Sizes.{is_in_range};
 ghost use Rattle.hir_validate.specs.Nodes.{sizes_of};
 ghost use Rattle.hir_store_core.specs.PatLists.{pats, bindings_in, exprs_from, exprs_in, child_exprs, child_exprs_without_pats};
-ghost use Rattle.hir_store_core.specs.Tries.{Tries, TriesAfter};
+ghost use Rattle.hir_store_core.specs.Tries.{Tries};
+ghost use Rattle.hir_store_core.specs.internal.Tries.{TriesAfter};
 
 use crate::own_exprs::OwnExprs;
 use crate::pat_visitors::{BindingVisitor, ExprsLeft, PatVisitor};

@@ -6,7 +6,7 @@ use Rattle.std.specs.FinMap as map
 use Rattle.std.specs.Ordering.{nat_cmp, eq_by_cmp, is_eq, MatchOrdering}
 use Rattle.std.specs.{Prelude.is_some, Prelude.◌||◌, declared.cmp.Ordering.Ordering}
 use Rattle.hir_captures.specs.{Captures.with_new}
-use Rattle.hir_usages.specs.{walk.Marks.is_listed, walk.Marks.AreMarks}
+use Rattle.hir_usages.specs.internal.Marks.{is_listed, AreMarks}
 
 or_true : (b : Bool) → (b || (true || false)) ≡ true
 or_true true = refl

@@ -10,8 +10,8 @@ use Rattle.hir_captures.specs.Uses.{Spot}
 use Rattle.hir_usages.specs.Visits.{visits_under, visits}
 use Rattle.hir_usages.specs.Usages.{usages_in, usages_of_body, bound_in, bound_by_body}
 use Rattle.hir_usages.specs.declared.{to_visit.Task.Task, usage.Usage.Usage, walk.Walk.Walk}
-use Rattle.hir_usages.specs.walk.Pending.{AreInRange, visits_of}
-use Rattle.hir_usages.specs.walk.Reading.{FoundLists, with_tasks, with_visits}
+use Rattle.hir_usages.specs.internal.Pending.{AreInRange, visits_of}
+use Rattle.hir_usages.specs.internal.Reading.{FoundLists, with_tasks, with_visits}
 use Rattle.hir_usages.proofs.WalkLemmas.{added, added_bound}
 
 abbrev pub first_tasks : List ℕ → ℕ → List Task

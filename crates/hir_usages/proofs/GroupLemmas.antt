@@ -11,7 +11,7 @@ use Rattle.hir_usages.specs.Usages.{FoundUsages, resolves_to, is_binding, usages
 use Rattle.hir_items.specs.Bodies.{BodyContents}
 use Rattle.hir_scope.specs.Scopes.{Scopes}
 use Rattle.hir_usages.specs.declared.usage.Usage.{Usage}
-use Rattle.hir_usages.specs.walk.Groups.{AreGroups, or_none}
+use Rattle.hir_usages.specs.Groups.{AreGroups, or_none}
 
 -- 1. Groups
 

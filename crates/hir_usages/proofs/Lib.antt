@@ -10,5 +10,5 @@ pub mod KeptLemmas
 pub mod UseLemmas
 pub mod RenamedLemmas
 pub mod ConflictLemmas
-pub mod PartLemmas
+pub mod ChangeLemmas
 pub mod StoreLemmas

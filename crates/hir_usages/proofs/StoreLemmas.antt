@@ -11,7 +11,7 @@ use Rattle.hir_forest.specs.{Faults.forest_fault, Parents.HasParents}
 use Rattle.hir_validate.specs.declared.{sizes.Sizes.Sizes}
 use Rattle.hir_validate.specs.{Nodes.Nodes, Nodes.sizes_of, Nodes.graph, TestedParts.TestedParts, TestedParts.tested_expr, TestedParts.tested_pat, TestedParts.tested_type}
 use Rattle.hir_validate.specs.Faults.{ends_of, node_fault, nothing_tested, first_of, first_bad_node, graph_fault, rooted_fault}
-use Rattle.hir_store_core.specs.{Contents.Contents, Contents.IsStore, Contents.contents_fault, PatLinks.HasPatLinks, PatLinks.AreLinked, Under.LiesUnderOther}
+use Rattle.hir_store_core.specs.{Contents.Contents, Contents.IsStore, Contents.contents_fault, Contents.contents_of_parts, PatLinks.HasPatLinks, PatLinks.AreLinked, Under.LiesUnderOther}
 use Rattle.hir_store_core.specs.declared.kept_parts.KeptParts.{KeptParts}
 use Rattle.hir_items.specs.declared.formals.Param.{Param}
 use Rattle.hir_items.specs.Bodies.{BodyContents, body_of, body_fault, fault_at_root, last_root, apart_fault, AreBelow}
@@ -21,9 +21,9 @@ use Rattle.hir_usages.specs.Renamed.{change_at, renamed_expr, renamed_pat, renam
 use Rattle.hir_usages.specs.Usages.{usages_of, usages_of_body}
 use Rattle.hir_usages.specs.declared.usage.Usage.{Usage}
 use Rattle.hir_usages.proofs.AlikeLemmas.{Alike, alike, graph_same, changed_length, children_at_same}
-use Rattle.hir_store_core.specs.StoreParts.{contents_of_parts}
-use Rattle.hir_store_core.specs.declared.store.StoreParts.{StoreParts}
-use Rattle.hir_usages.proofs.PartLemmas.{changed, parts_changed, parts_kept}
+use Rattle.hir_store_core.specs.declared.side_tables.SideTables.{SideTables}
+use Rattle.hir_usages.specs.internal.RenamedUses.{rename_use}
+use Rattle.hir_usages.proofs.ChangeLemmas.{uses_are_paths}
 use Rattle.hir_usages.proofs.RenamedLemmas.{has_before, under_before, as_many}
 
 -- 1. Each node has no fault.
@@ -126,14 +126,12 @@ module _ (x : ℕ) (n : List ℕ) (us : List Usage) (s : Nodes) where
     links = links_kept kept (subst (λ (y : Nodes). HasPatLinks y.pats kept.links) is h.links);
   }
 
--- the changed parts of a store are a store's
-pub parts_are_store : (n : List ℕ) (x : ℕ) (us : List Usage) (parts later : StoreParts) → IsStore (contents_of_parts parts) parts.kept → later ≡ changed n x us parts → IsStore (contents_of_parts later) later.kept
-parts_are_store n x us parts later h is =
-    let c = contents_of_parts parts in
-    let kept : IsStore (with_nodes c (renamed_nodes n x us c.nodes)) parts.kept = store_kept x n us c.nodes c refl parts.kept h in
-    let same : with_nodes c (renamed_nodes n x us c.nodes) ≡ contents_of_parts later = sym (parts_changed n x us parts) ∙ ap contents_of_parts (sym is) in
-    let same_kept : parts.kept ≡ later.kept = sym (parts_kept n x us parts) ∙ ap (λ (p : StoreParts). p.kept) (sym is) in
-    subst (IsStore (contents_of_parts later)) same_kept (subst (λ (d : Contents). IsStore d parts.kept) same kept)
+-- the nodes of a store in which a binding and its uses are renamed, with what else it has, are a store's
+pub renamed_is_store : (n : List ℕ) (x : ℕ) (us : List Usage) (s later : Nodes) (roots : List Root) (side_tables : SideTables) (kept : KeptParts) →
+    IsStore (contents_of_parts s roots side_tables) kept → later ≡ fold (rename_use n) (rename_binding n s x) us → IsStore (contents_of_parts later roots side_tables) kept
+renamed_is_store n x us s later roots side_tables kept h is =
+    let same : renamed_nodes n x us s ≡ later = sym (uses_are_paths n (rename_binding n s x) us) ∙ sym is in
+    subst (λ (u : Nodes). IsStore (contents_of_parts u roots side_tables) kept) same (store_kept x n us s (contents_of_parts s roots side_tables) refl kept h)
 
 -- 3. The body
 

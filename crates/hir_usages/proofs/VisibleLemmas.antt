@@ -13,7 +13,8 @@ use Rattle.hir_node.specs.same.Leaves.{hygienes_decide}
 use Rattle.hir_scope.specs.{Frames.Chain, Resolution.matches, Resolution.find_entry, Resolution.entries_of, Resolution.resolve}
 use Rattle.hir_scope.specs.declared.scope.ScopeEntry.{ScopeEntry}
 use Rattle.hir_scope.specs.{Paths.chain, Scopes.Scope}
-use Rattle.hir_usages.specs.{Visible.with_new_name, Visible.visible_in, walk.Seen.AreSeen, walk.Seen.is_key}
+use Rattle.hir_usages.specs.Visible.{with_new_name, visible_in}
+use Rattle.hir_usages.specs.internal.Seen.{AreSeen, is_key}
 use Rattle.hir_usages.proofs.RenameLemmas.{GoesOutward, chain_step, of_some_scope}
 
 pub asked : (n : List ℕ) (h : SyntaxContext) (e : ScopeEntry) → Decides (matches n h e) ((e.hygiene ≡ h) × (e.name ≡ n))

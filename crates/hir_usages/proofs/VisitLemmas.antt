@@ -13,7 +13,7 @@ use Rattle.hir_scope.proofs.ChildLemmas.{met_children}
 use Rattle.hir_captures.specs.Uses.{Spot, spot, of_pattern, assignment_at}
 use Rattle.hir_usages.specs.Visits.{children_in_order, visit_child, visit_step, visits_under}
 use Rattle.hir_usages.specs.declared.to_visit.Task.{Task}
-use Rattle.hir_usages.specs.walk.Pending.{tasks_of, task_node, visits_of, AreInRange}
+use Rattle.hir_usages.specs.internal.Pending.{tasks_of, task_node, visits_of, AreInRange}
 
 -- 1. The visits under a node
 

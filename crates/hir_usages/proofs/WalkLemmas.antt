@@ -17,8 +17,8 @@ use Rattle.hir_node.specs.OtherIds.{pat_bindings}
 use Rattle.hir_validate.specs.TestedParts.{all_of}
 use Rattle.hir_usages.specs.Usages.{usage_with, usages_of_expr, usages_of_pat, usages_at, usages_in, bound_at, bound_in}
 use Rattle.hir_usages.specs.declared.{to_visit.Task.Task, to_visit.ToVisit.ToVisit, usage.Usage.Usage, walk.Walk.Walk}
-use Rattle.hir_usages.specs.walk.Pending.{task_of, tasks_of, pat_task, task_node, task_target, visits_of, AreInRange}
-use Rattle.hir_usages.specs.walk.Reading.{FoundLists, with_visit, with_visits, with_tasks, Reads}
+use Rattle.hir_usages.specs.internal.Pending.{task_of, tasks_of, pat_task, task_node, task_target, visits_of, AreInRange}
+use Rattle.hir_usages.specs.internal.Reading.{FoundLists, with_visit, with_visits, with_tasks, Reads}
 use Rattle.hir_usages.proofs.VisitLemmas.{visits_left, children_in_range}
 use Rattle.hir_usages.specs.Visits.{visits_under}
 

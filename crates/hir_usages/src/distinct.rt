@@ -19,7 +19,7 @@ pub(crate) struct DistinctBindings {
 
 impl Model for DistinctBindings {
     ghost use Rattle.std.specs.Prelude.{List, ℕ};
-    ghost use Rattle.hir_usages.specs.walk.Marks.{AreMarks};
+    ghost use Rattle.hir_usages.specs.internal.Marks.{AreMarks};
 
     ghost Value = { List ℕ };
 

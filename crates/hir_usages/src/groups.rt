@@ -5,7 +5,7 @@ ghost use Rattle.std.specs.Prelude.{◌≡◌, ◌==◌, ◌∷◌, ◌++◌, []
 ghost use Rattle.hir_captures.specs.Captures.{with_new};
 ghost use Rattle.hir_usages.specs.Usages.{is_unused, unused_among};
 ghost use Rattle.hir_usages.specs.declared.usage.Usage.{Usage};
-ghost use Rattle.hir_usages.specs.walk.Groups.{AreGroups, or_none};
+ghost use Rattle.hir_usages.specs.Groups.{AreGroups, or_none};
 ghost use Rattle.std.specs.FinMap as map;
 
 use crate::distinct::DistinctBindings;

@@ -1,12 +1,12 @@
 //! The body in which a binding has a new name.
-#![tactic(auto, using(crate::proofs::PartLemmas::changing))]
+#![tactic(auto, using(crate::proofs::ChangeLemmas::changing))]
 
 ghost use Rattle.std.specs.Prelude.{◌≡◌, ◌⊎◌, None, Some, IfErr, IfOk, OnOk, fold, unwrap_or};
 ghost use Rattle.hir_scope.specs.BodyScopes.{AreBodyScopes};
 ghost use Rattle.hir_usages.specs.Kept.{IsWhyNot, MayBeRenamed};
-ghost use Rattle.hir_usages.specs.Renamed.{change_at, renamed_binding, renamed_body, renamed_expr, renamed_nodes, renamed_pat, renamed_path, with_nodes};
+ghost use Rattle.hir_usages.specs.Renamed.{change_at, rename_binding, rename_path, renamed_binding, renamed_body, renamed_expr, renamed_nodes, renamed_pat, renamed_path, with_nodes};
 ghost use Rattle.hir_usages.specs.Renames.{rename_fault};
-ghost use Rattle.hir_usages.specs.walk.Parts.{with_binding, with_path, with_usage};
+ghost use Rattle.hir_usages.specs.internal.RenamedUses.{rename_use};
 
 use crate::rename_fault::RenameFault;
 use crate::renames::rename;
@@ -17,7 +17,8 @@ use hir_node::{
     Binding, BindingId, BindingKind, Expr, ExprId, ExprKind, ExprOrPatId, Pat, PatId, PatKind, Path,
 };
 use hir_scope::ExprScopes;
-use hir_store_core::{ExpressionStore, StoreParts};
+use hir_store_core::ExpressionStore;
+use hir_validate::Nodes;
 use std::alloc::{AllocError, Global};
 
 /// Returns the path of one name, where a path has no arguments, and none for any other path, which stays.
@@ -112,28 +113,28 @@ fn rename_binding(
 }
 
 /// Gives a path the new name.
-fn rename_path(parts: &mut StoreParts, path: ExprOrPatId, name: &Name) -> Result<(), AllocError>
-    ensures { OnOk result (parts.new ≡ with_path name.now parts.old path) }
+fn rename_path(nodes: &mut Nodes, path: ExprOrPatId, name: &Name) -> Result<(), AllocError>
+    ensures { OnOk result (nodes.new ≡ rename_path name.now nodes.old path) }
 {
     match path {
-        ExprOrPatId::ExprId(id) => rename_expr(&mut parts.exprs, id, name),
-        ExprOrPatId::PatId(id) => rename_pat(&mut parts.pats, id, name),
+        ExprOrPatId::ExprId(id) => rename_expr(&mut nodes.exprs, id, name),
+        ExprOrPatId::PatId(id) => rename_pat(&mut nodes.pats, id, name),
     }
 }
 
 /// Gives a binding and the paths of these uses the new name.
-fn rename_parts(
-    parts: &mut StoreParts,
+fn rename_nodes(
+    nodes: &mut Nodes,
     usages: &[Usage],
     binding: BindingId,
     name: &Name,
 ) -> Result<(), AllocError>
-    ensures { OnOk result (parts.new
-        ≡ fold (with_usage name.now) (with_binding name.now parts.old binding) usages.now) }
+    ensures { OnOk result (nodes.new
+        ≡ fold (rename_use name.now) (rename_binding name.now nodes.old binding) usages.now) }
 {
-    rename_binding(&mut parts.bindings, binding, name)?;
+    rename_binding(&mut nodes.bindings, binding, name)?;
     for usage in usages {
-        rename_path(parts, usage.path, name)?;
+        rename_path(nodes, usage.path, name)?;
     }
     Ok(())
 }
@@ -149,9 +150,9 @@ fn renamed_store(
         ≡ with_nodes store.now (renamed_nodes name.now binding usages.now store.now.nodes)) }
 {
     let copy = store.try_clone()?;
-    let mut parts = copy.into_parts();
-    rename_parts(&mut parts, usages, binding, name)?;
-    Ok(ExpressionStore::new(parts))
+    let (mut nodes, roots, side_tables, kept) = copy.into_parts();
+    rename_nodes(&mut nodes, usages, binding, name)?;
+    Ok(ExpressionStore::new(nodes, roots, side_tables, kept))
 }
 
 /// Returns a copy of a body in which a binding has a new name, and so have its uses, as `rename` returns

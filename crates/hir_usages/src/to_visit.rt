@@ -6,7 +6,7 @@ ghost use Rattle.hir_node.specs.ChildCalls.{pat_calls, type_calls};
 ghost use Rattle.hir_stack.specs.Stacks.{Defers};
 ghost use Rattle.hir_scope.specs.ScopingForms.{expr_form};
 ghost use Rattle.hir_scope.specs.Order.{met_in_form};
-ghost use Rattle.hir_usages.specs.walk.Pending.{task_of, tasks_of};
+ghost use Rattle.hir_usages.specs.internal.Pending.{task_of, tasks_of};
 
 use hir_node::{Expr, ExprId, LifetimeRefId, Pat, PatId, StoreVisitor, TypeRef, TypeRefId};
 use hir_scope::visit_in_scope_order;

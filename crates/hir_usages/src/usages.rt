@@ -3,7 +3,7 @@ ghost use Rattle.std.specs.Prelude.{◌≡◌, ◌++◌, [], map, option_map, If
 ghost use Rattle.std.specs.Option.{option_to_list};
 ghost use Rattle.hir_items.specs.Bodies.{formals_of};
 ghost use Rattle.hir_usages.specs.Visits.{visits};
-ghost use Rattle.hir_usages.specs.walk.Pending.{AreInRange, visits_of};
+ghost use Rattle.hir_usages.specs.internal.Pending.{AreInRange, visits_of};
 ghost use Rattle.hir_usages.specs.Usages.{bound_by_body, found_in_body, unresolved_in, usages_of, usages_of_body};
 ghost use Rattle.hir_usages.specs.declared.to_visit.Task.TheVariants as task;
 ghost use Rattle.std.specs.Slice.Iter.{iter_rest};
@@ -33,7 +33,7 @@ pub struct Usages {
 
 impl Model for Usages {
     ghost use Rattle.hir_usages.specs.Usages.{FoundUsages};
-    ghost use Rattle.hir_usages.specs.walk.Groups.{AreGroups};
+    ghost use Rattle.hir_usages.specs.Groups.{AreGroups};
 
     ghost Value = { FoundUsages };
 

@@ -22,7 +22,7 @@ impl<'a> Model for VisibleEntries<'a> {
     ghost use Rattle.std.specs.Prelude.{List, map};
     ghost use Rattle.std.specs.HashSet.{contains_by};
     ghost use Rattle.hir_scope.specs.declared.scope.ScopeEntry.{ScopeEntry};
-    ghost use Rattle.hir_usages.specs.walk.Seen.{AreSeen, is_key};
+    ghost use Rattle.hir_usages.specs.internal.Seen.{AreSeen, is_key};
 
     ghost Value = { List ScopeEntry };
 

@@ -6,8 +6,8 @@ ghost use Rattle.hir_node.specs.declared.node_id.NodeId.TheVariants as node;
 ghost use Rattle.hir_scope.specs.PathResolution.{local_name};
 ghost use Rattle.hir_captures.specs.Uses.{if_assignment};
 ghost use Rattle.hir_usages.specs.Usages.{bound_at, usage_with, usages_at};
-ghost use Rattle.hir_usages.specs.walk.Pending.{AreInRange, pat_task};
-ghost use Rattle.hir_usages.specs.walk.Reading.{Reads, lists_of, with_tasks};
+ghost use Rattle.hir_usages.specs.internal.Pending.{AreInRange, pat_task};
+ghost use Rattle.hir_usages.specs.internal.Reading.{Reads, lists_of, with_tasks};
 
 use crate::found::Found;
 use crate::to_visit::{Task, ToVisit};

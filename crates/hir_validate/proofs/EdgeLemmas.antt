@@ -16,7 +16,7 @@ use Rattle.hir_validate.specs.declared.sizes.Sizes.{Sizes}
 use Rattle.hir_validate.specs.Sizes.{Few, is_in_range, place, places}
 use Rattle.hir_validate.specs.TestedParts.{TestedParts, tested_expr, tested_pat, tested_type}
 use Rattle.hir_validate.specs.Nodes.{Nodes, sizes_of, graph}
-use Rattle.hir_validate.specs.Edges.{HasRoomForNodes, CanNote, NotesIds, Notes, CanVisit, VisitsNodes, all_tested}
+use Rattle.hir_validate.specs.internal.Edges.{HasRoomForNodes, CanNote, NotesIds, Notes, CanVisit, VisitsNodes, all_tested}
 use Rattle.hir_validate.proofs.RangeLemmas.{and_true, and_assoc}
 use Rattle.hir_validate.proofs.FaultLemmas.{map-map, graph-is}
 

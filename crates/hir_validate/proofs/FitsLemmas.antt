@@ -18,7 +18,8 @@ use Rattle.hir_node.specs.declared.type_ref.TypeRef.TheVariants as type
 use Rattle.hir_node.specs.ChildCalls.{Call, e, t, opt, arg_calls, args_calls, binding_calls, bound_calls}
 use Rattle.hir_node.proofs.ArgsCalls.{args_calls_is, binding_calls_is}
 use Rattle.hir_validate.specs.Sizes.{is_in_range}
-use Rattle.hir_validate.specs.TestedParts.{is_path_at, all_of, option_all, bound_paths, args_paths, binding_paths, args_give_self, binding_gives_self}
+use Rattle.hir_validate.specs.TestedParts.{is_path_at, all_of, option_all, bound_paths, args_paths, args_give_self}
+use Rattle.hir_validate.specs.internal.TestedParts.{binding_paths, binding_gives_self}
 use Rattle.hir_validate.specs.Nodes.{Nodes, sizes_of}
 use Rattle.hir_validate.specs.Faults.{RootedNodes, rooted_fault}
 use Rattle.hir_validate.proofs.TypePartsLemmas.{args_paths_is, binding_paths_is, args_give_self_is, binding_gives_self_is}

@@ -6,7 +6,7 @@ use Rattle.hir_node.specs.Runs.{Runs, no_call, a_call, MayRun}
 use Rattle.hir_node.proofs.RunLemmas.{may_always}
 use Rattle.hir_validate.specs.declared.range.InRange.{InRange}
 use Rattle.hir_validate.specs.Sizes.{is_in_range}
-use Rattle.hir_validate.specs.Ranges.{Tests}
+use Rattle.hir_validate.specs.internal.Ranges.{Tests}
 
 pub and_true : (b : Bool) → b ≡ (b && true)
 and_true true = refl

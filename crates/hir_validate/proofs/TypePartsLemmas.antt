@@ -10,8 +10,9 @@ use Rattle.hir_path.specs.declared.path.AssociatedTypeBinding.TheShapes.{former-
 use Rattle.hir_path.specs.declared.path.Path.{Path}
 use Rattle.hir_path.specs.declared.path.Path.TheVariants as path
 use Rattle.hir_path.specs.declared.bound.TypeBound.{TypeBound}
-use Rattle.hir_validate.specs.TypeParts.{may_have_args, IsFine}
-use Rattle.hir_validate.specs.TestedParts.{HeldParts, bound_paths, args_paths, binding_paths, all_of, option_all, args_give_self, binding_gives_self, self_given, binding_paths_layer, args_paths_layer, binding_self_layer, args_self_layer}
+use Rattle.hir_validate.specs.internal.TypeParts.{may_have_args, IsFine}
+use Rattle.hir_validate.specs.TestedParts.{HeldParts, bound_paths, args_paths, all_of, option_all, args_give_self, self_given, binding_paths_layer, args_paths_layer, binding_self_layer, args_self_layer}
+use Rattle.hir_validate.specs.internal.TestedParts.{binding_paths, binding_gives_self}
 
 flat_map_of_map : {X A : Type 0} (f : X → List A) (xs : List X) → flat_map (λ piece. piece) (map f xs) ≡ flat_map f xs
 flat_map_of_map f [] = refl

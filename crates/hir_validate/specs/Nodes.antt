@@ -1,25 +1,15 @@
 -- Defines the nodes of a store, by their ids, and the graph of their children.
-use Rattle.std.specs.Prelude.{ℕ, List, ◌++◌, map, length, slice_get}
-use Rattle.hir_node.specs.declared.expr.Expr.{Expr}
-use Rattle.hir_node.specs.declared.pat.Pat.{Pat}
-use Rattle.hir_node.specs.declared.type_ref.TypeRef.{TypeRef}
-use Rattle.hir_node.specs.declared.type_ref.LifetimeRef.{LifetimeRef}
-use Rattle.hir_node.specs.declared.binding.Binding.{Binding}
-use Rattle.hir_node.specs.declared.binding.Label.{Label}
-use Rattle.hir_node.specs.ChildCalls.{Call, expr_calls, pat_calls, type_calls, opt, children}
-use Rattle.hir_node.specs.declared.node_id.NodeId.{NodeId}
+-- Lists of expressions, patterns and types, and of bindings, labels and lifetimes: the struct `Nodes`, which a
+-- contract sees as the record of its six lists, `exprs`, `pats`, `types`, `bindings`, `labels` and `lifetimes`.
+use Rattle.hir_validate.specs.Prelude.{ℕ, List, [], ◌++◌, map, length, slice_get, Call, expr_calls, pat_calls, type_calls, opt, children, NodeId}
 use Rattle.hir_node.specs.declared.node_id.NodeId.TheVariants as node
 use Rattle.hir_validate.specs.declared.sizes.Sizes.{Sizes}
 use Rattle.hir_validate.specs.Sizes.{HasNode, places}
+pub use Rattle.hir_validate.specs.declared.node_arenas.Nodes.{Nodes}
 
--- expressions, patterns and types, and bindings, labels and lifetimes
-pub record Nodes : Type 0 where
-  pub exprs : List Expr
-  pub pats : List Pat
-  pub types : List TypeRef
-  pub bindings : List Binding
-  pub labels : List Label
-  pub lifetimes : List LifetimeRef
+-- empty lists
+abbrev pub no_nodes : Nodes
+no_nodes = record { exprs = []; pats = []; types = []; bindings = []; labels = []; lifetimes = [] }
 
 abbrev pub sizes_of : Nodes → Sizes
 sizes_of s = record {

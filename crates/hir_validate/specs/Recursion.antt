@@ -1,8 +1,6 @@
 -- Defines recursion over a store: a rank that decreases from each node to its children, and definitions of a
 -- node's value by its children' values.
-use Rattle.std.specs.Prelude.{◌≡◌, ◌<◌, ℕ, zero, suc, List, [], ◌∷◌, ⊤, Contains}
-use Rattle.hir_forest.specs.Height.{height}
-use Rattle.hir_node.specs.declared.node_id.NodeId.{NodeId}
+use Rattle.hir_validate.specs.Prelude.{◌≡◌, ◌<◌, ℕ, zero, suc, List, [], ◌∷◌, ⊤, Contains, height, NodeId}
 use Rattle.hir_validate.specs.Sizes.{place}
 use Rattle.hir_validate.specs.Nodes.{Nodes, sizes_of, Has, children_of, graph}
 
@@ -22,6 +20,8 @@ fold_down_within step default zero n = default
 fold_down_within step default (suc depth) n = step (fold_down_within step default depth) n
 
 -- the value of a node by a step: no path down is longer than the rank
+-- fold_down s step default n = step (fold_down s step default) n: theorem fold_down_unfold, where the step depends
+-- on children alone and the store has no fault
 unfoldable pub fold_down : {A : Type 0} → Nodes → ((NodeId → A) → NodeId → A) → A → NodeId → A
 fold_down s step default n = fold_down_within step default (suc (rank s n)) n
 

@@ -1,24 +1,11 @@
 -- Defines the parts of a node that are tested: its child calls, the other ids that it names, and what it
 -- holds, which is a path, generic arguments and bounds.
-use Rattle.std.specs.Prelude.{Bool, true, false, ◌&&◌, eqb, nat_lt, List, [], ◌∷◌, ◌++◌, Option, Some, None, length, slice_get, flat_map, is_some}
-use Rattle.std.specs.Option.{option_and_then}
-use Rattle.std.specs.List.{list_all}
-use Rattle.hir_path.specs.NodeIds.{TypeRefId, BindingId, LabelId}
-use Rattle.hir_path.specs.declared.bound.TypeBound.{TypeBound}
+use Rattle.hir_validate.specs.Prelude.{Bool, true, false, ◌&&◌, eqb, nat_lt, List, [], ◌∷◌, ◌++◌, Option, Some, None, length, slice_get, flat_map, is_some, option_and_then, list_all, TypeRefId, BindingId, LabelId, TypeBound, TypeRef, GenericArg, GenericArgs, GenericArgs-F, fold-GenericArgs, AssociatedTypeBinding-F, Path, Pat, Expr, Call, expr_calls, pat_calls, type_calls, expr_labels, pat_bindings}
 use Rattle.hir_path.specs.declared.bound.TypeBound.TheVariants as bound
-use Rattle.hir_node.specs.declared.type_ref.TypeRef.{TypeRef}
 use Rattle.hir_node.specs.declared.type_ref.TypeRef.TheVariants as type
-use Rattle.hir_path.specs.declared.path.GenericArg.{GenericArg}
-use Rattle.hir_path.specs.declared.path.GenericArgs.{GenericArgs, GenericArgs-F, fold-GenericArgs}
-use Rattle.hir_path.specs.declared.path.AssociatedTypeBinding.{AssociatedTypeBinding, AssociatedTypeBinding-F, fold-AssociatedTypeBinding}
-use Rattle.hir_path.specs.declared.path.Path.{Path}
 use Rattle.hir_path.specs.declared.path.Path.TheVariants as path
-use Rattle.hir_node.specs.declared.pat.Pat.{Pat}
 use Rattle.hir_node.specs.declared.pat.Pat.TheVariants as pat
-use Rattle.hir_node.specs.declared.expr.Expr.{Expr}
 use Rattle.hir_node.specs.declared.expr.Expr.TheVariants as expr
-use Rattle.hir_node.specs.ChildCalls.{Call, expr_calls, pat_calls, type_calls}
-use Rattle.hir_node.specs.OtherIds.{expr_labels, pat_bindings}
 use Rattle.hir_validate.specs.declared.sizes.Sizes.{Sizes}
 use Rattle.hir_validate.specs.Sizes.{is_in_range}
 
@@ -188,10 +175,6 @@ args_paths_layer x = flat_map (λ ids. ids) x.bindings
 abbrev pub args_paths : GenericArgs → List TypeRefId
 args_paths = fold-GenericArgs (List TypeRefId) (List TypeRefId) binding_paths_layer args_paths_layer
 
-abbrev pub binding_paths : AssociatedTypeBinding → List TypeRefId
-binding_paths = fold-AssociatedTypeBinding (List TypeRefId)
-    (List TypeRefId) binding_paths_layer args_paths_layer
-
 -- whether a list of arguments isn't empty, if it begins with a self type
 abbrev pub self_given : Bool → List GenericArg → Bool
 self_given false args = true
@@ -211,9 +194,6 @@ args_self_layer x = self_given x.has_self_type x.args && list_all (λ given. giv
 
 abbrev pub args_give_self : GenericArgs → Bool
 args_give_self = fold-GenericArgs Bool Bool binding_self_layer args_self_layer
-
-abbrev pub binding_gives_self : AssociatedTypeBinding → Bool
-binding_gives_self = fold-AssociatedTypeBinding Bool Bool binding_self_layer args_self_layer
 
 -- the types that a path names as paths, in the generic arguments of its segments
 abbrev pub path_paths : Path → List TypeRefId

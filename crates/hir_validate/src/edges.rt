@@ -2,7 +2,7 @@
 //! parent of its children.
 
 ghost use Rattle.std.specs.Prelude.{◌<◌, [], ◌∷◌, IsTrue, length};
-ghost use Rattle.hir_validate.specs.Edges.{CanNote, NotesIds, Notes};
+ghost use Rattle.hir_validate.specs.internal.Edges.{CanNote, NotesIds, Notes};
 
 use crate::sizes::Sizes;
 use hir_forest::Parents;

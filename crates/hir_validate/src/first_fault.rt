@@ -7,7 +7,7 @@ ghost use Rattle.hir_forest.specs.Faults.{IsWithin};
 ghost use Rattle.hir_forest.specs.Parents.{HasParents, IsParentageOf};
 ghost use Rattle.hir_validate.specs.Faults.{nodes_in, node_fault, first_of, first_bad_node, fault_of_graph, graph_fault, rooted_fault};
 ghost use Rattle.hir_validate.specs.Nodes.{sizes_of, graph};
-ghost use Rattle.hir_validate.specs.Edges.{CanVisit, VisitsNodes, all_tested};
+ghost use Rattle.hir_validate.specs.internal.Edges.{CanVisit, VisitsNodes, all_tested};
 ghost use Rattle.hir_validate.specs.TestedParts.{ids_in_range};
 ghost use Rattle.hir_validate.specs.Sizes.{Few, is_in_range};
 

@@ -7,6 +7,7 @@
 mod edges;
 mod fault;
 mod first_fault;
+mod node_arenas;
 mod nodes;
 mod range;
 mod sizes;
@@ -15,6 +16,7 @@ mod type_parts;
 
 pub use fault::FinishFault;
 pub use first_fault::validated_parents;
+pub use node_arenas::Nodes;
 pub use nodes::NodeSlices;
 pub use sizes::Sizes;
 pub use type_parts::as_path;

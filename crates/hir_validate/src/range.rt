@@ -3,7 +3,7 @@
 ghost use Rattle.std.specs.Prelude.{◌≡◌};
 ghost use Rattle.std.specs.List.{list_all};
 ghost use Rattle.hir_validate.specs.Sizes.{is_in_range};
-ghost use Rattle.hir_validate.specs.Ranges.{Tests};
+ghost use Rattle.hir_validate.specs.internal.Ranges.{Tests};
 ghost use Rattle.hir_node.specs.ChildCalls.{bound_calls, path_calls};
 
 use crate::sizes::Sizes;

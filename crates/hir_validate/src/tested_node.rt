@@ -7,7 +7,7 @@ ghost use Rattle.std.specs.Option.{option_to_list};
 ghost use Rattle.hir_path.specs.declared.path.GenericArgs.{GenericArgs};
 ghost use Rattle.hir_node.specs.declared.node_id.NodeId.{NodeId};
 ghost use Rattle.hir_node.specs.Runs.{Runs, MayRun};
-ghost use Rattle.hir_validate.specs.TypeParts.{type_parts_of};
+ghost use Rattle.hir_validate.specs.internal.TypeParts.{type_parts_of};
 ghost use Rattle.hir_validate.specs.TestedParts.{TestedParts, tested_expr, tested_pat, tested_type, nothing, a_path, some_args, some_bounds};
 
 use crate::type_parts::TypeParts;

@@ -5,8 +5,9 @@
 ghost use Rattle.std.specs.Prelude.{◌≡◌, flat_map, IsTrue};
 ghost use Rattle.std.specs.Option.{option_copied};
 ghost use Rattle.std.specs.List.{list_all};
-ghost use Rattle.hir_validate.specs.TestedParts.{path_of, is_path_at, bound_paths, args_paths, binding_paths, args_give_self, binding_gives_self, self_given, all_of, option_all, path_paths, path_gives_self, one_list_each, names_paths, gives_self, lists_fit};
-ghost use Rattle.hir_validate.specs.TypeParts.{type_parts_of, may_have_args, IsFine};
+ghost use Rattle.hir_validate.specs.TestedParts.{path_of, is_path_at, bound_paths, args_paths, args_give_self, self_given, all_of, option_all, path_paths, path_gives_self, one_list_each, names_paths, gives_self, lists_fit};
+ghost use Rattle.hir_validate.specs.internal.TestedParts.{binding_paths, binding_gives_self};
+ghost use Rattle.hir_validate.specs.internal.TypeParts.{type_parts_of, may_have_args, IsFine};
 
 use hir_node::{AssociatedTypeBinding, GenericArg, GenericArgs, Path, PathId, TypeBound, TypeRef};
 

@@ -1,6 +1,7 @@
 use Rattle.std.proofs.Common.{ℕ, ◌<◌, List, length}
 use Rattle.hir_forest.specs.Forest.{Climbs}
-use Rattle.hir_forest.specs.Parents.{HasParents, MeetsMarked}
+use Rattle.hir_forest.specs.Parents.{HasParents}
+use Rattle.hir_forest.specs.internal.Parents.{MeetsMarked}
 use Rattle.hir_forest.proofs.chains.meets_listed.Given as goal
 
 abbrev pub invariant-loop : goal.invariant-loop

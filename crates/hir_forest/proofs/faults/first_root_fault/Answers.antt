@@ -3,7 +3,7 @@ use Rattle.std.proofs.lemmas.Bool.{false≢true}
 use Rattle.std.proofs.lemmas.List.{length-map}
 use Rattle.hir_forest.specs.declared.roots.Ends.{Ends}
 use Rattle.hir_forest.specs.declared.roots.Root.{Root}
-use Rattle.hir_forest.specs.Forest.{MarksAll}
+use Rattle.hir_forest.specs.internal.Forest.{MarksAll}
 use Rattle.hir_forest.specs.Faults.{LiesUnderRoot, root_nodes, EndsFit, ends_before, no_ends}
 use Rattle.hir_forest.proofs.MarkLemmas.{MarksAll-more, root_node_is, ends_more, fits_at, unfit_at}
 use Rattle.hir_forest.proofs.ChainLemmas.{clear_none, under_root}

@@ -1,7 +1,9 @@
 use Rattle.std.proofs.Common.{◌≡◌, ℕ, ◌<◌, List, None, length, take}
-use Rattle.hir_forest.specs.Forest.{ChainEnds, MarksAll}
+use Rattle.hir_forest.specs.Forest.{ChainEnds}
+use Rattle.hir_forest.specs.internal.Forest.{MarksAll}
 use Rattle.hir_forest.specs.Faults.{LiesUnderRoot, root_nodes, root_fault, ends_before}
-use Rattle.hir_forest.specs.Parents.{HasParents, AreClear}
+use Rattle.hir_forest.specs.Parents.{HasParents}
+use Rattle.hir_forest.specs.internal.Parents.{AreClear}
 use Rattle.hir_forest.proofs.faults.first_root_fault.Given as goal
 
 abbrev pub invariant-loop-i : goal.invariant-loop-i

@@ -1,6 +1,6 @@
 use Rattle.std.proofs.Common.{◌<◌, length, List, Bool, sym, subst, arith, below_more}
 use Rattle.hir_forest.specs.Forest.{Marks}
-use Rattle.hir_forest.specs.Parents.{AreKnown}
+use Rattle.hir_forest.specs.internal.Parents.{AreKnown}
 use Rattle.hir_forest.proofs.under.note_all.Goals as goal
 use Rattle.hir_forest.proofs.under.note_all.Goals.{then-not-known-node, else-not-known-node}
 

@@ -1,6 +1,7 @@
 use Rattle.std.proofs.Common.{ℕ, ◌<◌, List, length}
 use Rattle.hir_forest.specs.Forest.{ChainEnds, Marks}
-use Rattle.hir_forest.specs.Parents.{HasParents, AreKnown}
+use Rattle.hir_forest.specs.Parents.{HasParents}
+use Rattle.hir_forest.specs.internal.Parents.{AreKnown}
 use Rattle.hir_forest.proofs.under.note_all.Given as goal
 
 abbrev pub invariant-loop-node : goal.invariant-loop-node

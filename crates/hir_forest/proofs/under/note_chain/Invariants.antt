@@ -1,7 +1,8 @@
 use Rattle.std.proofs.Common.{ℕ, ◌↔◌, List}
 use Rattle.std.specs.Prelude.{IsTrue, count_by, not}
 use Rattle.hir_forest.specs.Forest.{LiesUnderMarked}
-use Rattle.hir_forest.specs.Parents.{HasParents, AreKnown}
+use Rattle.hir_forest.specs.Parents.{HasParents}
+use Rattle.hir_forest.specs.internal.Parents.{AreKnown}
 use Rattle.hir_forest.proofs.ChainLemmas.{MarksWay}
 use Rattle.hir_forest.proofs.under.note_chain.Given as goal
 

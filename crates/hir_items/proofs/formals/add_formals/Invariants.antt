@@ -1,6 +1,7 @@
 use Rattle.std.proofs.Common.{ℕ, ◌<◌, map, take, None}
 use Rattle.hir_node.specs.declared.node_id.NodeId.TheVariants as node
-use Rattle.hir_items.specs.Bodies.{formals_of, repeated_fault, GainsAll}
+use Rattle.hir_items.specs.Bodies.{formals_of, repeated_fault}
+use Rattle.hir_items.specs.internal.Bodies.{GainsAll}
 use Rattle.hir_items.proofs.formals.add_formals.Given as goal
 
 abbrev pub invariant-loop-i : goal.invariant-loop-i

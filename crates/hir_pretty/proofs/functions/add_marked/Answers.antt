@@ -1,5 +1,5 @@
 use Rattle.hir_pretty_nodes.proofs.Common.{codes, map, nat_lt, enumerate_from, text, adds_then, adds_more, left_begins, left_goes_on, left_ends, following_joined}
-use Rattle.hir_pretty.specs.AddedDocs.{marked_docs}
+use Rattle.hir_pretty.specs.internal.AddedDocs.{marked_docs}
 use Rattle.hir_pretty.proofs.ListLemmas.{marked_step, marked_end}
 use Rattle.hir_pretty.proofs.functions.add_marked.Goals as goal
 

@@ -1,5 +1,5 @@
 use Rattle.hir_pretty_nodes.proofs.Common.{codes, map, drop, nat_lt, enumerate_from, text, comma_joined, printing_of, following, AddsRest}
-use Rattle.hir_pretty.specs.AddedDocs.{marked_docs}
+use Rattle.hir_pretty.specs.internal.AddedDocs.{marked_docs}
 use Rattle.hir_pretty.proofs.functions.add_marked.Given as goal
 
 abbrev pub invariant-loop-at : goal.invariant-loop-at

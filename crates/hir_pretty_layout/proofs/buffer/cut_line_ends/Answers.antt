@@ -1,6 +1,7 @@
 use Rattle.std.proofs.Common.{◌≡◌, ◌-◌, take, length, sym, ap, ◌∙◌}
 use Rattle.std.specs.String.{string_bytes}
-use Rattle.hir_pretty_layout.specs.Buffer.{EndsInLineEnd, lines_of}
+use Rattle.hir_pretty_layout.specs.internal.Buffer.{EndsInLineEnd}
+use Rattle.hir_pretty_layout.specs.Buffer.{lines_of}
 use Rattle.hir_pretty_layout.specs.Page.{cut_lines}
 use Rattle.hir_pretty_layout.proofs.EndLemmas.{cut_more, cut_done}
 use Rattle.hir_pretty_layout.proofs.buffer.cut_line_ends.Goals as goal

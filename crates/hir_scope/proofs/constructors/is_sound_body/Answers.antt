@@ -1,6 +1,6 @@
 use Rattle.std.proofs.Common.{rules, subst}
 use Rattle.hir_store_core.specs.Contents.{Contents}
-use Rattle.hir_scope.specs.walk.Begins.{IsSound}
+use Rattle.hir_scope.specs.internal.Begins.{IsSound}
 use Rattle.hir_scope.proofs.constructors.is_sound_body.Goals as goal
 
 pub returns : goal.returns

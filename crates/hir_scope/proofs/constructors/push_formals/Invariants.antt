@@ -1,6 +1,6 @@
 use Rattle.std.proofs.Common.{◌≡◌, ◌≤◌, ◌++◌, drop, length}
 use Rattle.hir_items.specs.Bodies.{formals_of}
-use Rattle.hir_scope.specs.walk.Begins.{formal_tasks}
+use Rattle.hir_scope.specs.internal.Begins.{formal_tasks}
 use Rattle.hir_scope.proofs.constructors.push_formals.Given as goal
 
 abbrev pub invariant-loop-rest : goal.invariant-loop-rest

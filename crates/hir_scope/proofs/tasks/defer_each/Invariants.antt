@@ -1,7 +1,7 @@
 use Rattle.std.proofs.Common.{drop}
 use Rattle.std.specs.List.{flat_map}
 use Rattle.hir_node.proofs.RunLemmas.{Going}
-use Rattle.hir_scope.specs.walk.Pending.{DefersTask}
+use Rattle.hir_scope.specs.internal.Pending.{DefersTask}
 use Rattle.hir_scope.proofs.tasks.defer_each.Given as goal
 
 abbrev pub invariant-loop-item : goal.invariant-loop-item

@@ -1,7 +1,7 @@
 use Rattle.std.proofs.Common.{◌≡◌, ◌<◌, ◌≤◌, ◌^◌, ◌-◌, take, true, length}
 use Rattle.std.specs.List.{list_all}
 use Rattle.hir_show_grammar.specs.Numerals.{is_digit, value}
-use Rattle.hir_show_grammar.specs.Readings.{Plain}
+use Rattle.hir_show_grammar.specs.internal.Readings.{Plain}
 use Rattle.hir_show_grammar.proofs.numerals.first_number.Given as goal
 
 abbrev pub invariant-loop-end : goal.invariant-loop-end

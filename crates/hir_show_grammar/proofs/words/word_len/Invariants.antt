@@ -1,5 +1,5 @@
 use Rattle.std.proofs.Common.{◌≤◌, ◌-◌, length, take}
-use Rattle.hir_show_grammar.specs.Readings.{Plain}
+use Rattle.hir_show_grammar.specs.internal.Readings.{Plain}
 use Rattle.hir_show_grammar.proofs.words.word_len.Given as goal
 
 abbrev pub invariant-loop-end : goal.invariant-loop-end

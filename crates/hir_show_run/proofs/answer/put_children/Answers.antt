@@ -2,7 +2,7 @@ use Rattle.std.proofs.Common.{◌≡◌, List, [], ◌++◌, ◌∷◌, refl, sy
 use Rattle.std.specs.List.{FoldsTo}
 use Rattle.std.proofs.lemmas.Fn.{chained_keeps}
 use Rattle.hir_show_run.specs.Answer.{after_spaces}
-use Rattle.hir_show_run.specs.Output.{OutputsText}
+use Rattle.hir_show_run.specs.internal.Output.{OutputsText}
 use Rattle.hir_show_run.proofs.WritingLemmas.{put_none, spaced_then}
 use Rattle.hir_show_run.proofs.answer.put_children.Goals as goal
 

@@ -2,9 +2,9 @@ use Rattle.std.proofs.Common.{◌≡◌, ◌+◌, true, false, Ok, Err, length, 
 use Rattle.std.proofs.lemmas.Result.{err_from_is_err_and}
 use Rattle.hir_show_io.proofs.ReadLemmas.{ReadsLines-none, ReadsAll-end}
 use Rattle.hir_show_grammar.specs.Line.{line_of}
-use Rattle.hir_show_run.specs.Output.{output_of}
-use Rattle.hir_show_run.specs.RunStates.{TakesNext, run_state_of}
-use Rattle.hir_show_run.specs.Stages.{AsksLine}
+use Rattle.hir_show_run.specs.internal.Output.{output_of}
+use Rattle.hir_show_run.specs.internal.RunStates.{TakesNext, run_state_of}
+use Rattle.hir_show_run.specs.internal.Stages.{AsksLine}
 use Rattle.hir_show_run.proofs.AskedLemmas.{first_answered, first_left, first_fails, answered_kept, fails_to_read, read_on, counted_on, line_answered, line_left, line_fails}
 use Rattle.hir_show_run.proofs.ClosingLemmas.{next_reads}
 use Rattle.hir_show_run.proofs.asking.answer_lines.Goals as goal

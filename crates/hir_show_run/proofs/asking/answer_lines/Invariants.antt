@@ -1,5 +1,5 @@
 use Rattle.std.proofs.Common.{◌≡◌, ◌+◌, ◌≤◌, length, true, false}
-use Rattle.hir_show_run.specs.RunStates.{run_state_of}
+use Rattle.hir_show_run.specs.internal.RunStates.{run_state_of}
 use Rattle.hir_show_run.proofs.AskedLemmas.{SoFar}
 use Rattle.hir_show_run.proofs.asking.answer_lines.Given as goal
 

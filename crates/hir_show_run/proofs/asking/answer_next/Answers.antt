@@ -1,7 +1,7 @@
 use Rattle.std.proofs.Common.{Option, [], refl}
 use Rattle.std.proofs.lemmas.Result.{err_from_is_err_and}
 use Rattle.hir_show_grammar.specs.declared.question.Question.{Question}
-use Rattle.hir_show_run.specs.Output.{output_of}
+use Rattle.hir_show_run.specs.internal.Output.{output_of}
 use Rattle.hir_show_run.proofs.AskedLemmas.{asked_fails, asked_marks_none}
 use Rattle.hir_show_run.proofs.WritingLemmas.{Wrote-none}
 use Rattle.hir_show_run.proofs.asking.answer_next.Goals as goal

@@ -1,10 +1,11 @@
 use Rattle.std.proofs.Common.{Bool, true, false, Ok, Err, ◌++◌, ◌∷◌, [], sym, ap, subst, ◌∙◌, arith, length-append, refl, ◌||◌}
 use Rattle.std.proofs.lemmas.Result.{err_from_is_err_and}
 use Rattle.hir_show_io.proofs.ReadLemmas.{ReadsAll-end}
-use Rattle.hir_show_run.specs.Output.{Output}
-use Rattle.hir_show_run.specs.Parts.{Parts, builder_parts}
-use Rattle.hir_show_run.specs.RunStates.{TakesNext, run_state_of}
-use Rattle.hir_show_run.specs.Stages.{Builds, BuildsLine}
+use Rattle.hir_show_run.specs.internal.Output.{Output}
+use Rattle.hir_show_run.specs.Parts.{Parts}
+use Rattle.hir_show_run.specs.internal.Parts.{builder_parts}
+use Rattle.hir_show_run.specs.internal.RunStates.{TakesNext, run_state_of}
+use Rattle.hir_show_run.specs.internal.Stages.{Builds, BuildsLine}
 use Rattle.hir_show_run.proofs.BuildingLemmas.{no_line_yet, build_fails, build_line_fails, asked_next, asked_reads_none, read_on, counted_on}
 use Rattle.hir_show_run.proofs.Making.{makes_line}
 use Rattle.hir_show_run.proofs.building.build.Goals as goal

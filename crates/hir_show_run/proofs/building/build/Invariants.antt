@@ -1,7 +1,7 @@
 use Rattle.std.proofs.Common.{◌≡◌, ◌+◌, ◌≤◌, [], length}
-use Rattle.hir_show_run.specs.Output.{output_of}
-use Rattle.hir_show_run.specs.Parts.{builder_parts}
-use Rattle.hir_show_run.specs.RunStates.{run_state_of}
+use Rattle.hir_show_run.specs.internal.Output.{output_of}
+use Rattle.hir_show_run.specs.internal.Parts.{builder_parts}
+use Rattle.hir_show_run.specs.internal.RunStates.{run_state_of}
 use Rattle.hir_show_run.proofs.BuildingLemmas.{SoFar}
 use Rattle.hir_show_run.proofs.building.build.Given as goal
 

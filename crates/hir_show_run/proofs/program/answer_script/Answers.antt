@@ -3,10 +3,10 @@ use Rattle.std.proofs.lemmas.Result.{err_from_is_err_and}
 use Rattle.hir_store_core.specs.Contents.{Contents}
 use Rattle.hir_items.specs.Bodies.{body_of}
 use Rattle.hir_show_grammar.specs.declared.question.Question.{Question}
-use Rattle.hir_show_run.specs.Output.{Output, output_of}
-use Rattle.hir_show_run.specs.Parts.{builder_parts}
-use Rattle.hir_show_run.specs.RunStates.{run_state_of}
-use Rattle.hir_show_run.specs.Stages.{Builds, IsBodyOf}
+use Rattle.hir_show_run.specs.internal.Output.{Output, output_of}
+use Rattle.hir_show_run.specs.internal.Parts.{builder_parts}
+use Rattle.hir_show_run.specs.internal.RunStates.{run_state_of}
+use Rattle.hir_show_run.specs.internal.Stages.{Builds, IsBodyOf}
 use Rattle.hir_show_run.proofs.ClosingLemmas.{accept_reads_none, body_reads_none, build_writes_none, reads_as, none_before}
 use Rattle.hir_show_run.proofs.OfLinesLemmas.{built_of_lines, of_built}
 use Rattle.hir_show_run.proofs.ScriptLemmas.{script_build, script_finish, script_accept, script_store_ends, script_store_done, script_body, script_body_ends, script_body_done}

@@ -4,7 +4,7 @@ use Rattle.hir_items.specs.declared.body_fault.BodyFault.{BodyFault}
 use Rattle.hir_items.specs.declared.body_fault.BodyFault.TheVariants as body
 use Rattle.hir_items.specs.Bodies.{BodyContents, body_of, body_fault}
 use Rattle.hir_show_run.specs.Faults.{fault_of_body}
-use Rattle.hir_show_run.specs.Stages.{IsBodyOf}
+use Rattle.hir_show_run.specs.internal.Stages.{IsBodyOf}
 use Rattle.hir_show_run.proofs.program.body_of_parts.Goals as goal
 
 -- how a run ends where the parts are refused

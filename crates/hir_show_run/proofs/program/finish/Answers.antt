@@ -4,7 +4,7 @@ use Rattle.hir_validate.specs.declared.fault.FinishFault.{FinishFault}
 use Rattle.hir_validate.specs.declared.fault.FinishFault.TheVariants as finish
 use Rattle.hir_store.specs.Building.{Building, building_of, finish_fault}
 use Rattle.hir_show_run.specs.Faults.{fault_of_finish}
-use Rattle.hir_show_run.specs.Stages.{Finishes}
+use Rattle.hir_show_run.specs.internal.Stages.{Finishes}
 use Rattle.hir_show_run.proofs.program.finish.Goals as goal
 
 -- how a run ends where what was built is refused

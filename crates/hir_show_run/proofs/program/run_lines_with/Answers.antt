@@ -1,6 +1,6 @@
 use Rattle.std.proofs.Common.{sym, ◌∙◌}
-use Rattle.hir_show_run.specs.Output.{Output}
-use Rattle.hir_show_run.specs.RunStates.{run_state_of}
+use Rattle.hir_show_run.specs.internal.Output.{Output}
+use Rattle.hir_show_run.specs.internal.RunStates.{run_state_of}
 use Rattle.hir_show_run.proofs.ClosingLemmas.{closes, closes_reads}
 use Rattle.hir_show_run.proofs.ScriptLemmas.{runs_out_first}
 use Rattle.hir_show_run.proofs.program.run_lines_with.Goals as goal

@@ -1,5 +1,6 @@
 use Rattle.std.proofs.Common.{codes}
-use Rattle.hir_show_run.specs.Answer.{chain_by, chain_text}
+use Rattle.hir_show_run.specs.internal.Answer.{chain_by}
+use Rattle.hir_show_run.specs.Answer.{chain_text}
 use Rattle.hir_show_run.proofs.WritingLemmas.{put_line}
 use Rattle.hir_show_run.proofs.scope_answers.answer_chain.Goals as goal
 

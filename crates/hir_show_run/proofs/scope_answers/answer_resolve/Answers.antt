@@ -1,5 +1,6 @@
 use Rattle.std.proofs.Common.{◌++◌, codes}
-use Rattle.hir_show_run.specs.Answer.{asked_text, chain_by, resolve_text}
+use Rattle.hir_show_run.specs.Answer.{asked_text, resolve_text}
+use Rattle.hir_show_run.specs.internal.Answer.{chain_by}
 use Rattle.hir_show_run.proofs.WritingLemmas.{put_line, put_then}
 use Rattle.hir_show_run.proofs.scope_answers.answer_resolve.Goals as goal
 

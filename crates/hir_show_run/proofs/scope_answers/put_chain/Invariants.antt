@@ -1,4 +1,4 @@
-use Rattle.hir_show_run.specs.Output.{OutputsText}
+use Rattle.hir_show_run.specs.internal.Output.{OutputsText}
 use Rattle.hir_show_run.proofs.WritingLemmas.{names_along}
 use Rattle.hir_show_run.proofs.scope_answers.put_chain.Given as goal
 

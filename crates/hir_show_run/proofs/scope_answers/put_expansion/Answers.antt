@@ -1,7 +1,7 @@
 use Rattle.std.proofs.Common.{subst}
 use Rattle.hir_base.specs.declared.hygiene.SyntaxContext.{SyntaxContext}
 use Rattle.hir_show_run.specs.Answer.{expansion_text}
-use Rattle.hir_show_run.specs.Output.{OutputsText}
+use Rattle.hir_show_run.specs.internal.Output.{OutputsText}
 use Rattle.hir_show_run.proofs.WritingLemmas.{put_none}
 use Rattle.hir_show_run.proofs.scope_answers.put_expansion.Goals as goal
 

@@ -2,7 +2,7 @@ use Rattle.std.proofs.Common.{ℕ, Option, Some, subst, codes, option_map}
 use Rattle.hir_scope.specs.Paths.{chain}
 use Rattle.hir_scope.specs.Resolution.{entries_of}
 use Rattle.hir_show_run.specs.Answer.{chain_text, names_text}
-use Rattle.hir_show_run.specs.Output.{OutputsText}
+use Rattle.hir_show_run.specs.internal.Output.{OutputsText}
 use Rattle.hir_show_run.proofs.WritingLemmas.{put_then}
 use Rattle.hir_show_run.proofs.scope_answers.put_known.Goals as goal
 

@@ -1,7 +1,7 @@
 use Rattle.std.proofs.Common.{ℕ, Option, Some, subst, option_map}
 use Rattle.hir_scope.specs.Paths.{chain}
 use Rattle.hir_show_run.specs.Answer.{resolve_text}
-use Rattle.hir_show_run.specs.Output.{OutputsText}
+use Rattle.hir_show_run.specs.internal.Output.{OutputsText}
 use Rattle.hir_show_run.proofs.scope_answers.put_meaning.Goals as goal
 
 pub returns-in-Some : goal.returns-in-Some

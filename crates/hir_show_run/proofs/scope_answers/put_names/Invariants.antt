@@ -1,6 +1,6 @@
 use Rattle.std.proofs.Common.{take}
 use Rattle.hir_show_run.specs.Answer.{names_text}
-use Rattle.hir_show_run.specs.Output.{OutputsText}
+use Rattle.hir_show_run.specs.internal.Output.{OutputsText}
 use Rattle.hir_show_run.proofs.scope_answers.put_names.Given as goal
 
 abbrev pub invariant-loop-entry : goal.invariant-loop-entry

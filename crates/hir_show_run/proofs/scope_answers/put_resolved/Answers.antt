@@ -1,7 +1,7 @@
 use Rattle.std.proofs.Common.{◌≡◌, Option, ◌∙◌, subst, codes, decimal}
 use Rattle.hir_scope.specs.declared.scope.ScopeEntry.{ScopeEntry}
 use Rattle.hir_show_run.specs.Answer.{resolved_text}
-use Rattle.hir_show_run.specs.Output.{OutputsText}
+use Rattle.hir_show_run.specs.internal.Output.{OutputsText}
 use Rattle.hir_show_run.proofs.WritingLemmas.{put_then}
 use Rattle.hir_show_run.proofs.scope_answers.put_resolved.Goals as goal
 

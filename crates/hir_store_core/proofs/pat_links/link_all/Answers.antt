@@ -1,7 +1,8 @@
 use Rattle.std.proofs.Common.{◌≡◌, ℕ, suc, List, length, ap, sym, ◌∙◌, subst, arith, add-one}
 use Rattle.hir_node.specs.ChildCalls.{child_pats}
 use Rattle.hir_store_core.specs.declared.pat_links.PatLink.{PatLink}
-use Rattle.hir_store_core.specs.PatLinks.{children_at, link_children}
+use Rattle.hir_store_core.specs.PatLinks.{children_at}
+use Rattle.hir_store_core.specs.internal.PatLinks.{link_children}
 use Rattle.hir_store_core.proofs.LinkLemmas.{LinkedBefore, children_here, children_low, linked-next}
 use Rattle.hir_store_core.proofs.pat_links.link_all.Goals as goal
 

@@ -1,7 +1,7 @@
 use Rattle.std.proofs.Common.{◌≡◌, ℕ, ◌<◌, List, ◌∷◌, length, ap, sym, ◌∙◌, subst}
 use Rattle.std.specs.List.{AllByRecursion}
 use Rattle.hir_node.specs.ChildCalls.{child_pats}
-use Rattle.hir_store_core.specs.PatLinks.{link_children}
+use Rattle.hir_store_core.specs.internal.PatLinks.{link_children}
 use Rattle.hir_store_core.proofs.LinkLemmas.{all_from_contains}
 use Rattle.hir_store_core.proofs.pat_links.link_children.Goals as goal
 

@@ -1,7 +1,7 @@
 use Rattle.std.proofs.Common.{◌≡◌, ◌<◌, ◌∷◌, length}
 use Rattle.std.specs.List.{AllByRecursion}
 use Rattle.hir_node.specs.ChildCalls.{child_pats}
-use Rattle.hir_store_core.specs.PatLinks.{link_children}
+use Rattle.hir_store_core.specs.internal.PatLinks.{link_children}
 use Rattle.hir_store_core.proofs.pat_links.link_children.Given as goal
 
 -- the links of this child and of those after it are still to be set

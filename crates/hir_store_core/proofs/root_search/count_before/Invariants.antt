@@ -1,5 +1,5 @@
 use Rattle.std.proofs.Common.{ℕ, ◌+◌, ◌-◌, ◌^◌, ◌<◌, ◌≤◌, length}
-use Rattle.hir_store_core.specs.RootSearch.{end_at}
+use Rattle.hir_store_core.specs.internal.RootSearch.{end_at}
 use Rattle.hir_store_core.proofs.root_search.count_before.Given as goal
 
 -- the end of each root before `low` is at most the id, and that of each from `high` on exceeds it; what is between needs no more digits than are left

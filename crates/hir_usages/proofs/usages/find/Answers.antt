@@ -3,7 +3,8 @@ use Rattle.std.specs.Option.{option_to_list, option_map}
 use Rattle.hir_store_core.specs.Contents.{Contents}
 use Rattle.hir_items.specs.declared.formals.Param.{Param}
 use Rattle.hir_usages.specs.declared.walk.Walk.{Walk}
-use Rattle.hir_usages.specs.walk.{Pending.AreInRange, Reading.lists_of}
+use Rattle.hir_usages.specs.internal.Pending.{AreInRange}
+use Rattle.hir_usages.specs.internal.Reading.{lists_of}
 use Rattle.hir_usages.proofs.FindLemmas.{all_usages, all_bound}
 use Rattle.hir_usages.proofs.usages.find.Goals as goal
 

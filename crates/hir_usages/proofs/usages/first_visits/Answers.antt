@@ -2,7 +2,7 @@ use Rattle.std.proofs.Common.{◌≡◌, ◌∙◌, ◌++◌, ◌∷◌, ap, sym
 use Rattle.hir_store_core.specs.Contents.{Contents, contents_fault}
 use Rattle.hir_items.specs.Bodies.{formals_of}
 use Rattle.hir_usages.specs.declared.to_visit.Task.{Task}
-use Rattle.hir_usages.specs.walk.Pending.{AreInRange, visits_of}
+use Rattle.hir_usages.specs.internal.Pending.{AreInRange, visits_of}
 use Rattle.hir_usages.proofs.FindLemmas.{first_tasks, first_in_range, first_visits}
 use Rattle.hir_usages.proofs.usages.first_visits.Goals as goal
 

@@ -2,7 +2,7 @@ use Rattle.std.proofs.Common.{◌++◌, length, map, ◌∙◌, arith}
 use Rattle.std.proofs.lemmas.List.{length-append, length-map}
 use Rattle.hir_validate.specs.Faults.{nodes_in}
 use Rattle.hir_validate.specs.TestedParts.{tested_expr, tested_pat, tested_type}
-use Rattle.hir_validate.specs.Edges.{VisitsNodes, all_tested}
+use Rattle.hir_validate.specs.internal.Edges.{VisitsNodes, all_tested}
 use Rattle.hir_validate.proofs.EdgeLemmas.{all_count, can_visit_less, can_visit_on, visited_both, if_none_so}
 use Rattle.hir_validate.proofs.FirstFaultLemmas.{bad_expr, bad_pat, bad_type}
 use Rattle.hir_validate.proofs.first_fault.first_bad_node.Goals as goal

@@ -1,6 +1,6 @@
 use Rattle.std.proofs.Common.{◌<◌, ◌∷◌, [], List, below_more, length, map, take, subst, arith}
 use Rattle.std.proofs.lemmas.List.{length-map, length-take-le, take_all}
-use Rattle.hir_validate.specs.Edges.{VisitsNodes}
+use Rattle.hir_validate.specs.internal.Edges.{VisitsNodes}
 use Rattle.hir_validate.specs.TestedParts.{TestedParts}
 use Rattle.hir_validate.specs.Faults.{nothing_tested}
 use Rattle.hir_validate.proofs.EdgeLemmas.{visited_none, visited_both, can_visit_on, tested_more}

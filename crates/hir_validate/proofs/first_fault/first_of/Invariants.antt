@@ -1,5 +1,5 @@
 use Rattle.std.proofs.Common.{ℕ, ◌<◌, None, map, take, get_or}
-use Rattle.hir_validate.specs.Edges.{VisitsNodes}
+use Rattle.hir_validate.specs.internal.Edges.{VisitsNodes}
 use Rattle.hir_validate.specs.Faults.{node_fault, nothing_tested}
 use Rattle.hir_validate.proofs.first_fault.first_of.Given as goal
 

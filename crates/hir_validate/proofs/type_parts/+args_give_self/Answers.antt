@@ -1,5 +1,5 @@
 use Rattle.std.proofs.Common.{◌∙◌, sym}
-use Rattle.hir_validate.specs.TestedParts.{binding_gives_self}
+use Rattle.hir_validate.specs.internal.TestedParts.{binding_gives_self}
 use Rattle.hir_validate.proofs.TypePartsLemmas.{args_give_self_is, all_stops, all_done}
 use Rattle.hir_validate.proofs.type_parts.+args_give_self.Goals as goal
 

@@ -1,6 +1,7 @@
 use Rattle.std.proofs.Common.{◌∙◌, sym}
 use Rattle.std.specs.List.{list_all}
-use Rattle.hir_validate.specs.TestedParts.{binding_paths, is_path_at}
+use Rattle.hir_validate.specs.internal.TestedParts.{binding_paths}
+use Rattle.hir_validate.specs.TestedParts.{is_path_at}
 use Rattle.hir_validate.proofs.TypePartsLemmas.{args_paths_is, list_all-flat_map, all_stops, all_done}
 use Rattle.hir_validate.proofs.type_parts.+args_name_paths.Goals as goal
 

@@ -1,6 +1,7 @@
 use Rattle.std.proofs.Common.{◌≡◌, true, take}
 use Rattle.std.specs.List.{list_all}
-use Rattle.hir_validate.specs.TestedParts.{binding_paths, is_path_at}
+use Rattle.hir_validate.specs.internal.TestedParts.{binding_paths}
+use Rattle.hir_validate.specs.TestedParts.{is_path_at}
 use Rattle.hir_validate.proofs.type_parts.+args_name_paths.Given as goal
 
 -- the bindings so far name paths

@@ -1,7 +1,7 @@
 use Rattle.std.proofs.Common.{rules, ◌≡◌, ◌∙◌, ap, sym, List, ℕ, ◌++◌, ◌∷◌, []}
 use Rattle.std.specs.FinMap as map
 use Rattle.std.specs.{Ordering.nat_cmp, Prelude.is_some}
-use Rattle.hir_captures.specs.walk.Marks.{is_listed}
+use Rattle.hir_captures.specs.internal.Marks.{is_listed}
 use Rattle.hir_captures.proofs.BindingListLemmas.{marks_more}
 use Rattle.hir_captures.proofs.binding_list.BindingList.add.Goals as goal
 

@@ -1,5 +1,6 @@
 use Rattle.std.proofs.Common.{◌≡◌, length}
-use Rattle.hir_captures.specs.walk.{Pending.AreInRange, Pending.code_of, Reading.with_code}
+use Rattle.hir_captures.specs.internal.Pending.{AreInRange, code_of}
+use Rattle.hir_captures.specs.internal.Reading.{with_code}
 use Rattle.hir_captures.proofs.code.Code.read_all.Given as goal
 
 abbrev pub invariant-loop-task : goal.invariant-loop-task

@@ -1,6 +1,6 @@
 use Rattle.std.proofs.Common.{◌∙◌, ◌++◌}
 use Rattle.hir_scope.specs.{ScopingForms.expr_form, Order.met_in_form}
-use Rattle.hir_captures.specs.walk.Pending.{tasks_of}
+use Rattle.hir_captures.specs.internal.Pending.{tasks_of}
 use Rattle.hir_captures.proofs.ReadLemmas.{read_expr}
 use Rattle.hir_captures.proofs.code.Code.read_expr.Goals as goal
 

@@ -1,5 +1,5 @@
 use Rattle.std.proofs.Common.{◌≡◌, map, sym, ap, ◌∙◌}
-use Rattle.hir_forest.specs.Parents.{parent_of, parents_in}
+use Rattle.hir_forest.specs.internal.Parents.{parent_of, parents_in}
 use Rattle.hir_forest.proofs.ParentLemmas.{parent_noted}
 use Rattle.hir_forest.proofs.parent_table.ParentTable.set_parent.Goals as goal
 use Rattle.hir_forest.proofs.parent_table.ParentTable.set_parent.Goals.{in-Narrow, in-Wide}

@@ -1,7 +1,8 @@
 use Rattle.std.proofs.Common.{rules, ◌+◌, ◌<◌, ◌≤◌, [], length, refl, arith}
 use Rattle.hir_items.specs.Bodies.{body_nodes}
-use Rattle.hir_scope.specs.{BodyScopes.expr_count, BodyScopes.limit, walk.Begins.root_entries}
-use Rattle.hir_scope.specs.walk.WalkState.{walk_state, state, Exceeds}
+use Rattle.hir_scope.specs.BodyScopes.{expr_count, limit}
+use Rattle.hir_scope.specs.internal.Begins.{root_entries}
+use Rattle.hir_scope.specs.internal.WalkState.{walk_state, state, Exceeds}
 use Rattle.hir_scope.proofs.BuiltLemmas.{body_starts, body_at_most, body_fails, body_made, body_ticks, root_fails}
 use Rattle.hir_scope.proofs.expr_scopes.ExprScopes.new_body_counted.Goals as goal
 

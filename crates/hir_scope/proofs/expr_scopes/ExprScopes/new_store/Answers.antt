@@ -1,5 +1,5 @@
 use Rattle.std.proofs.Common.{rules, [], refl}
-use Rattle.hir_scope.specs.walk.WalkState.{walk_state, state, Exceeds}
+use Rattle.hir_scope.specs.internal.WalkState.{walk_state, state, Exceeds}
 use Rattle.hir_scope.proofs.BuiltLemmas.{signature_starts, signature_fails, signature_made}
 use Rattle.hir_scope.proofs.expr_scopes.ExprScopes.new_store.Goals as goal
 

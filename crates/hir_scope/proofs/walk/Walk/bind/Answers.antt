@@ -1,5 +1,7 @@
 use Rattle.std.proofs.Common.{rules, [], ◌∷◌, ◌++◌, map}
-use Rattle.hir_scope.specs.{Frames.frame, Scopes.frame_of, walk.WalkState.state, walk.WalkState.Over}
+use Rattle.hir_scope.specs.Frames.{frame}
+use Rattle.hir_scope.specs.Scopes.{frame_of}
+use Rattle.hir_scope.specs.internal.WalkState.{state, Over}
 use Rattle.hir_scope.proofs.DoneLemmas.{bound_moves, bound_over}
 use Rattle.hir_scope.proofs.walk.Walk.bind.Goals as goal
 

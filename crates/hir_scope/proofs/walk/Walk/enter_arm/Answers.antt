@@ -1,7 +1,8 @@
 use Rattle.std.proofs.Common.{rules, List, [], ◌∷◌, ◌++◌, map, ap, ◌∙◌}
 use Rattle.hir_node.specs.ChildCalls.{e, opt}
 use Rattle.hir_scope.specs.{Frames.frame, Scopes.frame_of, declared.tasks.Task.Task}
-use Rattle.hir_scope.specs.walk.{WalkState.state, WalkState.Over, Pending.tasks_of}
+use Rattle.hir_scope.specs.internal.WalkState.{state, Over}
+use Rattle.hir_scope.specs.internal.Pending.{tasks_of}
 use Rattle.hir_scope.proofs.DoneLemmas.{arm_moves, arm_over}
 use Rattle.hir_scope.proofs.walk.Walk.enter_arm.Goals as goal
 

@@ -2,8 +2,8 @@ use Rattle.std.proofs.Common.{rules, ℕ, Option, ◌++◌, map, refl, sym, ap, 
 use Rattle.hir_node.specs.declared.{expr.Expr.Expr, node_id.NodeId.NodeId}
 use Rattle.hir_scope.specs.Chains.{within_own}
 use Rattle.hir_scope.specs.{ScopingForms.ScopingForm, ScopingForms.form_at, ScopingForms.form_of, ScopingForms.expr_form, Scopes.frame_of}
-use Rattle.hir_scope.specs.walk.WalkState.{state, frames_of_scope, Over, HasFrames, scope_within}
-use Rattle.hir_scope.specs.walk.Pending.{form_tasks, opened_frames, opened_const_frames}
+use Rattle.hir_scope.specs.internal.WalkState.{state, frames_of_scope, Over, HasFrames, scope_within}
+use Rattle.hir_scope.specs.internal.Pending.{form_tasks, opened_frames, opened_const_frames}
 use Rattle.hir_scope.proofs.DoneLemmas.{expr_moves, empty_moves, met_over}
 use Rattle.hir_scope.proofs.MovingLemmas.{frames_grown, own_frames}
 use Rattle.hir_scope.proofs.walk.Walk.enter_expr.Goals as goal

@@ -1,6 +1,7 @@
 use Rattle.std.proofs.Common.{Option, ◌++◌, sym, ap, ◌∙◌}
 use Rattle.hir_node.specs.declared.pat.Pat.{Pat}
-use Rattle.hir_scope.specs.{ScopingForms.form_at, ScopingForms.pat_form, walk.Pending.form_tasks}
+use Rattle.hir_scope.specs.ScopingForms.{form_at, pat_form}
+use Rattle.hir_scope.specs.internal.Pending.{form_tasks}
 use Rattle.hir_scope.proofs.DoneLemmas.{pat_moves}
 use Rattle.hir_scope.proofs.walk.Walk.enter_pat.Goals as goal
 

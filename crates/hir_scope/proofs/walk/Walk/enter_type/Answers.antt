@@ -1,7 +1,7 @@
 use Rattle.std.proofs.Common.{Option, List, ◌∷◌, ◌++◌, sym, ap, ◌∙◌}
 use Rattle.hir_node.specs.declared.type_ref.TypeRef.{TypeRef}
 use Rattle.hir_scope.specs.{ScopingForms.form_at, ScopingForms.type_form, declared.tasks.Task.Task}
-use Rattle.hir_scope.specs.walk.Pending.{form_tasks, leave}
+use Rattle.hir_scope.specs.internal.Pending.{form_tasks, leave}
 use Rattle.hir_scope.proofs.DoneLemmas.{for_const_frames, type_moves}
 use Rattle.hir_scope.proofs.walk.Walk.enter_type.Goals as goal
 

@@ -1,7 +1,8 @@
 use Rattle.std.proofs.Common.{rules, ◌≡◌, List, [], ◌∷◌, ◌++◌, map, ◌<◌, ◌+◌, ◌⊎◌, length, refl, ap, ◌∙◌, subst}
 use Rattle.std.specs.List.{flat_map}
 use Rattle.hir_scope.specs.{Frames.binds, Scopes.Scopes, Scopes.entry_count, Scopes.frame_of}
-use Rattle.hir_scope.specs.{declared.scope.ScopeEntry.ScopeEntry, walk.WalkState.state, walk.WalkState.Over}
+use Rattle.hir_scope.specs.declared.scope.ScopeEntry.{ScopeEntry}
+use Rattle.hir_scope.specs.internal.WalkState.{state, Over}
 use Rattle.hir_scope.proofs.DoneLemmas.{all_in_range}
 use Rattle.hir_scope.proofs.MovingLemmas.{child, opened_frames_are, over_new}
 use Rattle.hir_scope.proofs.walk.Walk.open.Goals as goal

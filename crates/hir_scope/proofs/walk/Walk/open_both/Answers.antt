@@ -1,6 +1,7 @@
 use Rattle.std.proofs.Common.{rules, List, [], ◌∷◌, ◌++◌, map, ◌<◌, ◌+◌, ◌⊎◌, length, refl, ap, ◌∙◌, subst}
 use Rattle.hir_scope.specs.{Frames.of_kind, Scopes.Scopes, Scopes.entry_count, Scopes.frame_of}
-use Rattle.hir_scope.specs.{declared.scope.ScopeEntry.ScopeEntry, walk.WalkState.state, walk.WalkState.Over}
+use Rattle.hir_scope.specs.declared.scope.ScopeEntry.{ScopeEntry}
+use Rattle.hir_scope.specs.internal.WalkState.{state, Over}
 use Rattle.hir_scope.proofs.MovingLemmas.{child, opened_const_frames_are, opened_then, over_after, over_more, over_new}
 use Rattle.hir_scope.proofs.walk.Walk.open_both.Goals as goal
 

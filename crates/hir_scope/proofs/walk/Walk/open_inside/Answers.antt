@@ -1,6 +1,7 @@
 use Rattle.std.proofs.Common.{ℕ, List, map, ap, sym, ◌∙◌, subst}
 use Rattle.hir_node.specs.declared.node_id.NodeId.{NodeId}
-use Rattle.hir_scope.specs.{ScopingForms.form_at, ScopingForms.expr_form, walk.WalkState.AreInRange}
+use Rattle.hir_scope.specs.ScopingForms.{form_at, expr_form}
+use Rattle.hir_scope.specs.internal.WalkState.{AreInRange}
 use Rattle.hir_scope.proofs.DoneLemmas.{closure_pats, target_pat}
 use Rattle.hir_scope.proofs.walk.Walk.open_inside.Goals as goal
 

@@ -1,7 +1,9 @@
 use Rattle.std.proofs.Common.{rules, ◌⊎◌, ◌+◌, ◌<◌, ℕ, List, [], ◌∷◌, ◌++◌, length, refl, ap, ◌∙◌, arith, append_assoc, length-append}
 use Rattle.std.proofs.lemmas.List.{length-map}
 use Rattle.hir_base.specs.declared.arena.TheConstants.{MOST_ITEMS}
-use Rattle.hir_scope.specs.{Scopes.entry_count, declared.tasks.Task.Task, walk.WalkState.walk_state}
+use Rattle.hir_scope.specs.Scopes.{entry_count}
+use Rattle.hir_scope.specs.declared.tasks.Task.{Task}
+use Rattle.hir_scope.specs.internal.WalkState.{walk_state}
 use Rattle.hir_scope.proofs.BeginLemmas.{one_root_more, roots_full}
 use Rattle.hir_scope.proofs.walk.Walk.over_roots.Goals as goal
 

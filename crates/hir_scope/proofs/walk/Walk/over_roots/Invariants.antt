@@ -1,6 +1,7 @@
 use Rattle.std.proofs.Common.{◌≡◌, ◌++◌, ℕ, List, [], length}
 use Rattle.hir_forest.specs.Faults.{root_nodes}
-use Rattle.hir_scope.specs.walk.{Begins.roots_begin, WalkState.walk_state}
+use Rattle.hir_scope.specs.internal.Begins.{roots_begin}
+use Rattle.hir_scope.specs.internal.WalkState.{walk_state}
 use Rattle.hir_scope.proofs.walk.Walk.over_roots.Given as goal
 
 abbrev pub invariant-loop-root : goal.invariant-loop-root

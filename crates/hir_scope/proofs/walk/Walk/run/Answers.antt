@@ -1,6 +1,6 @@
 use Rattle.std.proofs.Common.{◌≡◌, List, ◌∷◌, subst}
 use Rattle.hir_scope.specs.declared.tasks.Task.{Task}
-use Rattle.hir_scope.specs.walk.WalkState.{walk_state, state, WalkSteps}
+use Rattle.hir_scope.specs.internal.WalkState.{walk_state, state, WalkSteps}
 use Rattle.hir_scope.proofs.MovingLemmas.{gone_start, gone_then}
 use Rattle.hir_scope.proofs.walk.Walk.run.Goals as goal
 

@@ -1,4 +1,4 @@
-use Rattle.hir_scope.specs.walk.WalkState.{state, WalkSteps, turns_left}
+use Rattle.hir_scope.specs.internal.WalkState.{state, WalkSteps, turns_left}
 use Rattle.hir_scope.proofs.walk.Walk.run.Given as goal
 
 abbrev pub invariant-loop-task : goal.invariant-loop-task

@@ -3,7 +3,7 @@ use Rattle.std.proofs.lemmas.Result.{on_ok_weaker}
 use Rattle.std.specs.Prelude.{Ok}
 use Rattle.hir_scope.specs.{Frames.of_kind, Scopes.frame_of}
 use Rattle.hir_scope.specs.declared.{scope.ScopeKind.ScopeKind, tasks.CurrentScopes.CurrentScopes, tasks.Task.Task}
-use Rattle.hir_scope.specs.walk.WalkState.{with_next, state, IsReady, Over, Exceeds}
+use Rattle.hir_scope.specs.internal.WalkState.{with_next, state, IsReady, Over, Exceeds}
 use Rattle.hir_scope.proofs.DoneLemmas.{leave_moves, macro_moves, macro_over}
 use Rattle.hir_scope.proofs.MovingLemmas.{goes_task, goes_given}
 use Rattle.hir_scope.proofs.walk.Walk.step.Goals as goal

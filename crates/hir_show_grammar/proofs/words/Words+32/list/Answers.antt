@@ -4,7 +4,8 @@ use Rattle.std.specs.List.{join_with_byte}
 use Rattle.std.proofs.lemmas.List.Splits.{join_with_byte-slice_split}
 use Rattle.std.proofs.lemmas.Result.{err_from_is_err_and}
 use Rattle.hir_show_grammar.specs.declared.line_error.LineError.{LineError}
-use Rattle.hir_show_grammar.specs.Readings.{ReadsAll, SaysOrStops, alone, split_parts, whole}
+use Rattle.hir_show_grammar.specs.internal.Readings.{ReadsAll, SaysOrStops}
+use Rattle.hir_show_grammar.specs.Readings.{alone, split_parts, whole}
 use Rattle.hir_show_grammar.specs.Words.{list, list_of}
 use Rattle.hir_show_grammar.proofs.Separators.{split_parts-join}
 use Rattle.hir_show_grammar.proofs.Spaces.{numbers_lack}

@@ -4,7 +4,8 @@ use Rattle.std.specs.Option.{option_map}
 use Rattle.std.specs.Str.{bytes_eq}
 use Rattle.std.proofs.lemmas.Result.{err_from_is_err_and}
 use Rattle.hir_show_grammar.specs.Numerals.{number_of}
-use Rattle.hir_show_grammar.specs.Readings.{StartsOtherwise, split_parts}
+use Rattle.hir_show_grammar.specs.internal.Readings.{StartsOtherwise}
+use Rattle.hir_show_grammar.specs.Readings.{split_parts}
 use Rattle.hir_show_grammar.specs.Words.{number, optional, optional_of}
 use Rattle.hir_show_grammar.proofs.Forms.{same_bytes}
 use Rattle.hir_show_grammar.proofs.Prefixes.{Begins, begins_with}

@@ -1,6 +1,7 @@
 use Rattle.std.proofs.Common.{refl}
 use Rattle.std.proofs.lemmas.Result.{on_ok_weaker}
-use Rattle.hir_show_run.specs.Answer.{captures_answer, chain_answer, chain_by, resolve_answer}
+use Rattle.hir_show_run.specs.Answer.{captures_answer, chain_answer, resolve_answer}
+use Rattle.hir_show_run.specs.internal.Answer.{chain_by}
 use Rattle.hir_show_run.proofs.BodyLemmas.{chain_is}
 use Rattle.hir_show_run.proofs.body_of_lines.BodyOfLines.answer_body.Goals as goal
 

@@ -1,5 +1,5 @@
 use Rattle.std.proofs.Common.{List, ℕ, sym, ap, ◌∙◌}
-use Rattle.hir_show_run.specs.Output.{Output}
+use Rattle.hir_show_run.specs.internal.Output.{Output}
 use Rattle.hir_show_run.proofs.output.Output.next_line.Goals as goal
 
 pub returns-clause-takes : goal.returns-clause-takes

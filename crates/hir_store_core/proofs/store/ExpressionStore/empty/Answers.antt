@@ -4,7 +4,7 @@ use Rattle.hir_store_core.proofs.store.ExpressionStore.empty.Goals as goal
 
 pub invariant_of-result : goal.invariant_of-result
 invariant_of-result c = record {
-  sound = rw (c.new.ensures, c.new-2.ensures, c.new-3.ensures, c.new-4.ensures, c.new-5.ensures, c.new-6.ensures, c.new-7.ensures) empty_sound;
-  parents = rw (c.new.ensures, c.new-2.ensures, c.new-3.ensures, c.new-9.ensures) no_parents;
-  links = rw (c.new-2.ensures, c.new-9.ensures) no_links;
+  sound = rw (c.new.ensures, c.new-2.ensures) empty_sound;
+  parents = rw (c.new.ensures, c.new-4.ensures) no_parents;
+  links = rw (c.new.ensures, c.new-4.ensures) no_links;
 }

@@ -1,7 +1,7 @@
 use Rattle.std.proofs.Common.{◌∙◌, ap, sym}
 use Rattle.std.specs.Prelude.{Some}
 use Rattle.hir_store_core.specs.Contents.{rooted_of}
-use Rattle.hir_store_core.specs.Sought.{passes}
+use Rattle.hir_store_core.specs.internal.Sought.{passes}
 use Rattle.hir_store_core.proofs.NearestLemmas.{found_from, found_ended, found_here, found_on, found_on_other, fewer}
 use Rattle.hir_store_core.proofs.store.ExpressionStore.nearest.Goals as goal
 

@@ -1,7 +1,7 @@
 use Rattle.std.proofs.Common.{◌≡◌, length}
 use Rattle.hir_store_core.specs.Ancestors.{ancestors}
 use Rattle.hir_store_core.specs.JumpTargets.{nearest}
-use Rattle.hir_store_core.specs.Sought.{passes}
+use Rattle.hir_store_core.specs.internal.Sought.{passes}
 use Rattle.hir_store_core.proofs.NearestLemmas.{found_from}
 use Rattle.hir_store_core.proofs.store.ExpressionStore.nearest.Given as goal
 

@@ -3,7 +3,7 @@ use Rattle.std.specs.List.{flat_map}
 use Rattle.hir_validate.proofs.SoundLemmas.{sound_falls}
 use Rattle.hir_store_core.specs.Contents.{rooted_of}
 use Rattle.hir_store_core.specs.PatLists.{bindings_at}
-use Rattle.hir_store_core.specs.PatTurns.{pat_of, turns, entered_pat}
+use Rattle.hir_store_core.specs.internal.PatTurns.{pat_of, turns, entered_pat}
 use Rattle.hir_store_core.proofs.TurnLemmas.{turns_in_range, bindings_of_turns}
 use Rattle.hir_store_core.proofs.WalkLemmas.{may_those}
 use Rattle.hir_store_core.proofs.TryLemmas.{turns_through, turns_keep, tries_to}

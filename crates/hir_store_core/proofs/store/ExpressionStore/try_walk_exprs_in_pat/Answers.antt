@@ -1,7 +1,7 @@
 use Rattle.std.proofs.Common.{◌≡◌, ◌∙◌, ◌<◌, length, refl, rules, sym}
 use Rattle.hir_validate.proofs.SoundLemmas.{sound_falls}
 use Rattle.hir_store_core.specs.Contents.{rooted_of}
-use Rattle.hir_store_core.specs.PatTurns.{pat_of, turns, exprs_left}
+use Rattle.hir_store_core.specs.internal.PatTurns.{pat_of, turns, exprs_left}
 use Rattle.hir_store_core.proofs.TurnLemmas.{turns_in_range, exprs_of_turns}
 use Rattle.hir_store_core.proofs.WalkLemmas.{may_those}
 use Rattle.hir_store_core.proofs.TryLemmas.{turns_through, turns_keep, tries_to}

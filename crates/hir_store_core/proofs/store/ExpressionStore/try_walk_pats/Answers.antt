@@ -2,7 +2,7 @@ use Rattle.std.proofs.Common.{rules, sym}
 use Rattle.hir_node.proofs.RunLemmas.{may_always}
 use Rattle.hir_validate.proofs.SoundLemmas.{sound_falls}
 use Rattle.hir_store_core.specs.Contents.{rooted_of}
-use Rattle.hir_store_core.specs.PatTurns.{turns, entered_pat}
+use Rattle.hir_store_core.specs.internal.PatTurns.{turns, entered_pat}
 use Rattle.hir_store_core.proofs.TurnLemmas.{pats_of_turns}
 use Rattle.hir_store_core.proofs.TryLemmas.{turns_through, turns_keep, tries_to}
 use Rattle.hir_store_core.proofs.store.ExpressionStore.try_walk_pats.Goals as goal

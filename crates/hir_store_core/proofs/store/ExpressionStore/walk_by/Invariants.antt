@@ -1,5 +1,5 @@
 use Rattle.std.proofs.Common.{length}
-use Rattle.hir_store_core.specs.PatTurns.{turns}
+use Rattle.hir_store_core.specs.internal.PatTurns.{turns}
 use Rattle.hir_store_core.proofs.TurnLemmas.{steps_step, steps}
 use Rattle.hir_store_core.proofs.TurnWalk.{WalksOn}
 use Rattle.hir_store_core.proofs.store.ExpressionStore.walk_by.Given as goal

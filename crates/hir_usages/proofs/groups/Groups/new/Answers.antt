@@ -1,6 +1,6 @@
 use Rattle.std.proofs.Common.{List, sym, subst, take}
 use Rattle.hir_usages.specs.declared.usage.Usage.{Usage}
-use Rattle.hir_usages.specs.walk.Groups.{AreGroups}
+use Rattle.hir_usages.specs.Groups.{AreGroups}
 use Rattle.hir_usages.proofs.GroupLemmas.{one_taken}
 use Rattle.hir_usages.proofs.groups.Groups.new.Goals as goal
 

@@ -1,5 +1,5 @@
 use Rattle.std.proofs.Common.{take}
-use Rattle.hir_usages.specs.walk.Groups.{AreGroups}
+use Rattle.hir_usages.specs.Groups.{AreGroups}
 use Rattle.hir_usages.proofs.groups.Groups.new.Given as goal
 
 abbrev pub invariant-loop-usage : goal.invariant-loop-usage

@@ -1,7 +1,7 @@
 use Rattle.std.proofs.Common.{◌≡◌, List, take}
 use Rattle.hir_usages.specs.Usages.{unused_among}
 use Rattle.hir_usages.specs.declared.usage.Usage.{Usage}
-use Rattle.hir_usages.specs.walk.Groups.{AreGroups}
+use Rattle.hir_usages.specs.Groups.{AreGroups}
 use Rattle.hir_usages.proofs.groups.Groups.unused.Given as goal
 
 abbrev pub invariant-loop-binding : goal.invariant-loop-binding

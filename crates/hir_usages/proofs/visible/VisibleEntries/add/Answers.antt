@@ -5,7 +5,8 @@ use Rattle.hir_base.specs.declared.hygiene.SyntaxContext.{SyntaxContext}
 use Rattle.hir_base.specs.contracts.hygiene.HygieneIdPartialEq.TheImpl as hygienes
 use Rattle.hir_base.specs.contracts.name.NamePartialEq.TheImpl as names
 use Rattle.hir_scope.specs.declared.scope.ScopeEntry.{ScopeEntry}
-use Rattle.hir_usages.specs.{Visible.with_new_name, walk.Seen.AreSeen}
+use Rattle.hir_usages.specs.Visible.{with_new_name}
+use Rattle.hir_usages.specs.internal.Seen.{AreSeen}
 use Rattle.hir_usages.proofs.VisibleLemmas.{entry_is_new, key_was_seen, seen_more, was_seen}
 use Rattle.hir_usages.proofs.visible.VisibleEntries.add.Goals as goal
 

@@ -1,5 +1,6 @@
 use Rattle.std.proofs.Common.{◌≡◌, length}
-use Rattle.hir_usages.specs.walk.{Pending.AreInRange, Pending.visits_of, Reading.lists_of, Reading.with_tasks}
+use Rattle.hir_usages.specs.internal.Pending.{AreInRange, visits_of}
+use Rattle.hir_usages.specs.internal.Reading.{lists_of, with_tasks}
 use Rattle.hir_usages.proofs.walk.Walk.run.Given as goal
 
 abbrev pub invariant-loop-task : goal.invariant-loop-task

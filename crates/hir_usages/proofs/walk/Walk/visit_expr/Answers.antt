@@ -1,6 +1,7 @@
 use Rattle.std.proofs.Common.{◌∙◌, ◌++◌}
 use Rattle.hir_scope.specs.{ScopingForms.expr_form, Order.met_in_form}
-use Rattle.hir_usages.specs.walk.{Pending.tasks_of, Reading.lists_of}
+use Rattle.hir_usages.specs.internal.Pending.{tasks_of}
+use Rattle.hir_usages.specs.internal.Reading.{lists_of}
 use Rattle.hir_usages.proofs.WalkLemmas.{visit_expr}
 use Rattle.hir_usages.proofs.walk.Walk.visit_expr.Goals as goal
 

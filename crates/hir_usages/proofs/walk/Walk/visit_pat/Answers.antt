@@ -1,6 +1,7 @@
 use Rattle.std.proofs.Common.{◌∙◌, ap, List, ℕ, ◌++◌}
 use Rattle.hir_node.specs.declared.node_id.NodeId.{NodeId}
-use Rattle.hir_usages.specs.{Usages.bound_at, walk.Reading.lists_of}
+use Rattle.hir_usages.specs.Usages.{bound_at}
+use Rattle.hir_usages.specs.internal.Reading.{lists_of}
 use Rattle.hir_usages.proofs.WalkLemmas.{visit_pat, pat_in_range}
 use Rattle.hir_usages.proofs.walk.Walk.visit_pat.Goals as goal
 

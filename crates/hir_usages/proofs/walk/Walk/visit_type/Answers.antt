@@ -1,4 +1,4 @@
-use Rattle.hir_usages.specs.walk.Reading.{lists_of}
+use Rattle.hir_usages.specs.internal.Reading.{lists_of}
 use Rattle.hir_usages.proofs.WalkLemmas.{visit_type}
 use Rattle.hir_usages.proofs.walk.Walk.visit_type.Goals as goal
 

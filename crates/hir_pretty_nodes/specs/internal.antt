@@ -1,0 +1,4 @@
+-- What only contracts within this crate cite: how its code goes on, step by step.
+pub mod Literals
+pub mod Names
+pub mod Printers

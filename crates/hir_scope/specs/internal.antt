@@ -1,0 +1,5 @@
+-- What only contracts within this crate cite: how its code goes on, step by step.
+pub mod Begins
+pub mod ContextsUnder
+pub mod Pending
+pub mod WalkState
