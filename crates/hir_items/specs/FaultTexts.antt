@@ -1,5 +1,6 @@
 -- The texts of the faults of bodies and of signatures: the name, and after a space the index of a parameter.
-use Rattle.hir_items.specs.Prelude.{ℕ, List, ◌++◌, codes, decimal}
+use Rattle.std.specs.Prelude.{ℕ, List, ◌++◌, codes}
+use Rattle.std.specs.Fmt.{decimal}
 use Rattle.hir_items.specs.declared.body_fault.BodyFault.{BodyFault}
 use Rattle.hir_items.specs.declared.body_fault.BodyFault.TheVariants as body
 use Rattle.hir_items.specs.declared.signature_fault.SignatureFault.{SignatureFault}

@@ -1,6 +1,11 @@
 -- The first type, constant or lifetime of a name.
-use Rattle.hir_items.specs.Prelude.{◌≡◌, ℕ, List, ◌∷◌, ◌++◌, length, Option, Some, MatchOption, Name, LifetimeParamData, TypeOrConstParamData, TypeParamData, ConstParamData}
+use Rattle.std.specs.Prelude.{◌≡◌, ℕ, List, ◌∷◌, ◌++◌, length, Option, Some}
 use Rattle.std.specs.List.{All}
+use Rattle.std.specs.Option.{MatchOption}
+use Rattle.hir_base.specs.Ids.{Name}
+use Rattle.hir_generics.specs.declared.data.LifetimeParamData.{LifetimeParamData}
+use Rattle.hir_generics.specs.declared.param.TypeOrConstParamData.{TypeOrConstParamData}
+use Rattle.hir_generics.specs.declared.param.TypeOrConstParamData.TheVariants.{TypeParamData, ConstParamData}
 
 -- some members for which P doesn't hold, and after them, at the index `at`, one for which it does
 pub record FirstAt {X : Type 0} (P : X → Type 0) (xs : List X) (at : ℕ) : Type 0 where

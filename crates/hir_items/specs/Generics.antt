@@ -1,6 +1,19 @@
 -- The model of generic parameters, as lists; the first of a name, and the index of a lifetime.
-use Rattle.hir_items.specs.Prelude.{ℕ, nat_eq, List, [], ◌∷◌, length, take, slice_get, Bool, false, cond, Option, Some, None, filter, enumerate_from, position, pointwise, Name, GenericDefId, TypeOrConstParamId, LifetimeParamId, is_bound, is_trait_self, LifetimeParamData, LifetimeBoundType, LateBound, TypeOrConstParamData, TypeParamData, ConstParamData, WherePredicate}
+use Rattle.std.specs.Prelude.{ℕ, nat_eq, List, [], ◌∷◌, length, take, slice_get, Bool, false, cond, Option, Some, None}
+use Rattle.std.specs.List.{filter, enumerate_from, position}
 use Rattle.std.specs.Option.{option_map}
+use Rattle.std.specs.Cmp.Lexicographic.{pointwise}
+use Rattle.hir_base.specs.Ids.{Name}
+use Rattle.hir_base.specs.declared.defs.GenericDefId.{GenericDefId}
+use Rattle.hir_base.specs.declared.params.TypeOrConstParamId.{TypeOrConstParamId}
+use Rattle.hir_base.specs.declared.params.LifetimeParamId.{LifetimeParamId}
+use Rattle.hir_generics.specs.Params.{is_bound, is_trait_self}
+use Rattle.hir_generics.specs.declared.data.LifetimeParamData.{LifetimeParamData}
+use Rattle.hir_generics.specs.declared.data.LifetimeBoundType.{LifetimeBoundType}
+use Rattle.hir_generics.specs.declared.data.LifetimeBoundType.TheVariants.{LateBound}
+use Rattle.hir_generics.specs.declared.param.TypeOrConstParamData.{TypeOrConstParamData}
+use Rattle.hir_generics.specs.declared.param.TypeOrConstParamData.TheVariants.{TypeParamData, ConstParamData}
+use Rattle.hir_generics.specs.declared.predicate.WherePredicate.{WherePredicate}
 
 -- the parameters that are types or constants, those that are lifetimes, and the predicates on them
 pub record Generics : Type 0 where

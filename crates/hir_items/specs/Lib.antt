@@ -10,8 +10,6 @@ pub mod Signatures
 pub mod Lookups
 -- the texts of faults
 pub mod FaultTexts
--- what the files here import of std and of lower crates, from one place
-pub mod Prelude
 -- what only contracts within this crate cite
 pub mod internal
 -- proofs that `==` decides whether two values are the same

@@ -1,5 +1,7 @@
 -- The results of lookups of a definition that may have generic parameters, and of one that may have a body.
-use Rattle.hir_items.specs.Prelude.{ℕ, ExpressionStoreSourceMap, Contents}
+use Rattle.std.specs.Prelude.{ℕ}
+use Rattle.hir_source_map.specs.declared.source_map.ExpressionStoreSourceMap.{ExpressionStoreSourceMap}
+use Rattle.hir_store_core.specs.Contents.{Contents}
 use Rattle.hir_items.specs.Bodies.{BodyContents}
 use Rattle.hir_items.specs.Generics.{Generics}
 use Rattle.hir_items.specs.declared.body_source_map.BodySourceMap.{BodySourceMap}

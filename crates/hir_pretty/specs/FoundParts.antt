@@ -1,8 +1,14 @@
 -- What the tables have that heads of definitions ask for: the enum of a variant, the fields of a variant,
 -- signatures.
-use Rattle.hir_pretty.specs.Prelude.{[], ◌∷◌, Option, Result, option_map, fields_code, VariantId, Missing, found_or, FunctionParts, StructParts, VariantParts, Tables, EnumId, EnumVariantId, FunctionId, StructId}
+use Rattle.std.specs.Prelude.{[], ◌∷◌, Option, Result, option_map}
 use Rattle.std.specs.FinMap as map
+use Rattle.hir_base.specs.Ids.{EnumId, EnumVariantId, FunctionId, StructId}
+use Rattle.hir_base.specs.Keys.{fields_code}
+use Rattle.hir_base.specs.declared.defs.VariantId.{VariantId}
+use Rattle.hir_pretty_nodes.specs.Prelude.{Missing, found_or}
 use Rattle.hir_store_core.specs.declared.missing.Missing.TheVariants as missing
+use Rattle.hir_items.specs.declared.{signatures.FunctionParts.FunctionParts, signatures.StructParts.StructParts, signatures.VariantParts.VariantParts}
+use Rattle.hir_defs.specs.Lookups.{Tables}
 
 abbrev pub parents : Tables → EnumVariantId → Result EnumId Missing
 parents t id = found_or (missing.Variant id) (map.get t.variant_parents (id ∷ []))

@@ -26,8 +26,6 @@ pub mod Tries
 pub mod PatLinks
 -- the kept parts of a store without nodes
 pub mod KeptParts
--- what the files here import of std and of lower crates, from one place
-pub mod Prelude
 -- what only contracts within this crate cite
 pub mod internal
 -- proofs that `==` decides whether two values are the same

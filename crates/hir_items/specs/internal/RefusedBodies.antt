@@ -1,5 +1,7 @@
 -- The parts that the refusal of a body gives back.
-use Rattle.hir_items.specs.Prelude.{List, Option, PatId, BindingId, Contents}
+use Rattle.std.specs.Prelude.{List, Option}
+use Rattle.hir_path.specs.NodeIds.{PatId, BindingId}
+use Rattle.hir_store_core.specs.Contents.{Contents}
 use Rattle.hir_items.specs.declared.body.RefusedBody.{RefusedBody}
 use Rattle.hir_items.specs.declared.body_fault.BodyFault.{BodyFault}
 use Rattle.hir_items.specs.declared.formals.Param.{Param}
