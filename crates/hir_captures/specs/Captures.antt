@@ -7,7 +7,7 @@ use Rattle.hir_base.specs.declared.hygiene.SyntaxContext.{SyntaxContext}
 use Rattle.hir_path.specs.NodeIds.{ExprId, BindingId}
 use Rattle.hir_node.specs.declared.{expr.Expr.Expr, node_id.NodeId.NodeId}
 use Rattle.hir_store_core.specs.Contents.{Contents}
-use Rattle.hir_items.specs.Bodies.{BodyContents, BodyReaches}
+use Rattle.hir_body.specs.Bodies.{BodyContents, BodyReaches}
 use Rattle.hir_scope.specs.{BodyScopes.entry_nodes_of_body, Chains.HasChain, Frames.Chain, Resolution.resolve}
 use Rattle.hir_scope.specs.declared.scope.ScopeEntry.{ScopeEntry}
 use Rattle.hir_captures.specs.Uses.{Use, uses_in}

@@ -4,7 +4,7 @@ use Rattle.std.specs.Prelude.{ℕ, [], ◌∷◌, Option}
 use Rattle.std.specs.Option.{option_map}
 use Rattle.std.specs.FinMap as map
 use Rattle.hir_base.specs.Keys.{body_code, fields_code}
-use Rattle.hir_base.specs.Table.{by_code}
+use Rattle.hir_collections.specs.Table.{by_code}
 use Rattle.hir_base.specs.declared.defs.AdtId.{AdtId}
 use Rattle.hir_base.specs.declared.defs.AdtId.TheVariants as adt
 use Rattle.hir_base.specs.declared.defs.GenericDefId.{GenericDefId}
@@ -16,14 +16,15 @@ use Rattle.hir_source_map.specs.declared.source_map.ExpressionStoreSourceMap.{Ex
 use Rattle.hir_store_core.specs.Contents.{Contents}
 use Rattle.hir_store_core.specs.declared.missing.Missing.{Missing}
 use Rattle.hir_store_core.specs.declared.missing.Missing.TheVariants as missing
-use Rattle.hir_items.specs.Bodies.{BodyContents}
-use Rattle.hir_items.specs.Generics.{empty}
-use Rattle.hir_items.specs.Lookups.{SignatureAndSources, BodyAndSources}
-use Rattle.hir_items.specs.declared.body_source_map.BodySourceMap.{BodySourceMap}
-use Rattle.hir_items.specs.declared.signatures.FunctionParts.{FunctionParts}
-use Rattle.hir_items.specs.declared.signatures.StructParts.{StructParts}
-use Rattle.hir_items.specs.declared.signatures.PlainParts.{PlainParts}
-use Rattle.hir_items.specs.declared.signatures.VariantParts.{VariantParts}
+use Rattle.hir_body.specs.Bodies.{BodyContents}
+use Rattle.hir_signature.specs.Generics.{empty}
+use Rattle.hir_signature.specs.Lookups.{SignatureAndSources}
+use Rattle.hir_body.specs.Lookups.{BodyAndSources}
+use Rattle.hir_body.specs.declared.body_source_map.BodySourceMap.{BodySourceMap}
+use Rattle.hir_signature.specs.declared.signatures.FunctionParts.{FunctionParts}
+use Rattle.hir_signature.specs.declared.signatures.StructParts.{StructParts}
+use Rattle.hir_signature.specs.declared.signatures.PlainParts.{PlainParts}
+use Rattle.hir_signature.specs.declared.signatures.VariantParts.{VariantParts}
 use Rattle.hir_defs.specs.Tables.{plain_code}
 use Rattle.hir_defs.specs.declared.plain_def.PlainDef.{PlainDef}
 use Rattle.hir_defs.specs.declared.plain_def.PlainDef.TheVariants as plain

@@ -16,12 +16,11 @@ ghost use Rattle.hir_defs.specs.Lookups.{Tables, function_entry, struct_entry, p
 use crate::no_generics::NoGenerics;
 use crate::plain_def::PlainDef;
 use crate::tables::{Tables, entry};
-use hir_base::{
-    AdtId, DefWithBodyId, ExpressionStoreOwnerId, FunctionId, GenericDefId, StructId, Table,
-};
-use hir_items::{
-    Bodies, BodyEntry, FunctionSignature, PlainSignature, SignatureEntry, Signatures,
-    StructSignature,
+use hir_base::{AdtId, DefWithBodyId, ExpressionStoreOwnerId, FunctionId, GenericDefId, StructId};
+use hir_body::{Bodies, BodyEntry};
+use hir_collections::Table;
+use hir_signature::{
+    FunctionSignature, PlainSignature, SignatureEntry, Signatures, StructSignature,
 };
 use hir_source_map::ExpressionStoreSourceMap;
 use hir_store_core::{ExpressionStore, Missing};

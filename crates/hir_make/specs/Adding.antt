@@ -1,8 +1,8 @@
 -- What a helper leaves in a builder: one node more, which comes last in its arena and whose id is the number
 -- of those before it; and why it is refused.
 use Rattle.std.specs.Prelude.{◌≡◌, ◌⊎◌, ℕ, List, [], ◌∷◌, ◌++◌, length, Option, Some, None}
-use Rattle.hir_base.specs.declared.arena.TheConstants.{MOST_ITEMS}
-use Rattle.hir_base.specs.declared.arena.ArenaFault.TheVariants.{Full, Memory}
+use Rattle.hir_collections.specs.declared.arena.TheConstants.{MOST_ITEMS}
+use Rattle.hir_collections.specs.declared.arena.ArenaFault.TheVariants.{Full, Memory}
 use Rattle.hir_path.specs.NodeIds.{ExprId, PatId, TypeRefId, LabelId}
 use Rattle.hir_path.specs.declared.path.GenericArgs.{GenericArgs}
 use Rattle.hir_node.specs.declared.expr.Expr.{Expr}
@@ -14,9 +14,9 @@ use Rattle.hir_node.specs.declared.type_ref.TypeRef.{TypeRef}
 use Rattle.hir_node.specs.declared.node_id.NodeId.{NodeId}
 use Rattle.hir_validate.specs.declared.fault.FinishFault.{FinishFault}
 use Rattle.hir_validate.specs.declared.fault.FinishFault.TheVariants as finish
-use Rattle.hir_items.specs.Bodies.{BodyContents, body_fault}
-use Rattle.hir_items.specs.declared.body_fault.BodyFault.TheVariants as body
-use Rattle.hir_items.specs.declared.signature_fault.SignatureFault.{SignatureFault}
+use Rattle.hir_body.specs.Bodies.{BodyContents, body_fault}
+use Rattle.hir_body.specs.declared.body_fault.BodyFault.TheVariants as body
+use Rattle.hir_signature.specs.declared.signature_fault.SignatureFault.{SignatureFault}
 use Rattle.hir_store.specs.Building.{building_of, nodes_of, finish_fault}
 use Rattle.hir_store.specs.declared.builder.ExpressionStoreBuilder.{ExpressionStoreBuilder}
 use Rattle.hir_error.specs.declared.named_id.NamedId.{NamedId}

@@ -19,14 +19,14 @@ use Rattle.hir_node.specs.declared.type_ref.Mutability.{Mutability}
 use Rattle.hir_node.specs.declared.type_ref.RefType.{RefType}
 use Rattle.hir_source_map.specs.Additions.{finish_sources}
 use Rattle.hir_source_map.specs.declared.source_map.ExpressionStoreSourceMap.{ExpressionStoreSourceMap}
-use Rattle.hir_items.specs.declared.formals.Param.{Param}
-use Rattle.hir_items.specs.Generics.{empty}
-use Rattle.hir_items.specs.declared.signatures.FieldData.{FieldData}
-use Rattle.hir_items.specs.declared.signatures.FieldsShape.{FieldsShape}
-use Rattle.hir_items.specs.declared.signatures.FunctionParts.{FunctionParts}
-use Rattle.hir_items.specs.declared.signatures.StructParts.{StructParts}
-use Rattle.hir_items.specs.declared.signatures.VariantParts.{VariantParts}
-use Rattle.hir_items.specs.Bodies.{BodyContents, body_of}
+use Rattle.hir_body.specs.declared.formals.Param.{Param}
+use Rattle.hir_signature.specs.Generics.{empty}
+use Rattle.hir_signature.specs.declared.signatures.FieldData.{FieldData}
+use Rattle.hir_signature.specs.declared.signatures.FieldsShape.{FieldsShape}
+use Rattle.hir_signature.specs.declared.signatures.FunctionParts.{FunctionParts}
+use Rattle.hir_signature.specs.declared.signatures.StructParts.{StructParts}
+use Rattle.hir_signature.specs.declared.signatures.VariantParts.{VariantParts}
+use Rattle.hir_body.specs.Bodies.{BodyContents, body_of}
 use Rattle.hir_store.specs.Building.{building_of, contents_of, nodes_of, has_exprs, and_root}
 use Rattle.hir_store.specs.declared.builder.ExpressionStoreBuilder.{ExpressionStoreBuilder}
 

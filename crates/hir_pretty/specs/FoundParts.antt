@@ -7,7 +7,7 @@ use Rattle.hir_base.specs.Keys.{fields_code}
 use Rattle.hir_base.specs.declared.defs.VariantId.{VariantId}
 use Rattle.hir_pretty_nodes.specs.Prelude.{Missing, found_or}
 use Rattle.hir_store_core.specs.declared.missing.Missing.TheVariants as missing
-use Rattle.hir_items.specs.declared.{signatures.FunctionParts.FunctionParts, signatures.StructParts.StructParts, signatures.VariantParts.VariantParts}
+use Rattle.hir_signature.specs.declared.{signatures.FunctionParts.FunctionParts, signatures.StructParts.StructParts, signatures.VariantParts.VariantParts}
 use Rattle.hir_defs.specs.Lookups.{Tables}
 
 abbrev pub parents : Tables → EnumVariantId → Result EnumId Missing

@@ -6,7 +6,7 @@ use Rattle.hir_base.specs.declared.{defs.AdtId.AdtId, defs.GenericDefId.GenericD
 use Rattle.hir_base.specs.declared.defs.AdtId.TheVariants as adt
 use Rattle.hir_base.specs.declared.defs.GenericDefId.TheVariants as generic
 use Rattle.hir_store_core.specs.declared.missing.Missing.TheVariants as missing
-use Rattle.hir_items.specs.declared.{signatures.FunctionParts.FunctionParts, signatures.StructParts.StructParts}
+use Rattle.hir_signature.specs.declared.{signatures.FunctionParts.FunctionParts, signatures.StructParts.StructParts}
 use Rattle.hir_defs.specs.Lookups.{Tables}
 use Rattle.hir_pretty_nodes.specs.declared.fault.PrintFault.{PrintFault}
 use Rattle.hir_pretty_nodes.specs.declared.fault.PrintFault.TheVariants as fault

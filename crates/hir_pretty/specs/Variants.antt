@@ -7,9 +7,9 @@ use Rattle.hir_base.specs.declared.defs.VariantId.TheVariants as variant
 use Rattle.hir_base.specs.declared.mod_path.PathKind.TheVariants.{Plain, Super, Crate, Abs, DollarCrate}
 use Rattle.hir_pretty_nodes.specs.Prelude.{PrintEnv, Doc, MissingDoc, text, br, t, when, join, name_docs, found_name, supers}
 use Rattle.hir_store_core.specs.declared.missing.Missing.TheVariants as missing
-use Rattle.hir_items.specs.declared.{signatures.FieldData.FieldData, signatures.FieldsShape.FieldsShape, signatures.RawVisibility.RawVisibility, signatures.VariantParts.VariantParts}
-use Rattle.hir_items.specs.declared.signatures.FieldsShape.TheVariants as shape
-use Rattle.hir_items.specs.declared.signatures.RawVisibility.TheVariants as visibility
+use Rattle.hir_signature.specs.declared.{signatures.FieldData.FieldData, signatures.FieldsShape.FieldsShape, signatures.RawVisibility.RawVisibility, signatures.VariantParts.VariantParts}
+use Rattle.hir_signature.specs.declared.signatures.FieldsShape.TheVariants as shape
+use Rattle.hir_signature.specs.declared.signatures.RawVisibility.TheVariants as visibility
 use Rattle.hir_pretty.specs.Bodies.{Parents, variant_name}
 
 -- The path of a module: its kind and its names, separated by `::`

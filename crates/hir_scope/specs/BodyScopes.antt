@@ -8,8 +8,8 @@ use Rattle.hir_node.specs.declared.node_id.NodeId.{NodeId}
 use Rattle.hir_forest.specs.Faults.{root_nodes}
 use Rattle.hir_validate.specs.Nodes.{Nodes}
 use Rattle.hir_store_core.specs.Contents.{Contents}
-use Rattle.hir_items.specs.Bodies.{BodyContents, BodyReaches, body_nodes, formals_of, last_root}
-use Rattle.hir_items.specs.Signatures.{SignatureReaches, signature_nodes}
+use Rattle.hir_body.specs.Bodies.{BodyContents, BodyReaches, body_nodes, formals_of, last_root}
+use Rattle.hir_signature.specs.Signatures.{SignatureReaches, signature_nodes}
 use Rattle.hir_scope.specs.Chains.{InContext, HasChain}
 use Rattle.hir_scope.specs.Counts.{body_scope_count, body_entry_count, signature_scope_count, signature_entry_count}
 use Rattle.hir_scope.specs.{Paths.chain, Scopes.Scopes, Scopes.ScopeId, Scopes.entry_count}

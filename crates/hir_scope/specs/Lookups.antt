@@ -5,7 +5,7 @@ use Rattle.std.specs.Prelude.{◌≡◌, Option, None, Some, Result, Err, IfOk}
 use Rattle.hir_base.specs.declared.defs.DefWithBodyId.{DefWithBodyId}
 use Rattle.hir_base.specs.declared.defs.ExpressionStoreOwnerId.{ExpressionStoreOwnerId}
 use Rattle.hir_store_core.specs.Contents.{Contents}
-use Rattle.hir_items.specs.Bodies.{BodyContents}
+use Rattle.hir_body.specs.Bodies.{BodyContents}
 use Rattle.hir_defs.specs.Lookups.{Tables, body_entry, owner_entry}
 use Rattle.hir_scope.specs.BodyScopes.{AreBodyScopes, BodyIsTooLarge, AreSignatureScopes, SignatureIsTooLarge}
 use Rattle.hir_scope.specs.{Scopes.Scopes, declared.fault.ScopesFault.ScopesFault}

@@ -6,8 +6,8 @@ ghost use Rattle.hir_scope.specs.Lookups.{AnswersBody, AnswersStore, AnswersOwne
 use crate::expr_scopes::ExprScopes;
 use crate::fault::ScopesFault;
 use hir_base::{DefWithBodyId, ExpressionStoreOwnerId, GenericDefId, VariantId};
+use hir_body::Body;
 use hir_defs::{StoreOf, Tables};
-use hir_items::Body;
 use hir_store_core::ExpressionStore;
 use std::alloc::Global;
 

@@ -17,7 +17,7 @@ use Rattle.hir_validate.specs.Nodes.{Nodes}
 use Rattle.hir_store_core.specs.RootSearch.{root_for_expr}
 use Rattle.hir_store_core.specs.Contents.{Contents}
 use Rattle.hir_store_core.specs.PatLists.{child_exprs}
-use Rattle.hir_items.specs.Bodies.{BodyContents, BodyReaches}
+use Rattle.hir_body.specs.Bodies.{BodyContents, BodyReaches}
 use Rattle.hir_scope.specs.declared.scope.ScopeEntry.{ScopeEntry}
 use Rattle.hir_scope.specs.BodyScopes.{entry_nodes_of_body}
 use Rattle.hir_scope.specs.Chains.{HasChain}

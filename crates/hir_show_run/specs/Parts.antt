@@ -11,8 +11,8 @@ use Rattle.hir_show_grammar.specs.Makers.{Maker}
 use Rattle.hir_show_grammar.specs.Makers as make
 use Rattle.hir_validate.specs.Nodes.{Nodes, no_nodes}
 use Rattle.hir_store.specs.Building.{Building, contents_of, and_root, some_roots}
-use Rattle.hir_items.specs.declared.formals.Param.{Param}
-use Rattle.hir_items.specs.Bodies.{BodyContents, body_of}
+use Rattle.hir_body.specs.declared.formals.Param.{Param}
+use Rattle.hir_body.specs.Bodies.{BodyContents, body_of}
 use Rattle.hir_store_core.specs.declared.side_tables.SideTables.{SideTables}
 use Rattle.hir_store_core.specs.SideTables.{no_side_tables}
 

@@ -6,7 +6,7 @@ use Rattle.hir_base.specs.declared.defs.DefWithBodyId.TheVariants as body
 use Rattle.hir_base.specs.declared.defs.NamedDef.TheVariants as named
 use Rattle.hir_defs.specs.Lookups.{Tables}
 use Rattle.hir_defs.specs.NoTables.{no_tables}
-use Rattle.hir_items.specs.Bodies.{BodyContents}
+use Rattle.hir_body.specs.Bodies.{BodyContents}
 use Rattle.hir_pretty_nodes.specs.TableLookups.{lookups_of}
 use Rattle.hir_pretty_nodes.specs.DocPieces.{DocPiece, text_of}
 use Rattle.hir_pretty_nodes.specs.NameLookups.{PrintEnv}

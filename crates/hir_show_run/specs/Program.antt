@@ -7,7 +7,7 @@ use Rattle.hir_show_grammar.specs.Makers.{Maker}
 use Rattle.hir_show_grammar.specs.Taking.{is_second}
 use Rattle.hir_show_grammar.specs.declared.question.Question.{Question}
 use Rattle.hir_show_grammar.specs.declared.question.Question.TheVariants.{OfStore, OfBody}
-use Rattle.hir_items.specs.Bodies.{body_fault}
+use Rattle.hir_body.specs.Bodies.{body_fault}
 use Rattle.hir_store.specs.Building.{contents_of, finish_fault}
 use Rattle.hir_show_run.specs.declared.fault.RunFault.{RunFault}
 use Rattle.hir_show_run.specs.declared.fault.RunFault.TheVariants.{BadLine, Refused, BodyRefused}

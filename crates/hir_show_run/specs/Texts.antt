@@ -7,7 +7,7 @@ use Rattle.hir_validate.specs.declared.fault.FinishFault.{FinishFault}
 use Rattle.hir_validate.specs.declared.fault.FinishFault.TheVariants as finish
 use Rattle.hir_validate.specs.contracts.fault.FinishFaultDisplay.TheImpl as finish_fault
 use Rattle.hir_show_run.specs.declared.fault.RunFault.{RunFault}
-use Rattle.hir_items.specs.FaultTexts.{body_fault_text}
+use Rattle.hir_body.specs.FaultTexts.{body_fault_text}
 use Rattle.hir_show_run.specs.declared.fault.RunFault.TheVariants.{BadLine, Refused, BodyRefused, InputFailed, OutputFailed, OutOfMemory}
 
 -- the kind of an id and its number

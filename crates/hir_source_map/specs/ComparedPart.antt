@@ -5,8 +5,8 @@ use Rattle.std.specs.Option.{option_eq, option_map}
 use Rattle.std.specs.FinMap as map
 use Rattle.std.specs.Cmp.Lexicographic.{pointwise}
 use Rattle.hir_base.specs.Ids.{MacroCallId}
-use Rattle.hir_base.specs.Maps.{same_maps}
-use Rattle.hir_base.specs.Table.{by_code}
+use Rattle.hir_collections.specs.Maps.{same_maps}
+use Rattle.hir_collections.specs.Table.{by_code}
 use Rattle.hir_source_map.specs.declared.diagnostics.ExpressionStoreDiagnostics.{ExpressionStoreDiagnostics}
 use Rattle.hir_source_map.specs.declared.sources.ExprSources.{ExprSources}
 use Rattle.hir_source_map.specs.declared.source_map.ExpressionStoreSourceMap.{ExpressionStoreSourceMap}

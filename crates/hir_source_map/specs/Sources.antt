@@ -3,7 +3,7 @@
 use Rattle.std.specs.Prelude.{ℕ, List, [], ◌∷◌, ◌++◌, length, Bool, not, ◌||◌, Option, Some, None, ◌==◌, nat_eq}
 use Rattle.std.specs.FinMap as map
 use Rattle.hir_path.specs.NodeIds.{PatId, BindingId}
-use Rattle.hir_base.specs.Table.{by_code}
+use Rattle.hir_collections.specs.Table.{by_code}
 use Rattle.hir_base.specs.Keys.{node_code}
 use Rattle.hir_base.specs.declared.ptr.InFile.{InFile}
 use Rattle.hir_base.specs.declared.ptr.SyntaxNodePtr.{SyntaxNodePtr}

@@ -5,7 +5,7 @@ use Rattle.std.specs.Prelude.{◌≡◌, ◌≢◌, ℕ, List, ◌∷◌, ◌++�
 use Rattle.hir_path.specs.NodeIds.{ExprId, BindingId}
 use Rattle.hir_path.specs.declared.ids.ExprOrPatId.{ExprOrPatId}
 use Rattle.hir_store_core.specs.SideTables.{hygiene_of}
-use Rattle.hir_items.specs.Bodies.{BodyContents}
+use Rattle.hir_body.specs.Bodies.{BodyContents}
 use Rattle.hir_scope.specs.{BodyScopes.entry_nodes_of_body, Chains.HasChain, Frames.Chain, Scopes.Scopes}
 use Rattle.hir_usages.specs.{Renamed.renamed_body, Renames.name_at, Renames.refusal, Renames.resolve_along, Usages.usages_of_body}
 use Rattle.hir_usages.specs.declared.{rename_fault.RenameFault.RenameFault, usage.Usage.Usage}

@@ -8,7 +8,7 @@ use Rattle.hir_path.specs.{Paths.one_name, declared.path.Path.Path}
 use Rattle.hir_node.specs.declared.{binding.Binding.Binding, expr.Expr.Expr, pat.Pat.Pat}
 use Rattle.hir_validate.specs.Nodes.{Nodes}
 use Rattle.hir_store_core.specs.Contents.{Contents}
-use Rattle.hir_items.specs.Bodies.{BodyContents}
+use Rattle.hir_body.specs.Bodies.{BodyContents}
 use Rattle.hir_scope.specs.Scopes.{Scopes}
 use Rattle.hir_usages.specs.{Usages.usages_of, Usages.usages_of_body, declared.usage.Usage.Usage}
 

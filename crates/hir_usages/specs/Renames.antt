@@ -11,7 +11,7 @@ use Rattle.hir_path.specs.NodeIds.{ExprId, BindingId}
 use Rattle.hir_node.specs.declared.{binding.Binding.Binding, expr.Expr.Expr, pat.Pat.Pat}
 use Rattle.hir_validate.specs.Nodes.{Nodes}
 use Rattle.hir_store_core.specs.{Contents.Contents, SideTables.hygiene_of}
-use Rattle.hir_items.specs.{Bodies.BodyContents, declared.formals.Param.Param}
+use Rattle.hir_body.specs.{Bodies.BodyContents, declared.formals.Param.Param}
 use Rattle.hir_scope.specs.{Frames.Frame, Frames.Chain, PathResolution.local_name, PathResolution.binding_at, PathResolution.binding_of, PathResolution.target_binding_at, Paths.chain, Resolution.matches, Resolution.resolve, Scopes.Scope, Scopes.Scopes}
 use Rattle.hir_scope.specs.declared.scope.ScopeEntry.{ScopeEntry}
 use Rattle.hir_usages.specs.Usages.{resolves_to, usages_of_body}

@@ -9,7 +9,7 @@ use Rattle.hir_path.specs.NodeIds.{ExprId, PatId, BindingId}
 use Rattle.hir_node.specs.declared.{expr.Expr.Expr, node_id.NodeId.NodeId, pat.Pat.Pat}
 use Rattle.hir_validate.specs.Nodes.{Nodes}
 use Rattle.hir_store_core.specs.{Contents.Contents, PatLists.bindings_at}
-use Rattle.hir_items.specs.Bodies.{BodyContents}
+use Rattle.hir_body.specs.Bodies.{BodyContents}
 use Rattle.hir_scope.specs.{PathResolution.local_name, PathResolution.binding_at, PathResolution.target_binding_at, Scopes.Scopes}
 use Rattle.hir_captures.specs.{Captures.each_once, Uses.Spot}
 use Rattle.hir_usages.specs.{Visits.visits, declared.usage.Usage.Usage}

@@ -5,7 +5,7 @@ use Rattle.std.specs.Prelude.{List, [], ◌∷◌, Option, None}
 use Rattle.hir_path.specs.NodeIds.{ExprId}
 use Rattle.hir_node.specs.{ChildCalls.children, declared.node_id.NodeId.NodeId}
 use Rattle.hir_validate.specs.{Recursion.fold_down, Nodes.Nodes}
-use Rattle.hir_items.specs.Bodies.{BodyContents, entry_nodes}
+use Rattle.hir_body.specs.Bodies.{BodyContents, entry_nodes}
 use Rattle.hir_scope.specs.{ScopingForms.form_of, Order.met_in_form}
 use Rattle.hir_captures.specs.Uses.{Spot, spot, assignment_at, of_pattern}
 

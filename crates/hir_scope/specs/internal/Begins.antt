@@ -12,8 +12,8 @@ use Rattle.hir_validate.specs.TestedParts.{tested_pat}
 use Rattle.hir_store_core.specs.Contents.{Contents}
 use Rattle.hir_store_core.specs.PatLists.{bindings_at, bindings_in, child_pats_of}
 use Rattle.hir_store_core.specs.Under.{nodes_under}
-use Rattle.hir_items.specs.Bodies.{BodyContents, AreBelow, formals_of, last_root, entry_nodes}
-use Rattle.hir_items.specs.Signatures.{root_entry_nodes}
+use Rattle.hir_body.specs.Bodies.{BodyContents, AreBelow, formals_of, last_root, entry_nodes}
+use Rattle.hir_signature.specs.Signatures.{root_entry_nodes}
 use Rattle.hir_scope.specs.{Scopes.Scope, Scopes.Scopes, EntryNodes.root_frame}
 use Rattle.hir_scope.specs.declared.scope.{ScopeEntry.ScopeEntry, ScopeKind.ScopeKind}
 use Rattle.hir_scope.specs.declared.tasks.{CurrentScopes.CurrentScopes, Task.Task}

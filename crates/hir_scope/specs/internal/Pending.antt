@@ -7,7 +7,7 @@ use Rattle.hir_node.specs.ChildCalls.{Call, OnExpr, OnAnonConst, OnPat, OnType, 
 use Rattle.hir_node.specs.declared.expr_types.{Item.Item, MatchArm.MatchArm, Statement.Statement}
 use Rattle.hir_node.specs.declared.node_id.NodeId.{NodeId}
 use Rattle.hir_validate.specs.Nodes.{Nodes}
-use Rattle.hir_stack.specs.Stacks.{StackItems, Defers}
+use Rattle.hir_collections.specs.Stacks.{StackItems, Defers}
 use Rattle.hir_scope.specs.Scopes.{ScopeId}
 use Rattle.hir_scope.specs.{Chains.InContext, Chains.child_in_context, ScopingForms.ScopingForm}
 use Rattle.hir_scope.specs.ScopingForms as form

@@ -6,7 +6,7 @@ use Rattle.hir_show_grammar.specs.Makers.{Maker}
 use Rattle.hir_show_grammar.specs.Makers as make
 use Rattle.hir_show_grammar.specs.Taking.{is_second as is_second_of}
 use Rattle.hir_store.specs.Building.{building_of, and_root, some_roots}
-use Rattle.hir_items.specs.declared.formals.Param.{Param}
+use Rattle.hir_body.specs.declared.formals.Param.{Param}
 use Rattle.hir_show_run.specs.declared.body_builder.BodyBuilder as code
 use Rattle.hir_show_run.specs.Parts.{Parts, as_written, with_line}
 

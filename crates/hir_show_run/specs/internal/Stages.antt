@@ -11,8 +11,8 @@ use Rattle.hir_show_grammar.specs.Makers.{Maker}
 use Rattle.hir_show_grammar.specs.Taking.{line_asked}
 use Rattle.hir_show_grammar.specs.declared.question.Question.{Question}
 use Rattle.hir_validate.specs.declared.fault.FinishFault.{FinishFault}
-use Rattle.hir_items.specs.declared.body_fault.BodyFault.{BodyFault}
-use Rattle.hir_items.specs.Bodies.{BodyContents, body_fault}
+use Rattle.hir_body.specs.declared.body_fault.BodyFault.{BodyFault}
+use Rattle.hir_body.specs.Bodies.{BodyContents, body_fault}
 use Rattle.hir_store_core.specs.Contents.{Contents}
 use Rattle.hir_store.specs.Building.{Building, contents_of, finish_fault}
 use Rattle.hir_show_run.specs.declared.fault.RunFault.{RunFault}

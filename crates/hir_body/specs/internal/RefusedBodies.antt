@@ -1,0 +1,12 @@
+-- The parts that the refusal of a body gives back.
+use Rattle.std.specs.Prelude.{List, Option}
+use Rattle.hir_path.specs.NodeIds.{PatId, BindingId}
+use Rattle.hir_store_core.specs.Contents.{Contents}
+use Rattle.hir_body.specs.declared.body.RefusedBody.{RefusedBody}
+use Rattle.hir_body.specs.declared.body_fault.BodyFault.{BodyFault}
+use Rattle.hir_body.specs.declared.formals.Param.{Param}
+
+-- the fault, and the parts as they were
+abbrev pub refused_body : BodyFault → Contents → List (Param PatId) → Option (Param BindingId) → RefusedBody
+refused_body fault store params self_param =
+    record { fault = fault; store = store; params = params; self_param = self_param }
