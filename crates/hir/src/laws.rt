@@ -4,6 +4,7 @@
 pub use hir_base::laws as base;
 pub use hir_body::laws as body;
 pub use hir_captures::laws as captures;
+pub use hir_collections::laws as collections;
 pub use hir_node::laws as node;
 pub use hir_path::laws as path;
 pub use hir_scope::{laws as scope, macro_laws as macros};

@@ -307,6 +307,8 @@ pub use hir_store_core::ExprRoots;
 pub use hir_store_core::ExpressionStore;
 pub use hir_store_core::Missing;
 pub use hir_store_core::NodeSet;
+pub use hir_store_core::StoreEntry;
+pub use hir_store_core::Stores;
 pub use hir_store_core::TypeBoundExt;
 pub use hir_usages::RenameFault;
 pub use hir_usages::Usage;

@@ -71,7 +71,8 @@ impl<K, T> Arena<K, T> {
     ///
     /// Returns `Memory` if the allocation fails, and `Full` exactly if the arena holds `MOST_ITEMS` items,
     /// 4,294,967,295. Either error gives the item back and leaves the arena unchanged.
-    // Always inlined, so that a name goes into its arena without a copy on the way: see `with_zeros`.
+    // Always inlined, so that a name goes into its arena without a copy on the way: see `with_zeros` of
+    // `hir_base`.
     #[inline(always)]
     pub fn alloc(&mut self, item: T) -> Result<Idx<K>, (ArenaFault, T)>
         ensures ok { IfOk result (λ id. (id ≡ length self.old) × (self.new ≡ self.old ++ item ∷ [])) }

@@ -1,6 +1,7 @@
 //! Outside definitions: the tables of what is known of them, and lookups there.
 //!
-//! `hir_items`, which is re-exported here, says what a body, generic parameters and a signature are.
+//! `hir_body` says what a body is, `hir_signature` what generic parameters and a signature are; both are
+//! re-exported here.
 #![tactic(auto)]
 
 mod lookups;
@@ -9,7 +10,9 @@ mod plain_def;
 mod tables;
 
 pub use hir_base::{LocalLifetimeParamId, LocalTypeOrConstParamId};
-pub use hir_body::{Bodies, Body, BodyEntry, BodyFault, BodySourceMap, Param, RefusedBody, laws};
+pub use hir_body::{
+    Bodies, Body, BodyEntry, BodyFault, BodySourceMap, Param, RefusedBody, laws as body_laws,
+};
 pub use hir_signature::{
     BoundLifetimes, ConstParamData, FieldData, FieldsShape, FunctionParts, FunctionSignature,
     GenericParamData, GenericParamDataRef, GenericParams, LifetimeBoundType, LifetimeParamData,

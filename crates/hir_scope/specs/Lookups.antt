@@ -1,12 +1,12 @@
--- The scopes of what the tables have of a definition: they are missing only where the tables have no entry of
--- it.
+-- The scopes of what tables have of a definition: they are missing only where the tables have no entry of it.
 use Rattle.std.specs.Option.{option_map}
 use Rattle.std.specs.Prelude.{◌≡◌, Option, None, Some, Result, Err, IfOk}
 use Rattle.hir_base.specs.declared.defs.DefWithBodyId.{DefWithBodyId}
 use Rattle.hir_base.specs.declared.defs.ExpressionStoreOwnerId.{ExpressionStoreOwnerId}
 use Rattle.hir_store_core.specs.Contents.{Contents}
+use Rattle.hir_store_core.specs.Owners.{StoreAndSources}
 use Rattle.hir_body.specs.Bodies.{BodyContents}
-use Rattle.hir_defs.specs.Lookups.{Tables, body_entry, owner_entry}
+use Rattle.hir_body.specs.Lookups.{BodyAndSources}
 use Rattle.hir_scope.specs.BodyScopes.{AreBodyScopes, BodyIsTooLarge, AreSignatureScopes, SignatureIsTooLarge}
 use Rattle.hir_scope.specs.{Scopes.Scopes, declared.fault.ScopesFault.ScopesFault}
 
@@ -26,17 +26,21 @@ AnswersBody found result = Answers AreBodyScopes BodyIsTooLarge found result
 abbrev pub AnswersStore : Option Contents → Result Scopes ScopesFault → Type 0
 AnswersStore found result = Answers AreSignatureScopes SignatureIsTooLarge found result
 
--- the body of a definition, and the store of an owner, where the tables have it
-abbrev pub body_in : Tables → DefWithBodyId → Option BodyContents
-body_in t def = option_map (λ e. e.0) (body_entry t def)
+-- the body of an entry, and the store of an entry, where there is one
+abbrev pub body_in : Option BodyAndSources → Option BodyContents
+body_in entry = option_map (λ e. e.0) entry
 
-abbrev pub store_in : Tables → ExpressionStoreOwnerId → Option Contents
-store_in t id = option_map (λ e. e.0) (owner_entry t id)
+abbrev pub store_in : Option StoreAndSources → Option Contents
+store_in entry = option_map (λ e. e.0) entry
 
--- what is returned for the scopes of an owner: those of the body where it owns one
-abbrev pub AnswersOwner : Tables → ExpressionStoreOwnerId → Result Scopes ScopesFault → Type 0
-AnswersOwner t (ExpressionStoreOwnerId.Signature def) result =
-    AnswersStore (store_in t (ExpressionStoreOwnerId.Signature def)) result
-AnswersOwner t (ExpressionStoreOwnerId.Body def) result = AnswersBody (body_in t def) result
-AnswersOwner t (ExpressionStoreOwnerId.VariantFields variant) result =
-    AnswersStore (store_in t (ExpressionStoreOwnerId.VariantFields variant)) result
+-- what is returned for the scopes of an owner, by what the tables have of each: those of the body where it
+-- owns one
+abbrev pub AnswersOwner : (DefWithBodyId → Option BodyAndSources)
+    → (ExpressionStoreOwnerId → Option StoreAndSources) → ExpressionStoreOwnerId
+    → Result Scopes ScopesFault → Type 0
+AnswersOwner bodies stores (ExpressionStoreOwnerId.Signature def) result =
+    AnswersStore (store_in (stores (ExpressionStoreOwnerId.Signature def))) result
+AnswersOwner bodies stores (ExpressionStoreOwnerId.Body def) result =
+    AnswersBody (body_in (bodies def)) result
+AnswersOwner bodies stores (ExpressionStoreOwnerId.VariantFields variant) result =
+    AnswersStore (store_in (stores (ExpressionStoreOwnerId.VariantFields variant))) result

@@ -16,6 +16,8 @@ pub mod RootSearch
 pub mod NodeSets
 -- the blocks with the maps of their items
 pub mod Blocks
+-- the store of an owner, and what is missing where there is none
+pub mod Owners
 -- the path of a bound
 pub mod Bounds
 -- the text of a missing fact
