@@ -1,15 +1,6 @@
 -- The model of a body, and the first fault of its parts.
-use Rattle.std.specs.Prelude.{◌≡◌, ◌⊎◌, ◌<◌, ℕ, List, [], ◌∷◌, ◌++◌, Option, Some, None, IfSome, option_map, length, map, take, slice_index, Contains}
-use Rattle.std.specs.Option.{option_to_list}
-use Rattle.hir_path.specs.NodeIds.{ExprId, PatId, BindingId}
-use Rattle.hir_forest.specs.Verdict.{◌unless◌, ◌before◌, first_below}
-use Rattle.hir_forest.specs.Faults.{root_nodes}
-use Rattle.hir_path.specs.Lists.{last_of}
-use Rattle.hir_node.specs.declared.node_id.NodeId.{NodeId}
+use Rattle.hir_body.specs.Prelude.{◌≡◌, ◌⊎◌, ◌<◌, ℕ, List, [], ◌∷◌, ◌++◌, Option, Some, None, IfSome, option_map, length, map, take, slice_index, Contains, option_to_list, ExprId, PatId, BindingId, ◌unless◌, ◌before◌, first_below, root_nodes, last_of, NodeId, Nodes, Contents, LiesUnderOther, IsReached, reached_nodes}
 use Rattle.hir_node.specs.declared.node_id.NodeId.TheVariants as node
-use Rattle.hir_validate.specs.Nodes.{Nodes}
-use Rattle.hir_store_core.specs.Contents.{Contents}
-use Rattle.hir_store_core.specs.Under.{LiesUnderOther, IsReached, reached_nodes}
 use Rattle.hir_body.specs.declared.formals.Param.{Param}
 use Rattle.hir_body.specs.declared.body_fault.BodyFault.{BodyFault}
 use Rattle.hir_body.specs.declared.body_fault.BodyFault.TheVariants.{NoRoot, SelfOutOfRange, ParamOutOfRange, ParamRepeated, ParamUnder, RootInParam}

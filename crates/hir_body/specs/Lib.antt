@@ -4,6 +4,8 @@ pub mod Bodies
 pub mod Lookups
 -- the texts of faults of bodies
 pub mod FaultTexts
+-- what the files here import of std and of lower crates, from one place
+pub mod Prelude
 -- what only contracts within this crate cite
 pub mod internal
 -- proofs that `==` decides whether two values are the same

@@ -1,15 +1,7 @@
 -- The captures of a closure: the bindings from outside that its code uses, in the order of their first use,
 -- each once.
-use Rattle.std.specs.{List.list_any, List.AllByRecursion, Option.option_map}
-use Rattle.std.specs.Prelude.{◌≡◌, ℕ, ◌-◌, ⊤, List, [], ◌∷◌, ◌++◌, Option, Some, None, if◌then◌else◌, fold, take, length, filter_map, slice_get, ◌==◌}
-use Rattle.hir_base.specs.Ids.{Name}
-use Rattle.hir_base.specs.declared.hygiene.SyntaxContext.{SyntaxContext}
-use Rattle.hir_path.specs.NodeIds.{ExprId, BindingId}
-use Rattle.hir_node.specs.declared.{expr.Expr.Expr, node_id.NodeId.NodeId}
-use Rattle.hir_store_core.specs.Contents.{Contents}
-use Rattle.hir_body.specs.Bodies.{BodyContents, BodyReaches}
-use Rattle.hir_scope.specs.{BodyScopes.entry_nodes_of_body, Chains.HasChain, Frames.Chain, Resolution.resolve}
-use Rattle.hir_scope.specs.declared.scope.ScopeEntry.{ScopeEntry}
+use Rattle.hir_captures.specs.Prelude.{list_any, AllByRecursion, option_map, ◌≡◌, ℕ, ◌-◌, ⊤, List, [], ◌∷◌, ◌++◌, Option, Some, None, fold, take, length, filter_map, slice_get, ◌==◌, Name, SyntaxContext, ExprId, BindingId, Expr, NodeId, Contents, BodyContents, BodyReaches, entry_nodes_of_body, HasChain, Chain, resolve, ScopeEntry}
+use Rattle.std.specs.Prelude.{if◌then◌else◌}
 use Rattle.hir_captures.specs.Uses.{Use, uses_in}
 
 -- the binding of an entry that was found, unless one further in was found too

@@ -1,15 +1,7 @@
 -- The uses of variables in a closure's code: the paths of one name in it and in no constant, in the order in
 -- which they are visited.
-use Rattle.std.specs.List.{flat_map}
-use Rattle.std.specs.Prelude.{List, [], ◌∷◌, Option, Some, None, slice_get}
-use Rattle.hir_base.specs.Ids.{Name}
-use Rattle.hir_base.specs.declared.hygiene.SyntaxContext.{SyntaxContext}
-use Rattle.hir_path.specs.NodeIds.{ExprId}
+use Rattle.hir_captures.specs.Prelude.{flat_map, List, [], ◌∷◌, Option, Some, None, slice_get, Name, SyntaxContext, ExprId, Expr, NodeId, Pat, fold_down, Nodes, Contents, hygiene_of, local_name, Base, Scope, ConstScope, ChildContext, child_contexts}
 use Rattle.hir_path.specs.declared.ids.ExprOrPatId.TheVariants as either
-use Rattle.hir_node.specs.declared.{expr.Expr.Expr, node_id.NodeId.NodeId, pat.Pat.Pat}
-use Rattle.hir_validate.specs.{Recursion.fold_down, Nodes.Nodes}
-use Rattle.hir_store_core.specs.{Contents.Contents, SideTables.hygiene_of}
-use Rattle.hir_scope.specs.{PathResolution.local_name, ChildContexts.Base, ChildContexts.Scope, ChildContexts.ConstScope, ChildContexts.ChildContext, ChildContexts.child_contexts}
 
 -- 1. The code of a closure
 

@@ -6,6 +6,8 @@ pub mod NamedIds
 pub mod StoreErrors
 -- the sentence of each error
 pub mod Texts
+-- what the files here import of std and of lower crates, from one place
+pub mod Prelude
 -- what only contracts within this crate cite
 pub mod internal
 -- proofs alone, of equality

@@ -1,9 +1,6 @@
 -- Defines the error that a refused builder turns into.
-use Rattle.std.specs.Prelude.{Option, Some, None}
-use Rattle.hir_node.specs.declared.node_id.NodeId.{NodeId}
-use Rattle.hir_validate.specs.declared.fault.FinishFault.{FinishFault}
+use Rattle.hir_error.specs.Prelude.{Option, Some, None, NodeId, FinishFault, Nodes}
 use Rattle.hir_validate.specs.declared.fault.FinishFault.TheVariants as finish
-use Rattle.hir_validate.specs.Nodes.{Nodes}
 use Rattle.hir_error.specs.declared.named_id.NamedId.{NamedId}
 use Rattle.hir_error.specs.declared.error.HirError.{HirError}
 use Rattle.hir_error.specs.declared.error.HirError.TheVariants as error

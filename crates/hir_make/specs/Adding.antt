@@ -1,28 +1,9 @@
 -- What a helper leaves in a builder: one node more, which comes last in its arena and whose id is the number
 -- of those before it; and why it is refused.
-use Rattle.std.specs.Prelude.{◌≡◌, ◌⊎◌, ℕ, List, [], ◌∷◌, ◌++◌, length, Option, Some, None}
-use Rattle.hir_collections.specs.declared.arena.TheConstants.{MOST_ITEMS}
-use Rattle.hir_collections.specs.declared.arena.ArenaFault.TheVariants.{Full, Memory}
-use Rattle.hir_path.specs.NodeIds.{ExprId, PatId, TypeRefId, LabelId}
-use Rattle.hir_path.specs.declared.path.GenericArgs.{GenericArgs}
-use Rattle.hir_node.specs.declared.expr.Expr.{Expr}
+use Rattle.hir_make.specs.Prelude.{◌≡◌, ◌⊎◌, ℕ, List, [], ◌∷◌, ◌++◌, length, Option, Some, None, MOST_ITEMS, Full, Memory, ExprId, PatId, TypeRefId, LabelId, GenericArgs, Expr, Pat, Binding, Label, TypeRef, NodeId, FinishFault, BodyContents, body_fault, SignatureFault, building_of, nodes_of, finish_fault, ExpressionStoreBuilder, NamedId, missing_id, store_error, HirError}
 use Rattle.hir_node.specs.declared.expr.Expr.TheVariants as expr
-use Rattle.hir_node.specs.declared.pat.Pat.{Pat}
-use Rattle.hir_node.specs.declared.binding.Binding.{Binding}
-use Rattle.hir_node.specs.declared.binding.Label.{Label}
-use Rattle.hir_node.specs.declared.type_ref.TypeRef.{TypeRef}
-use Rattle.hir_node.specs.declared.node_id.NodeId.{NodeId}
-use Rattle.hir_validate.specs.declared.fault.FinishFault.{FinishFault}
 use Rattle.hir_validate.specs.declared.fault.FinishFault.TheVariants as finish
-use Rattle.hir_body.specs.Bodies.{BodyContents, body_fault}
 use Rattle.hir_body.specs.declared.body_fault.BodyFault.TheVariants as body
-use Rattle.hir_signature.specs.declared.signature_fault.SignatureFault.{SignatureFault}
-use Rattle.hir_store.specs.Building.{building_of, nodes_of, finish_fault}
-use Rattle.hir_store.specs.declared.builder.ExpressionStoreBuilder.{ExpressionStoreBuilder}
-use Rattle.hir_error.specs.declared.named_id.NamedId.{NamedId}
-use Rattle.hir_error.specs.NamedIds.{missing_id}
-use Rattle.hir_error.specs.StoreErrors.{store_error}
-use Rattle.hir_error.specs.declared.error.HirError.{HirError}
 use Rattle.hir_error.specs.declared.error.HirError.TheVariants as error
 
 -- the builder with one node more

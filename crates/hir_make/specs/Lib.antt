@@ -2,3 +2,5 @@
 pub mod Adding
 -- what the helpers make of their parts
 pub mod Parts
+-- what the files here import of std and of lower crates, from one place
+pub mod Prelude

@@ -1,34 +1,11 @@
 -- What the helpers make of their parts.
-use Rattle.std.specs.Prelude.{ℕ, List, Option, Some, None, false, map, length, replicate}
-use Rattle.hir_base.specs.Ids.{Name}
+use Rattle.hir_make.specs.Prelude.{ℕ, List, Option, Some, None, false, map, length, replicate, Name, Edition2015, ExprId, PatId, TypeRefId, Binding, Label, BindingAnnotation, Unannotated, Expr, Statement, Mutability, RefType, finish_sources, ExpressionStoreSourceMap, Param, empty, FieldData, FieldsShape, FunctionParts, StructParts, VariantParts, BodyContents, body_of, building_of, contents_of, nodes_of, has_exprs, and_root, ExpressionStoreBuilder}
 use Rattle.hir_base.specs.declared.abi.ExternAbi.TheVariants as abi
-use Rattle.hir_base.specs.declared.edition.Edition.TheVariants.{Edition2015}
 use Rattle.hir_base.specs.declared.hygiene.SyntaxContext.TheVariants as context
-use Rattle.hir_path.specs.NodeIds.{ExprId, PatId, TypeRefId}
-use Rattle.hir_node.specs.declared.binding.Binding.{Binding}
-use Rattle.hir_node.specs.declared.binding.Label.{Label}
-use Rattle.hir_node.specs.declared.binding.BindingAnnotation.{BindingAnnotation}
-use Rattle.hir_node.specs.declared.binding.BindingAnnotation.TheVariants.{Unannotated}
-use Rattle.hir_node.specs.declared.expr.Expr.{Expr}
 use Rattle.hir_node.specs.declared.expr.Expr.TheVariants as expr
-use Rattle.hir_node.specs.declared.expr_types.Statement.{Statement}
 use Rattle.hir_node.specs.declared.expr_types.ClosureKind.TheVariants as kind
 use Rattle.hir_node.specs.declared.expr_types.CaptureBy.TheVariants as capture
 use Rattle.hir_node.specs.declared.expr_types.Unsafe.TheVariants as unsafety
-use Rattle.hir_node.specs.declared.type_ref.Mutability.{Mutability}
-use Rattle.hir_node.specs.declared.type_ref.RefType.{RefType}
-use Rattle.hir_source_map.specs.Additions.{finish_sources}
-use Rattle.hir_source_map.specs.declared.source_map.ExpressionStoreSourceMap.{ExpressionStoreSourceMap}
-use Rattle.hir_body.specs.declared.formals.Param.{Param}
-use Rattle.hir_signature.specs.Generics.{empty}
-use Rattle.hir_signature.specs.declared.signatures.FieldData.{FieldData}
-use Rattle.hir_signature.specs.declared.signatures.FieldsShape.{FieldsShape}
-use Rattle.hir_signature.specs.declared.signatures.FunctionParts.{FunctionParts}
-use Rattle.hir_signature.specs.declared.signatures.StructParts.{StructParts}
-use Rattle.hir_signature.specs.declared.signatures.VariantParts.{VariantParts}
-use Rattle.hir_body.specs.Bodies.{BodyContents, body_of}
-use Rattle.hir_store.specs.Building.{building_of, contents_of, nodes_of, has_exprs, and_root}
-use Rattle.hir_store.specs.declared.builder.ExpressionStoreBuilder.{ExpressionStoreBuilder}
 
 -- the binding of this name and this mode (`mut`, `ref` or neither), without hygiene
 abbrev pub binding_named : Name → BindingAnnotation → Binding

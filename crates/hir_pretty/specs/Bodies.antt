@@ -1,13 +1,7 @@
 -- What bodies are printed as.
-use Rattle.std.specs.Prelude.{List, [], ◌∷◌, ◌++◌, map, Option, Result, Ok, Err, codes, option_map, option_to_list}
-use Rattle.hir_base.specs.Ids.{EnumId, EnumVariantId}
-use Rattle.hir_base.specs.declared.defs.DefWithBodyId.{DefWithBodyId}
+use Rattle.hir_pretty.specs.Prelude.{List, [], ◌∷◌, ◌++◌, map, Option, Result, Ok, Err, codes, option_map, option_to_list, EnumId, EnumVariantId, DefWithBodyId, PatId, BindingId, Missing, PrintEnv, Doc, MissingDoc, text, e, p, opt, comma_joined, binding_docs, found_name, Param, BodyContents, formals_of, last_root}
 use Rattle.hir_base.specs.declared.defs.DefWithBodyId.TheVariants as body
 use Rattle.hir_base.specs.declared.defs.NamedDef.TheVariants as named
-use Rattle.hir_path.specs.NodeIds.{PatId, BindingId}
-use Rattle.hir_pretty_nodes.specs.Prelude.{Missing, PrintEnv, Doc, MissingDoc, text, e, p, opt, comma_joined, binding_docs, found_name}
-use Rattle.hir_body.specs.declared.formals.Param.{Param}
-use Rattle.hir_body.specs.Bodies.{BodyContents, formals_of, last_root}
 
 -- which enum each variant is of, where that is known
 abbrev pub Parents : Type 0

@@ -1,14 +1,8 @@
 -- What the tables have that heads of definitions ask for: the enum of a variant, the fields of a variant,
 -- signatures.
-use Rattle.std.specs.Prelude.{[], ◌∷◌, Option, Result, option_map}
+use Rattle.hir_pretty.specs.Prelude.{[], ◌∷◌, Option, Result, option_map, EnumId, EnumVariantId, FunctionId, StructId, fields_code, VariantId, Missing, found_or, FunctionParts, StructParts, VariantParts, Tables}
 use Rattle.std.specs.FinMap as map
-use Rattle.hir_base.specs.Ids.{EnumId, EnumVariantId, FunctionId, StructId}
-use Rattle.hir_base.specs.Keys.{fields_code}
-use Rattle.hir_base.specs.declared.defs.VariantId.{VariantId}
-use Rattle.hir_pretty_nodes.specs.Prelude.{Missing, found_or}
 use Rattle.hir_store_core.specs.declared.missing.Missing.TheVariants as missing
-use Rattle.hir_signature.specs.declared.{signatures.FunctionParts.FunctionParts, signatures.StructParts.StructParts, signatures.VariantParts.VariantParts}
-use Rattle.hir_defs.specs.Lookups.{Tables}
 
 abbrev pub parents : Tables → EnumVariantId → Result EnumId Missing
 parents t id = found_or (missing.Variant id) (map.get t.variant_parents (id ∷ []))

@@ -8,5 +8,7 @@ pub mod Variants
 pub mod Signatures
 -- what printing the signature of any definition returns
 pub mod Owners
+-- what the files here import of std and of lower crates, from one place
+pub mod Prelude
 -- what only contracts within this crate cite
 pub mod internal

@@ -1,19 +1,9 @@
 -- What the signatures of functions and structs are printed as.
-use Rattle.std.specs.Prelude.{ℕ, Bool, false, ◌==◌, List, [], ◌∷◌, ◌++◌, map, Option, Some, None, codes, decimal}
-use Rattle.std.specs.List.{enumerate_from, list_any}
-use Rattle.hir_base.specs.Ids.{Name}
-use Rattle.hir_base.specs.Abi.{abi_text}
-use Rattle.hir_base.specs.declared.{abi.ExternAbi.ExternAbi}
+use Rattle.hir_pretty.specs.Prelude.{ℕ, Bool, false, ◌==◌, List, [], ◌∷◌, ◌++◌, map, Option, Some, None, codes, decimal, enumerate_from, list_any, Name, abi_text, ExternAbi, TypeRefId, LifetimeParamData, TypeOrConstParamData, WherePredicate, Generics, FieldsShape, FunctionParts, StructParts, Repr, PrintEnv, Doc, text, br, into, out, e, t, opt, when, join, comma_joined, with_number, name_docs, l, bound_docs, for_names}
 use Rattle.hir_base.specs.declared.abi.ExternAbi.TheVariants as abi
-use Rattle.hir_path.specs.NodeIds.{TypeRefId}
-use Rattle.hir_signature.specs.declared.{param_data.LifetimeParamData.LifetimeParamData, any_param.TypeOrConstParamData.TypeOrConstParamData, predicate.WherePredicate.WherePredicate}
 use Rattle.hir_signature.specs.declared.any_param.TypeOrConstParamData.TheVariants as param
 use Rattle.hir_signature.specs.declared.predicate.WherePredicate.TheVariants as predicate
-use Rattle.hir_signature.specs.Generics.{Generics}
-use Rattle.hir_signature.specs.declared.{signatures.FieldsShape.FieldsShape, signatures.FunctionParts.FunctionParts, signatures.StructParts.StructParts}
 use Rattle.hir_signature.specs.declared.signatures.FieldsShape.TheVariants as shape
-use Rattle.hir_defs.specs.declared.plain_def.Repr.{Repr}
-use Rattle.hir_pretty_nodes.specs.Prelude.{PrintEnv, Doc, text, br, into, out, e, t, opt, when, join, comma_joined, with_number, name_docs, l, bound_docs, for_names}
 
 -- 1. Generic parameters
 

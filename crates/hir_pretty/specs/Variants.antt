@@ -1,13 +1,8 @@
 -- What structs, unions and variants of enums are printed as, with their fields.
-use Rattle.std.specs.Prelude.{List, [], ◌∷◌, ◌++◌, map, codes, flat_map}
-use Rattle.hir_base.specs.ModPath.{ModPath}
-use Rattle.hir_base.specs.declared.{defs.VariantId.VariantId, mod_path.PathKind.PathKind}
+use Rattle.hir_pretty.specs.Prelude.{List, [], ◌∷◌, ◌++◌, map, codes, flat_map, ModPath, VariantId, PathKind, Plain, Super, Crate, Abs, DollarCrate, PrintEnv, Doc, MissingDoc, text, br, t, when, join, name_docs, found_name, supers, FieldData, FieldsShape, RawVisibility, VariantParts}
 use Rattle.hir_base.specs.declared.defs.NamedDef.TheVariants as named
 use Rattle.hir_base.specs.declared.defs.VariantId.TheVariants as variant
-use Rattle.hir_base.specs.declared.mod_path.PathKind.TheVariants.{Plain, Super, Crate, Abs, DollarCrate}
-use Rattle.hir_pretty_nodes.specs.Prelude.{PrintEnv, Doc, MissingDoc, text, br, t, when, join, name_docs, found_name, supers}
 use Rattle.hir_store_core.specs.declared.missing.Missing.TheVariants as missing
-use Rattle.hir_signature.specs.declared.{signatures.FieldData.FieldData, signatures.FieldsShape.FieldsShape, signatures.RawVisibility.RawVisibility, signatures.VariantParts.VariantParts}
 use Rattle.hir_signature.specs.declared.signatures.FieldsShape.TheVariants as shape
 use Rattle.hir_signature.specs.declared.signatures.RawVisibility.TheVariants as visibility
 use Rattle.hir_pretty.specs.Bodies.{Parents, variant_name}

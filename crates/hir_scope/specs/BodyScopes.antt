@@ -1,18 +1,11 @@
 -- The scopes of a body or a signature: which expressions have one, the frames along its chain, and how many
 -- scopes and entries exist.
+use Rattle.hir_scope.specs.Prelude.{filter, option_map, ◌≡◌, ◌↔◌, ◌<◌, ◌⊎◌, ℕ, Bool, true, false, List, Some, IsSome, length, ExprId, NodeId, root_nodes, Nodes, Contents, BodyContents, BodyReaches, body_nodes, formals_of, last_root, SignatureReaches, signature_nodes}
 use Rattle.std.specs.FinMap as map
-use Rattle.std.specs.{List.filter, Option.option_map}
-use Rattle.std.specs.Prelude.{◌≡◌, ◌↔◌, ◌<◌, ◌⊎◌, ℕ, Bool, true, false, List, Some, IsSome, length}
-use Rattle.hir_path.specs.NodeIds.{ExprId}
-use Rattle.hir_node.specs.declared.node_id.NodeId.{NodeId}
-use Rattle.hir_forest.specs.Faults.{root_nodes}
-use Rattle.hir_validate.specs.Nodes.{Nodes}
-use Rattle.hir_store_core.specs.Contents.{Contents}
-use Rattle.hir_body.specs.Bodies.{BodyContents, BodyReaches, body_nodes, formals_of, last_root}
-use Rattle.hir_signature.specs.Signatures.{SignatureReaches, signature_nodes}
 use Rattle.hir_scope.specs.Chains.{InContext, HasChain}
 use Rattle.hir_scope.specs.Counts.{body_scope_count, body_entry_count, signature_scope_count, signature_entry_count}
-use Rattle.hir_scope.specs.{Paths.chain, Scopes.Scopes, Scopes.ScopeId, Scopes.entry_count}
+use Rattle.hir_scope.specs.Paths.{chain}
+use Rattle.hir_scope.specs.Scopes.{Scopes, ScopeId, entry_count}
 use Rattle.hir_scope.specs.EntryNodes.{body_entry_nodes, signature_entry_nodes}
 
 -- the entry nodes of a body, in their contexts

@@ -7,11 +7,9 @@
 --     of 0, the `x` in the closure: C B R             of 4, the `y` of the condition: I Y B R
 --     of 8, the `x` of `then`: T X I Y B R            of 10, the `x` of `else`: E Y B R
 -- So `x` resolves to binding 0 at 0 and 10, and to binding 3 at 8.
-use Rattle.std.specs.Prelude.{◌≡◌, List, ◌∷◌, ◌++◌, map, Contains}
-use Rattle.hir_path.specs.NodeIds.{ExprId}
-use Rattle.hir_node.specs.declared.node_id.NodeId.{NodeId}
-use Rattle.hir_validate.specs.Nodes.{Nodes}
-use Rattle.hir_scope.specs.{ScopingForms.ScopingForm, ScopingForms.form_of, Frames.Chain}
+use Rattle.hir_scope.specs.Prelude.{◌≡◌, List, ◌∷◌, ◌++◌, map, Contains, ExprId, NodeId, Nodes}
+use Rattle.hir_scope.specs.ScopingForms.{ScopingForm, form_of}
+use Rattle.hir_scope.specs.Frames.{Chain}
 use Rattle.hir_scope.specs.ScopingForms as form
 use Rattle.hir_scope.specs.ChildContexts.{Base, Scope, ConstScope, ChildContext, child_contexts, own_frame}
 

@@ -1,18 +1,12 @@
 -- The contexts of a node's children: for each child the frames that are put on a chain, and on which one.
 -- Children come in the order in which scopes are made: an expression before the pattern that it is matched
 -- with, a guard before the body, arguments before the body, a target before the value.
-use Rattle.std.specs.List.{flat_map}
-use Rattle.std.specs.Prelude.{List, [], ◌∷◌, ◌++◌, Option, Some, None}
-use Rattle.hir_base.specs.Ids.{BlockId}
-use Rattle.hir_path.specs.NodeIds.{ExprId, LabelId}
-use Rattle.hir_node.specs.ChildCalls.{Call, OnExpr, OnAnonConst, OnPat, OnType, OnLifetime, e, p, t, opt}
-use Rattle.hir_node.specs.declared.expr_types.{Item.Item, MatchArm.MatchArm, Statement.Statement}
-use Rattle.hir_node.specs.declared.node_id.NodeId.{NodeId}
-use Rattle.hir_validate.specs.Nodes.{Nodes}
+use Rattle.hir_scope.specs.Prelude.{flat_map, List, [], ◌∷◌, ◌++◌, Option, Some, None, BlockId, ExprId, LabelId, Call, OnExpr, OnAnonConst, OnPat, OnType, OnLifetime, e, p, t, opt, Item, MatchArm, Statement, NodeId, Nodes}
 use Rattle.hir_scope.specs.ScopingForms.{ScopingForm, form_of}
 use Rattle.hir_scope.specs.ScopingForms as form
 use Rattle.hir_scope.specs.Frames.{Frame, Chain, frame, of_kind, empty}
-use Rattle.hir_scope.specs.{OpenFrames.open_frames_of_call, OpenFrames.open_frames_of_calls, OpenFrames.open_frames, declared.scope.ScopeKind.ScopeKind}
+use Rattle.hir_scope.specs.OpenFrames.{open_frames_of_call, open_frames_of_calls, open_frames}
+use Rattle.hir_scope.specs.declared.scope.ScopeKind.{ScopeKind}
 
 -- the chain on which a child's frames are put: that around its parent, or that around the constants in its
 -- parent

@@ -1,10 +1,5 @@
 -- The counts of scopes and entries: sums over the nodes that a body or a signature reaches.
-use Rattle.std.specs.List.{sum_by}
-use Rattle.std.specs.Prelude.{ℕ, ◌+◌, List, Option, Some, None, length}
-use Rattle.hir_node.specs.declared.expr_types.{Item.Item, Statement.Statement}
-use Rattle.hir_node.specs.declared.node_id.NodeId.{NodeId}
-use Rattle.hir_validate.specs.Nodes.{Nodes}
-use Rattle.hir_store_core.specs.PatLists.{bindings_at}
+use Rattle.hir_scope.specs.Prelude.{sum_by, ℕ, ◌+◌, List, Option, Some, None, length, Item, Statement, NodeId, Nodes, bindings_at}
 use Rattle.hir_scope.specs.ScopingForms.{ScopingForm, form_of}
 use Rattle.hir_scope.specs.ScopingForms as form
 

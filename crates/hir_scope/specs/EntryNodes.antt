@@ -1,10 +1,6 @@
 -- The entry nodes of a body or a signature in their contexts: its nodes are reached from these, with the
 -- frames around each.
-use Rattle.std.specs.List.{flat_map}
-use Rattle.std.specs.Prelude.{List, [], ◌∷◌, ◌++◌, Option, map}
-use Rattle.hir_path.specs.NodeIds.{ExprId, PatId, BindingId}
-use Rattle.hir_node.specs.{ChildCalls.e, ChildCalls.p, ChildCalls.opt, declared.node_id.NodeId.NodeId}
-use Rattle.hir_validate.specs.{Nodes.Nodes, TestedParts.all_of}
+use Rattle.hir_scope.specs.Prelude.{flat_map, List, [], ◌∷◌, ◌++◌, Option, map, ExprId, PatId, BindingId, e, p, opt, NodeId, Nodes, all_of}
 use Rattle.hir_scope.specs.Chains.{InContext, child_in_context}
 use Rattle.hir_scope.specs.Frames.{Frame, entry_at, binds, plain, empty}
 use Rattle.hir_scope.specs.ChildContexts.{in_turn}

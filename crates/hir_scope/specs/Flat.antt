@@ -1,11 +1,10 @@
 -- The lists in which scopes are kept: the entries of all in one list, of which each scope has a range, one
 -- range after the other.
+use Rattle.hir_scope.specs.Prelude.{nat_cmp, ◌≡◌, ℕ, ◌-◌, ◌<◌, ◌≤◌, List, [], ◌∷◌, Some, length, map, take, drop, slice_get, ExprId}
 use Rattle.std.specs.FinMap as finmap
-use Rattle.std.specs.Ordering.{nat_cmp}
-use Rattle.std.specs.Prelude.{◌≡◌, ℕ, ◌-◌, ◌<◌, ◌≤◌, List, [], ◌∷◌, Some, length, map, take, drop, slice_get}
-use Rattle.hir_path.specs.NodeIds.{ExprId}
 use Rattle.hir_scope.specs.Scopes.{Scope, ScopeId, IsBelow}
-use Rattle.hir_scope.specs.declared.{expr_scopes.ScopeData.ScopeData, scope.ScopeEntry.ScopeEntry}
+use Rattle.hir_scope.specs.declared.expr_scopes.ScopeData.{ScopeData}
+use Rattle.hir_scope.specs.declared.scope.ScopeEntry.{ScopeEntry}
 
 -- the entries in the range of a scope
 abbrev pub entries_in : List ScopeEntry → ScopeData → List ScopeEntry

@@ -1,10 +1,7 @@
 -- A lexical frame: a kind, and the bindings that it binds, all at once.
-use Rattle.std.specs.{List.flat_map, Prelude.List, Prelude.[], Prelude.◌∷◌, Prelude.slice_get}
-use Rattle.hir_path.specs.NodeIds.{PatId, BindingId}
-use Rattle.hir_node.specs.declared.binding.Binding.{Binding}
-use Rattle.hir_validate.specs.{Nodes.Nodes, TestedParts.all_of}
-use Rattle.hir_store_core.specs.PatLists.{bindings_in}
-use Rattle.hir_scope.specs.declared.scope.{ScopeEntry.ScopeEntry, ScopeKind.ScopeKind}
+use Rattle.hir_scope.specs.Prelude.{flat_map, List, [], ◌∷◌, slice_get, PatId, BindingId, Binding, Nodes, all_of, bindings_in}
+use Rattle.hir_scope.specs.declared.scope.ScopeEntry.{ScopeEntry}
+use Rattle.hir_scope.specs.declared.scope.ScopeKind.{ScopeKind}
 
 pub record Frame : Type 0 where
   pub kind : ScopeKind

@@ -30,6 +30,8 @@ pub mod PathResolution
 pub mod Macros
 -- the lists in which scopes are kept
 pub mod Flat
+-- what the files here import of std and of lower crates, from one place
+pub mod Prelude
 -- what only contracts within this crate cite
 pub mod internal
 -- proof that `==` of scopes decides whether they are the same

@@ -1,14 +1,8 @@
 -- The scopes of what tables have of a definition: they are missing only where the tables have no entry of it.
-use Rattle.std.specs.Option.{option_map}
-use Rattle.std.specs.Prelude.{◌≡◌, Option, None, Some, Result, Err, IfOk}
-use Rattle.hir_base.specs.declared.defs.DefWithBodyId.{DefWithBodyId}
-use Rattle.hir_base.specs.declared.defs.ExpressionStoreOwnerId.{ExpressionStoreOwnerId}
-use Rattle.hir_store_core.specs.Contents.{Contents}
-use Rattle.hir_store_core.specs.Owners.{StoreAndSources}
-use Rattle.hir_body.specs.Bodies.{BodyContents}
-use Rattle.hir_body.specs.Lookups.{BodyAndSources}
+use Rattle.hir_scope.specs.Prelude.{option_map, ◌≡◌, Option, None, Some, Result, Err, IfOk, DefWithBodyId, ExpressionStoreOwnerId, Contents, StoreAndSources, BodyContents, BodyAndSources}
 use Rattle.hir_scope.specs.BodyScopes.{AreBodyScopes, BodyIsTooLarge, AreSignatureScopes, SignatureIsTooLarge}
-use Rattle.hir_scope.specs.{Scopes.Scopes, declared.fault.ScopesFault.ScopesFault}
+use Rattle.hir_scope.specs.Scopes.{Scopes}
+use Rattle.hir_scope.specs.declared.fault.ScopesFault.{ScopesFault}
 
 -- what is returned for the scopes of what was looked up, of which these are scopes, and which may be too
 -- large

@@ -1,9 +1,7 @@
 -- The frames that a node leaves open: they outlive it, and are around what is visited after it.
-use Rattle.std.specs.Prelude.{List, [], ◌∷◌, ◌++◌}
-use Rattle.hir_node.specs.ChildCalls.{Call, OnExpr, OnAnonConst, OnPat, OnType, OnLifetime, e, opt}
-use Rattle.hir_node.specs.declared.node_id.NodeId.{NodeId}
-use Rattle.hir_validate.specs.{Recursion.fold_down, Nodes.Nodes}
-use Rattle.hir_scope.specs.{ScopingForms.ScopingForm, ScopingForms.form_of, Frames.Chain, Frames.frame}
+use Rattle.hir_scope.specs.Prelude.{List, [], ◌∷◌, ◌++◌, Call, OnExpr, OnAnonConst, OnPat, OnType, OnLifetime, e, opt, NodeId, fold_down, Nodes}
+use Rattle.hir_scope.specs.ScopingForms.{ScopingForm, form_of}
+use Rattle.hir_scope.specs.Frames.{Chain, frame}
 use Rattle.hir_scope.specs.ScopingForms as form
 
 -- the frames that the child of a call leaves open: an expression or a pattern its own, an anonymous constant

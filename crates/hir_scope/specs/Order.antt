@@ -1,10 +1,7 @@
 -- The order in which scopes are made: a node's child calls, where a type and what is matched come before the
 -- pattern, a guard before the body of its arm, the types of a closure before its arguments and these before
 -- its body.
-use Rattle.std.specs.{List.flat_map, Prelude.List, Prelude.[], Prelude.◌++◌, Prelude.Option}
-use Rattle.hir_path.specs.NodeIds.{ExprId, PatId, TypeRefId}
-use Rattle.hir_node.specs.ChildCalls.{Call, e, p, t, opt}
-use Rattle.hir_node.specs.declared.expr_types.{MatchArm.MatchArm, Statement.Statement}
+use Rattle.hir_scope.specs.Prelude.{flat_map, List, [], ◌++◌, Option, ExprId, PatId, TypeRefId, Call, e, p, t, opt, MatchArm, Statement}
 use Rattle.hir_scope.specs.ScopingForms.{ScopingForm}
 use Rattle.hir_scope.specs.ScopingForms as form
 

@@ -1,15 +1,11 @@
 -- The binding of the store that a path resolves to, by the name that it asks for.
+use Rattle.hir_scope.specs.Prelude.{zero, List, [], ◌∷◌, Option, Some, None, codes, length, nat_lt, slice_get, Name, SyntaxContext, PathKind, Plain, Super, ExprId, PatId, BindingId, Path, Expr, Pat, Contents, hygiene_of}
 use Rattle.std.specs.FinMap as map
-use Rattle.std.specs.Prelude.{zero, List, [], ◌∷◌, Option, Some, None, codes, if◌then◌else◌, length, nat_lt, slice_get}
-use Rattle.hir_base.specs.Ids.{Name}
-use Rattle.hir_base.specs.declared.{hygiene.SyntaxContext.SyntaxContext, mod_path.PathKind.PathKind}
-use Rattle.hir_base.specs.declared.mod_path.PathKind.TheVariants.{Plain, Super}
-use Rattle.hir_path.specs.NodeIds.{ExprId, PatId, BindingId}
+use Rattle.std.specs.Prelude.{if◌then◌else◌}
 use Rattle.hir_path.specs.declared.ids.ExprOrPatId.TheVariants as either
-use Rattle.hir_path.specs.declared.path.Path.{Path}
-use Rattle.hir_node.specs.declared.{expr.Expr.Expr, pat.Pat.Pat}
-use Rattle.hir_store_core.specs.{Contents.Contents, SideTables.hygiene_of}
-use Rattle.hir_scope.specs.{Paths.chain, Resolution.resolve, Scopes.Scopes}
+use Rattle.hir_scope.specs.Paths.{chain}
+use Rattle.hir_scope.specs.Resolution.{resolve}
+use Rattle.hir_scope.specs.Scopes.{Scopes}
 use Rattle.hir_scope.specs.declared.scope.ScopeEntry.{ScopeEntry}
 
 -- A path that may resolve to a local variable asks for a name: one segment alone for itself, and `self` for

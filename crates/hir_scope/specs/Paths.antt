@@ -1,9 +1,8 @@
 -- The path of a scope: its id and those of the scopes around it, innermost first. Along it are the frames of
 -- the scope's chain.
-use Rattle.std.specs.List.{flat_map}
-use Rattle.std.specs.Prelude.{List, [], ◌∷◌, ◌++◌, Option, Some, None, fold, length, slice_get, slice_index_or}
-use Rattle.hir_validate.specs.TestedParts.{all_of}
-use Rattle.hir_scope.specs.{Frames.Frame, Frames.Chain, Scopes.Scope, Scopes.ScopeId, Scopes.frame_of}
+use Rattle.hir_scope.specs.Prelude.{flat_map, List, [], ◌∷◌, ◌++◌, Option, Some, None, fold, length, slice_get, slice_index_or, all_of}
+use Rattle.hir_scope.specs.Frames.{Frame, Chain}
+use Rattle.hir_scope.specs.Scopes.{Scope, ScopeId, frame_of}
 
 -- the path of a scope, if any, whose path is among these
 abbrev pub path_among : List (List ScopeId) → Option ScopeId → List ScopeId

@@ -1,11 +1,9 @@
 -- The model of scopes: a list of scopes, each with its parent, and the scope of each expression.
+use Rattle.hir_scope.specs.Prelude.{sum_by, nat_cmp, ◌≡◌, ℕ, ◌<◌, List, Option, Some, None, length, slice_get, ⊤, BlockId, MacroDefId, LabelId}
 use Rattle.std.specs.FinMap as map
-use Rattle.std.specs.{List.sum_by, Ordering.nat_cmp}
-use Rattle.std.specs.Prelude.{◌≡◌, ℕ, ◌<◌, List, Option, Some, None, length, slice_get, ⊤}
-use Rattle.hir_base.specs.Ids.{BlockId, MacroDefId}
-use Rattle.hir_path.specs.NodeIds.{LabelId}
 use Rattle.hir_scope.specs.Frames.{Frame}
-use Rattle.hir_scope.specs.declared.scope.{ScopeEntry.ScopeEntry, ScopeKind.ScopeKind}
+use Rattle.hir_scope.specs.declared.scope.ScopeEntry.{ScopeEntry}
+use Rattle.hir_scope.specs.declared.scope.ScopeKind.{ScopeKind}
 
 -- the id of a scope: its index in the list of scopes
 abbrev pub ScopeId : Type 0

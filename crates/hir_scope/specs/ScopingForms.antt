@@ -1,13 +1,6 @@
 -- The scoping form of a node: which nodes give their children contexts by a rule of their own. Any other node
 -- visits its children in turn.
-use Rattle.std.specs.Prelude.{List, [], Option, Some, None, slice_get}
-use Rattle.hir_base.specs.Ids.{BlockId}
-use Rattle.hir_path.specs.NodeIds.{ExprId, PatId, LabelId, TypeRefId}
-use Rattle.hir_node.specs.ChildCalls.{Call, expr_calls, pat_calls, type_calls}
-use Rattle.hir_node.specs.declared.expr.Expr.{Expr}
-use Rattle.hir_node.specs.declared.expr_types.{MatchArm.MatchArm, Statement.Statement}
-use Rattle.hir_node.specs.declared.{node_id.NodeId.NodeId, pat.Pat.Pat, type_ref.TypeRef.TypeRef}
-use Rattle.hir_validate.specs.Nodes.{Nodes}
+use Rattle.hir_scope.specs.Prelude.{List, [], Option, Some, None, slice_get, BlockId, ExprId, PatId, LabelId, TypeRefId, Call, expr_calls, pat_calls, type_calls, Expr, MatchArm, Statement, NodeId, Pat, TypeRef, Nodes}
 
 pub data ScopingForm : Type 0 where
   -- the condition, then, else

@@ -1,15 +1,9 @@
 -- What the words after `expr` say.
-use Rattle.std.specs.Prelude.{ℕ, List, [], ◌∷◌, map, Option, None, Some, codes}
-use Rattle.hir_path.specs.NodeIds.{PatId, TypeRefId}
-use Rattle.hir_node.specs.declared.expr.Expr.{Expr}
-use Rattle.hir_node.specs.declared.expr.Expr.TheVariants.{Missing, Path, Literal as LiteralExpr, Array as ArrayExpr, Const, If, Let, Block, Loop, Call, Match, Ref as RefExpr, BinaryOp as BinaryExpr, Assignment, Closure as ClosureExpr, Tuple}
-use Rattle.hir_node.specs.declared.literal.Literal.TheVariants.{Int}
-use Rattle.hir_node.specs.declared.expr_types.Array.TheVariants.{ElementList, Repeat}
-use Rattle.hir_node.specs.declared.expr_types.ClosureKind.TheVariants.{Closure}
+use Rattle.hir_show_grammar.specs.Prelude.{ℕ, List, [], ◌∷◌, map, Option, None, Some, codes, PatId, TypeRefId, Expr, Missing, Path, Const, If, Block, Loop, Call, Match, Assignment, Tuple, Int, ElementList, Repeat, Closure, Shared}
+use Rattle.hir_node.specs.declared.expr.Expr.TheVariants.{Literal as LiteralExpr, Array as ArrayExpr, Let, Ref as RefExpr, BinaryOp as BinaryExpr, Closure as ClosureExpr}
 use Rattle.hir_node.specs.declared.expr_types.CaptureBy.TheVariants.{Ref as ByRef}
 use Rattle.hir_node.specs.declared.expr_types.LoopSource.TheVariants.{Loop as PlainLoop}
 use Rattle.hir_node.specs.declared.expr_types.Unsafe.TheVariants.{No as Safe}
-use Rattle.hir_node.specs.declared.type_ref.Mutability.TheVariants.{Shared}
 use Rattle.hir_node.specs.declared.type_ref.Rawness.TheVariants.{Ref as Reference}
 use Rattle.hir_show_grammar.specs.Readings.{Reading, ◌>>=◌, gives, each}
 use Rattle.hir_show_grammar.specs.Words.{number, optional, list, path, int, op, one_of}

@@ -1,11 +1,6 @@
 -- The lines as they are written.
-use Rattle.std.specs.Prelude.{◌≡◌, ℕ, List, [], ◌∷◌, codes, ⊤}
-use Rattle.hir_base.specs.declared.hygiene.SyntaxContext.TheVariants.{Expansion}
+use Rattle.hir_show_grammar.specs.Prelude.{◌≡◌, ℕ, List, [], ◌∷◌, codes, ⊤, Expansion, ExprId, PatId, BindingId, Expr, Pat, TypeRef}
 use Rattle.hir_path.specs.declared.ids.ExprOrPatId.TheVariants as any_id
-use Rattle.hir_path.specs.NodeIds.{ExprId, PatId, BindingId}
-use Rattle.hir_node.specs.declared.expr.Expr.{Expr}
-use Rattle.hir_node.specs.declared.pat.Pat.{Pat}
-use Rattle.hir_node.specs.declared.type_ref.TypeRef.{TypeRef}
 use Rattle.hir_show_grammar.specs.Line.{Line, Blank, Make, Ask, Bad, plain_binding}
 use Rattle.hir_show_grammar.specs.Makers.{Maker, Binding, Pat as MakePat, TypeRef as MakeType, Expr as MakeExpr, Hygiene, SelfParam, Param, FnName, Roots, Root}
 use Rattle.hir_show_grammar.specs.declared.question.Question.{Question}

@@ -32,6 +32,8 @@ pub mod Exprs
 pub mod Line
 -- what a line does to what was made before it
 pub mod Taking
+-- what the files here import of std and of lower crates, from one place
+pub mod Prelude
 -- what only contracts within this crate cite
 pub mod internal
 -- proofs alone, of equality

@@ -1,8 +1,5 @@
 -- What a line may make.
-use Rattle.std.specs.Prelude.{ℕ, List}
-use Rattle.hir_base.specs.declared.hygiene.SyntaxContext.{SyntaxContext}
-use Rattle.hir_path.specs.declared.ids.ExprOrPatId.{ExprOrPatId}
-use Rattle.hir_path.specs.NodeIds.{ExprId, PatId, BindingId}
+use Rattle.hir_show_grammar.specs.Prelude.{ℕ, List, SyntaxContext, ExprOrPatId, ExprId, PatId, BindingId}
 use Rattle.hir_node.specs.declared.binding.Binding.{Binding as ABinding}
 use Rattle.hir_node.specs.declared.expr.Expr.{Expr as AnExpr}
 use Rattle.hir_node.specs.declared.pat.Pat.{Pat as APat}

@@ -1,11 +1,6 @@
 -- The texts of operators between two expressions.
-use Rattle.std.specs.Prelude.{ℕ, true, false, List, [], ◌∷◌, ◌++◌, Option, None, Some, codes}
-use Rattle.hir_base.specs.declared.operators.ArithOp.{ArithOp}
-use Rattle.hir_base.specs.declared.operators.ArithOp.TheVariants.{Add, Sub, Mul, Div, Rem, Shl, Shr, BitXor, BitOr, BitAnd}
-use Rattle.hir_base.specs.declared.operators.LogicOp.TheVariants.{And, Or}
-use Rattle.hir_base.specs.declared.operators.Ordering.TheVariants.{Less, Greater}
-use Rattle.hir_base.specs.declared.operators.CmpOp.TheVariants.{Eq, Ord}
-use Rattle.hir_base.specs.declared.operators.BinaryOp.{BinaryOp}
+use Rattle.hir_show_grammar.specs.Prelude.{ℕ, true, false, List, [], ◌∷◌, ◌++◌, Option, None, Some, codes, ArithOp, Add, Sub, Mul, Div, Rem, Shl, Shr, BitXor, BitOr, BitAnd, And, Less, Greater, Eq, Ord, BinaryOp}
+use Rattle.hir_base.specs.declared.operators.LogicOp.TheVariants.{Or}
 use Rattle.hir_base.specs.declared.operators.BinaryOp.TheVariants.{LogicOp as Logic, ArithOp as Arith, CmpOp as Cmp, Assignment}
 use Rattle.hir_show_grammar.specs.Readings.{look_up}
 

@@ -1,9 +1,6 @@
 -- The words after `pat`, for each pattern that a line makes.
-use Rattle.std.specs.Prelude.{ℕ, List, [], ◌∷◌, Option, None, codes}
-use Rattle.hir_base.specs.declared.operators.RangeOp.TheVariants.{Inclusive}
-use Rattle.hir_path.specs.NodeIds.{ExprId, PatId, BindingId}
-use Rattle.hir_node.specs.declared.pat.Pat.{Pat}
-use Rattle.hir_node.specs.declared.pat.Pat.TheVariants.{Missing, Rest, Wild, Tuple, Or, Range, Lit, Expr, Bind, TupleStruct}
+use Rattle.hir_show_grammar.specs.Prelude.{ℕ, List, [], ◌∷◌, Option, None, codes, Inclusive, ExprId, PatId, BindingId, Pat, Rest, Wild, Or, Range, Lit, Bind, TupleStruct}
+use Rattle.hir_node.specs.declared.pat.Pat.TheVariants.{Missing, Tuple, Expr}
 use Rattle.hir_show_grammar.specs.Words.{plain}
 use Rattle.hir_show_grammar.specs.Tokens.{Token, Word, Name, Number, Optional, Numbers}
 

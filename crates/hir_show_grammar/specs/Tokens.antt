@@ -1,13 +1,6 @@
 -- The words of a line by what they say, and how each is written.
-use Rattle.std.specs.Prelude.{◌≡◌, ℕ, ◌<◌, ◌^◌, ℤ, pos, true, false, ◌⊎◌, List, [], ◌∷◌, Option, None, Some, FitsSigned, codes}
-use Rattle.std.specs.Fmt.{decimal, signed_decimal}
-use Rattle.std.specs.Int.{w128}
-use Rattle.std.specs.List.{AllZip, join_with_byte}
-use Rattle.hir_base.specs.declared.operators.BinaryOp.{BinaryOp}
-use Rattle.hir_node.specs.declared.expr_types.MatchArm.{MatchArm}
-use Rattle.hir_node.specs.declared.expr_types.Statement.{Statement}
-use Rattle.hir_node.specs.declared.expr_types.Statement.TheVariants.{Let, Expr, Item}
-use Rattle.hir_node.specs.declared.expr_types.Item.TheVariants.{MacroDef, Other}
+use Rattle.hir_show_grammar.specs.Prelude.{◌≡◌, ℕ, ◌<◌, ◌^◌, ℤ, pos, true, false, ◌⊎◌, List, [], ◌∷◌, Option, None, Some, FitsSigned, codes, decimal, signed_decimal, w128, AllZip, join_with_byte, BinaryOp, MatchArm, Statement, Let, Item, MacroDef, Other}
+use Rattle.hir_node.specs.declared.expr_types.Statement.TheVariants.{Expr}
 use Rattle.hir_show_grammar.specs.Names.{is_name}
 use Rattle.hir_show_grammar.specs.Operators.{op_text}
 use Rattle.hir_show_grammar.specs.Readings.{space, colon, comma}

@@ -1,8 +1,6 @@
 -- The words after `type`, for each type that a line makes.
-use Rattle.std.specs.Prelude.{ℕ, List, [], ◌∷◌, codes}
-use Rattle.hir_path.specs.NodeIds.{ExprId, PatId, TypeRefId}
-use Rattle.hir_node.specs.declared.type_ref.TypeRef.{TypeRef}
-use Rattle.hir_node.specs.declared.type_ref.TypeRef.TheVariants.{Never, Tuple, Path, Array, PatternType}
+use Rattle.hir_show_grammar.specs.Prelude.{ℕ, List, [], ◌∷◌, codes, ExprId, PatId, TypeRefId, TypeRef, Never, Array, PatternType}
+use Rattle.hir_node.specs.declared.type_ref.TypeRef.TheVariants.{Tuple, Path}
 use Rattle.hir_show_grammar.specs.Words.{plain}
 use Rattle.hir_show_grammar.specs.Types.{array_of}
 use Rattle.hir_show_grammar.specs.Tokens.{Token, Word, Name, Number, Numbers}

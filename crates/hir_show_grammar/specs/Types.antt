@@ -1,9 +1,6 @@
 -- What the words after `type` say.
-use Rattle.std.specs.Prelude.{ℕ, List, [], ◌∷◌, codes}
-use Rattle.hir_path.specs.NodeIds.{ExprId, TypeRefId}
-use Rattle.hir_node.specs.declared.type_ref.ArrayType.{ArrayType}
-use Rattle.hir_node.specs.declared.type_ref.TypeRef.{TypeRef}
-use Rattle.hir_node.specs.declared.type_ref.TypeRef.TheVariants.{Never, Tuple, Path, Array, PatternType}
+use Rattle.hir_show_grammar.specs.Prelude.{ℕ, List, [], ◌∷◌, codes, ExprId, TypeRefId, ArrayType, TypeRef, Never, Array, PatternType}
+use Rattle.hir_node.specs.declared.type_ref.TypeRef.TheVariants.{Tuple, Path}
 use Rattle.hir_show_grammar.specs.Readings.{Reading, ◌>>=◌, gives}
 use Rattle.hir_show_grammar.specs.Words.{number, list, path, one_of}
 

@@ -1,14 +1,8 @@
 -- What single words say, and reading them.
-use Rattle.std.specs.Prelude.{ℕ, ℤ, if◌then◌else◌, List, [], ◌∷◌, Option, None, Some, codes}
-use Rattle.std.specs.Option.{option_map}
-use Rattle.std.specs.Str.{bytes_eq}
-use Rattle.hir_base.specs.declared.edition.Edition.TheVariants.{Edition2015}
-use Rattle.hir_base.specs.declared.hygiene.SyntaxContext.{SyntaxContext}
-use Rattle.hir_base.specs.declared.hygiene.SyntaxContext.TheVariants.{Root as OfSource, Expansion}
-use Rattle.hir_base.specs.declared.operators.BinaryOp.{BinaryOp}
-use Rattle.hir_base.specs.declared.mod_path.PathKind.TheVariants.{Plain}
+use Rattle.hir_show_grammar.specs.Prelude.{ℕ, ℤ, List, [], ◌∷◌, Option, None, Some, codes, option_map, bytes_eq, Edition2015, SyntaxContext, Expansion, BinaryOp, Plain, BarePath}
+use Rattle.std.specs.Prelude.{if◌then◌else◌}
+use Rattle.hir_base.specs.declared.hygiene.SyntaxContext.TheVariants.{Root as OfSource}
 use Rattle.hir_path.specs.declared.path.Path.{Path}
-use Rattle.hir_path.specs.declared.path.Path.TheVariants.{BarePath}
 use Rattle.hir_show_grammar.specs.Numerals.{number_of, int_of}
 use Rattle.hir_show_grammar.specs.Names.{name_of}
 use Rattle.hir_show_grammar.specs.Operators.{op_of}

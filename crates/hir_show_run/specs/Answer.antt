@@ -1,29 +1,9 @@
 -- The answers to questions.
-use Rattle.std.specs.Prelude.{◌≡◌, ℕ, List, [], ◌∷◌, ◌++◌, Option, None, Some, codes, length, nat_lt, if◌then◌else◌, flat_map}
-use Rattle.std.specs.Fmt.{decimal}
-use Rattle.hir_base.specs.Ids.{Name}
-use Rattle.hir_base.specs.declared.hygiene.SyntaxContext.{SyntaxContext}
-use Rattle.hir_base.specs.declared.hygiene.SyntaxContext.TheVariants.{Root, Expansion}
-use Rattle.hir_path.specs.NodeIds.{ExprId, BindingId}
+use Rattle.hir_show_run.specs.Prelude.{◌≡◌, ℕ, List, [], ◌∷◌, ◌++◌, Option, None, Some, codes, length, nat_lt, flat_map, decimal, Name, SyntaxContext, Root, Expansion, ExprId, BindingId, Question, OfStore, OfBody, StoreQuestion, Children, RootOf, BodyQuestion, Nodes, root_for_expr, Contents, child_exprs, BodyContents, BodyReaches, ScopeEntry, entry_nodes_of_body, HasChain, Chain, resolve, entries_of, AreCaptures, IsReachedClosure}
+use Rattle.std.specs.Prelude.{if◌then◌else◌}
 use Rattle.hir_node.specs.declared.node_id.NodeId.TheVariants as node
-use Rattle.hir_show_grammar.specs.declared.question.Question.{Question}
-use Rattle.hir_show_grammar.specs.declared.question.Question.TheVariants.{OfStore, OfBody}
-use Rattle.hir_show_grammar.specs.declared.question.StoreQuestion.{StoreQuestion}
-use Rattle.hir_show_grammar.specs.declared.question.StoreQuestion.TheVariants.{Children, RootOf}
-use Rattle.hir_show_grammar.specs.declared.question.BodyQuestion.{BodyQuestion}
 use Rattle.hir_show_grammar.specs.declared.question.BodyQuestion.TheVariants as ask
-use Rattle.hir_forest.specs.declared.roots.Root as forest
-use Rattle.hir_validate.specs.Nodes.{Nodes}
-use Rattle.hir_store_core.specs.RootSearch.{root_for_expr}
-use Rattle.hir_store_core.specs.Contents.{Contents}
-use Rattle.hir_store_core.specs.PatLists.{child_exprs}
-use Rattle.hir_body.specs.Bodies.{BodyContents, BodyReaches}
-use Rattle.hir_scope.specs.declared.scope.ScopeEntry.{ScopeEntry}
-use Rattle.hir_scope.specs.BodyScopes.{entry_nodes_of_body}
-use Rattle.hir_scope.specs.Chains.{HasChain}
-use Rattle.hir_scope.specs.Frames.{Chain}
-use Rattle.hir_scope.specs.Resolution.{resolve, entries_of}
-use Rattle.hir_captures.specs.Captures.{AreCaptures, IsReachedClosure}
+use Rattle.hir_forest.specs.declared.roots.{Root as forest}
 use Rattle.hir_show_run.specs.Printing.{print_text}
 
 -- an answer: the question's word, the expression, what is known of it, and a line end

@@ -1,10 +1,7 @@
 -- Why a run ends where a part of it fails, and its exit status.
-use Rattle.std.specs.Prelude.{ℕ, Result, Ok, Err}
-use Rattle.hir_show_io.specs.declared.next.LineFault.{LineFault}
+use Rattle.hir_show_run.specs.Prelude.{ℕ, Result, Ok, Err, LineFault, FinishFault, BodyFault}
 use Rattle.hir_show_io.specs.declared.next.LineFault.TheVariants as line
-use Rattle.hir_validate.specs.declared.fault.FinishFault.{FinishFault}
 use Rattle.hir_validate.specs.declared.fault.FinishFault.TheVariants as finish
-use Rattle.hir_body.specs.declared.body_fault.BodyFault.{BodyFault}
 use Rattle.hir_body.specs.declared.body_fault.BodyFault.TheVariants as body
 use Rattle.hir_show_run.specs.declared.fault.RunFault.{RunFault}
 use Rattle.hir_show_run.specs.declared.fault.RunFault.TheVariants.{BadLine, Refused, BodyRefused, InputFailed, OutputFailed, OutOfMemory}

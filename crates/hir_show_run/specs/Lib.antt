@@ -14,5 +14,7 @@ pub mod Outcomes
 pub mod Faults
 -- the text of each fault
 pub mod Texts
+-- what the files here import of std and of lower crates, from one place
+pub mod Prelude
 -- what only contracts within this crate cite
 pub mod internal

@@ -1,20 +1,8 @@
 -- The parts of a body that lines have made so far: what is built, the parameters and the name of the
 -- function.
-use Rattle.std.specs.Prelude.{ℕ, List, [], ◌∷◌, ◌++◌, Option, None, Some}
+use Rattle.hir_show_run.specs.Prelude.{ℕ, List, [], ◌∷◌, ◌++◌, Option, None, Some, Name, SyntaxContext, ExprOrPatId, expr_or_pat_code, PatId, BindingId, Maker, Nodes, no_nodes, Building, contents_of, and_root, some_roots, Param, BodyContents, body_of, SideTables, no_side_tables}
 use Rattle.std.specs.FinMap as map
-use Rattle.hir_base.specs.Ids.{Name}
-use Rattle.hir_base.specs.declared.hygiene.SyntaxContext.{SyntaxContext}
-use Rattle.hir_path.specs.declared.ids.ExprOrPatId.{ExprOrPatId}
-use Rattle.hir_path.specs.Keys.{expr_or_pat_code}
-use Rattle.hir_path.specs.NodeIds.{PatId, BindingId}
-use Rattle.hir_show_grammar.specs.Makers.{Maker}
 use Rattle.hir_show_grammar.specs.Makers as make
-use Rattle.hir_validate.specs.Nodes.{Nodes, no_nodes}
-use Rattle.hir_store.specs.Building.{Building, contents_of, and_root, some_roots}
-use Rattle.hir_body.specs.declared.formals.Param.{Param}
-use Rattle.hir_body.specs.Bodies.{BodyContents, body_of}
-use Rattle.hir_store_core.specs.declared.side_tables.SideTables.{SideTables}
-use Rattle.hir_store_core.specs.SideTables.{no_side_tables}
 
 -- what is built, the self parameter, the other parameters and the name of the function
 pub record Parts : Type 0 where

@@ -1,19 +1,8 @@
 -- What `print` writes: the body as that of function 0.
-use Rattle.std.specs.Prelude.{ℕ, false, List, [], ◌++◌, Option, codes}
+use Rattle.hir_show_run.specs.Prelude.{ℕ, false, List, [], ◌++◌, Option, codes, named_code, Tables, no_tables, BodyContents, lookups_of, DocPiece, text_of, PrintEnv, print_env, doc_list_pieces, body_docs, parents}
 use Rattle.std.specs.FinMap as map
-use Rattle.hir_base.specs.Keys.{named_code}
 use Rattle.hir_base.specs.declared.defs.DefWithBodyId.TheVariants as body
 use Rattle.hir_base.specs.declared.defs.NamedDef.TheVariants as named
-use Rattle.hir_defs.specs.Lookups.{Tables}
-use Rattle.hir_defs.specs.NoTables.{no_tables}
-use Rattle.hir_body.specs.Bodies.{BodyContents}
-use Rattle.hir_pretty_nodes.specs.TableLookups.{lookups_of}
-use Rattle.hir_pretty_nodes.specs.DocPieces.{DocPiece, text_of}
-use Rattle.hir_pretty_nodes.specs.NameLookups.{PrintEnv}
-use Rattle.hir_pretty_nodes.specs.PrintEnvs.{print_env}
-use Rattle.hir_pretty_nodes.specs.DocPieces.{doc_list_pieces}
-use Rattle.hir_pretty.specs.Bodies.{body_docs}
-use Rattle.hir_pretty.specs.FoundParts.{parents}
 
 -- the tables have the name of function 0, or that it has none, and nothing else
 abbrev pub tables_of : Option (List ℕ) → Tables

@@ -1,14 +1,6 @@
 -- What the program writes and how it ends, for the lines that it is given.
-use Rattle.std.specs.Prelude.{◌≡◌, ℕ, ◌+◌, Bool, true, false, ◌&&◌, ◌||◌, if◌then◌else◌, List, [], ◌∷◌, ◌++◌, length, Option, None, Some, Result, Ok, Err, filter_map, fold, map, codes}
-use Rattle.std.specs.List.{list_all, list_any}
-use Rattle.hir_show_io.specs.Text.{lines}
-use Rattle.hir_show_grammar.specs.Line.{Line, Blank, Make, Ask, Bad, any_question, asks, line_of, makes, may_ask}
-use Rattle.hir_show_grammar.specs.Makers.{Maker}
-use Rattle.hir_show_grammar.specs.Taking.{is_second}
-use Rattle.hir_show_grammar.specs.declared.question.Question.{Question}
-use Rattle.hir_show_grammar.specs.declared.question.Question.TheVariants.{OfStore, OfBody}
-use Rattle.hir_body.specs.Bodies.{body_fault}
-use Rattle.hir_store.specs.Building.{contents_of, finish_fault}
+use Rattle.hir_show_run.specs.Prelude.{◌≡◌, ℕ, ◌+◌, Bool, true, false, ◌&&◌, ◌||◌, List, [], ◌∷◌, ◌++◌, length, Option, None, Some, Result, Ok, Err, filter_map, fold, map, codes, list_all, list_any, lines, Line, Blank, Make, Ask, Bad, any_question, asks, line_of, makes, may_ask, Maker, is_second, Question, OfStore, OfBody, body_fault, contents_of, finish_fault}
+use Rattle.std.specs.Prelude.{if◌then◌else◌}
 use Rattle.hir_show_run.specs.declared.fault.RunFault.{RunFault}
 use Rattle.hir_show_run.specs.declared.fault.RunFault.TheVariants.{BadLine, Refused, BodyRefused}
 use Rattle.hir_show_run.specs.Parts.{Parts, no_parts, with_line, body_parts}

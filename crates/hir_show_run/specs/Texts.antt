@@ -1,13 +1,9 @@
 -- What is written about the end of a run: the text of each fault.
-use Rattle.std.specs.Prelude.{ℕ, List, [], ◌∷◌, ◌++◌, Option, Some, Result, Ok, Err, codes}
-use Rattle.std.specs.Fmt.{decimal, option_append}
-use Rattle.hir_node.specs.declared.node_id.NodeId.{NodeId}
+use Rattle.hir_show_run.specs.Prelude.{ℕ, List, [], ◌∷◌, ◌++◌, Option, Some, Result, Ok, Err, codes, decimal, option_append, NodeId, FinishFault, body_fault_text}
 use Rattle.hir_node.specs.declared.node_id.NodeId.TheVariants as node
-use Rattle.hir_validate.specs.declared.fault.FinishFault.{FinishFault}
 use Rattle.hir_validate.specs.declared.fault.FinishFault.TheVariants as finish
 use Rattle.hir_validate.specs.contracts.fault.FinishFaultDisplay.TheImpl as finish_fault
 use Rattle.hir_show_run.specs.declared.fault.RunFault.{RunFault}
-use Rattle.hir_body.specs.FaultTexts.{body_fault_text}
 use Rattle.hir_show_run.specs.declared.fault.RunFault.TheVariants.{BadLine, Refused, BodyRefused, InputFailed, OutputFailed, OutOfMemory}
 
 -- the kind of an id and its number

@@ -1,8 +1,6 @@
 -- The first type, constant or lifetime of a name.
-use Rattle.std.specs.Prelude.{◌≡◌, ℕ, List, ◌∷◌, ◌++◌, length, Option, Some}
+use Rattle.hir_signature.specs.Prelude.{◌≡◌, ℕ, List, ◌∷◌, ◌++◌, length, Option, Some, MatchOption, Name}
 use Rattle.std.specs.List.{All}
-use Rattle.std.specs.Option.{MatchOption}
-use Rattle.hir_base.specs.Ids.{Name}
 use Rattle.hir_signature.specs.declared.param_data.LifetimeParamData.{LifetimeParamData}
 use Rattle.hir_signature.specs.declared.any_param.TypeOrConstParamData.{TypeOrConstParamData}
 use Rattle.hir_signature.specs.declared.any_param.TypeOrConstParamData.TheVariants.{TypeParamData, ConstParamData}

@@ -1,12 +1,5 @@
 -- The model of generic parameters, as lists; the first of a name, and the index of a lifetime.
-use Rattle.std.specs.Prelude.{ℕ, nat_eq, List, [], ◌∷◌, length, take, slice_get, Bool, false, cond, Option, Some, None}
-use Rattle.std.specs.List.{filter, enumerate_from, position}
-use Rattle.std.specs.Option.{option_map}
-use Rattle.std.specs.Cmp.Lexicographic.{pointwise}
-use Rattle.hir_base.specs.Ids.{Name}
-use Rattle.hir_base.specs.declared.defs.GenericDefId.{GenericDefId}
-use Rattle.hir_base.specs.declared.params.TypeOrConstParamId.{TypeOrConstParamId}
-use Rattle.hir_base.specs.declared.params.LifetimeParamId.{LifetimeParamId}
+use Rattle.hir_signature.specs.Prelude.{ℕ, nat_eq, List, [], ◌∷◌, length, take, slice_get, Bool, false, cond, Option, Some, None, filter, enumerate_from, position, option_map, pointwise, Name, GenericDefId, TypeOrConstParamId, LifetimeParamId}
 use Rattle.hir_signature.specs.Params.{is_bound, is_trait_self}
 use Rattle.hir_signature.specs.declared.param_data.LifetimeParamData.{LifetimeParamData}
 use Rattle.hir_signature.specs.declared.param_data.LifetimeBoundType.{LifetimeBoundType}

@@ -10,5 +10,7 @@ pub mod Signatures
 pub mod Lookups
 -- the texts of faults of signatures
 pub mod FaultTexts
+-- what the files here import of std and of lower crates, from one place
+pub mod Prelude
 -- proofs that `==` decides whether two values are the same
 pub mod same

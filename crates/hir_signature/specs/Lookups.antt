@@ -1,6 +1,5 @@
 -- The result of a lookup of a definition that may have generic parameters.
-use Rattle.hir_source_map.specs.declared.source_map.ExpressionStoreSourceMap.{ExpressionStoreSourceMap}
-use Rattle.hir_store_core.specs.Contents.{Contents}
+use Rattle.hir_signature.specs.Prelude.{ExpressionStoreSourceMap, Contents}
 use Rattle.hir_signature.specs.Generics.{Generics}
 
 -- generic parameters, the store that they name, and where that comes from

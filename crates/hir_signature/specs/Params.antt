@@ -1,8 +1,6 @@
 -- Defines the parts of a generic parameter: its name, its default, the parameter of its kind, whether it is
 -- the Self of a trait, and how it is bound.
-use Rattle.std.specs.Prelude.{List, Bool, true, false, Option, Some, None}
-use Rattle.std.specs.Option.{is_some}
-use Rattle.hir_base.specs.Ids.{Name}
+use Rattle.hir_signature.specs.Prelude.{List, Bool, true, false, Option, Some, None, is_some, Name}
 use Rattle.hir_signature.specs.declared.param_data.TypeParamData.{TypeParamData}
 use Rattle.hir_signature.specs.declared.param_data.ConstParamData.{ConstParamData}
 use Rattle.hir_signature.specs.declared.param_data.LifetimeParamData.{LifetimeParamData}

@@ -1,22 +1,10 @@
 -- The ids that a signature names, when they fit its store, and the first fault of its parts.
-use Rattle.std.specs.Prelude.{◌<◌, Bool, ◌&&◌, true, List, [], ◌∷◌, ◌++◌, All, Option, Some, None, IfSome, IsTrue, length, map, nat_lt}
-use Rattle.std.specs.List.{list_all}
-use Rattle.hir_path.specs.NodeIds.{TypeRefId}
-use Rattle.hir_forest.specs.Faults.{root_nodes}
-use Rattle.hir_forest.specs.Verdict.{◌unless◌, ◌before◌}
-use Rattle.hir_node.specs.ChildCalls.{Call, a, t, l, opt, bound_calls}
-use Rattle.hir_node.specs.declared.node_id.NodeId.{NodeId}
+use Rattle.hir_signature.specs.Prelude.{◌<◌, Bool, ◌&&◌, true, List, [], ◌∷◌, ◌++◌, All, Option, Some, None, IfSome, IsTrue, length, map, nat_lt, list_all, TypeRefId, root_nodes, ◌unless◌, ◌before◌, Call, a, t, l, opt, bound_calls, NodeId, is_in_range, is_path_at, bound_paths, bound_fits, Nodes, sizes_of, Contents, IsReached, reached_nodes}
 use Rattle.hir_node.specs.declared.node_id.NodeId.TheVariants as node
 use Rattle.hir_signature.specs.declared.any_param.TypeOrConstParamData.{TypeOrConstParamData}
 use Rattle.hir_signature.specs.declared.any_param.TypeOrConstParamData.TheVariants as either
 use Rattle.hir_signature.specs.declared.predicate.WherePredicate.{WherePredicate}
 use Rattle.hir_signature.specs.declared.predicate.WherePredicate.TheVariants as predicate
-use Rattle.hir_validate.specs.Sizes.{is_in_range}
-use Rattle.hir_validate.specs.TestedParts.{is_path_at, bound_paths}
-use Rattle.hir_validate.specs.Fits.{bound_fits}
-use Rattle.hir_validate.specs.Nodes.{Nodes, sizes_of}
-use Rattle.hir_store_core.specs.Contents.{Contents}
-use Rattle.hir_store_core.specs.Under.{IsReached, reached_nodes}
 use Rattle.hir_signature.specs.Generics.{Generics}
 use Rattle.hir_signature.specs.declared.signature_fault.SignatureFault.{SignatureFault}
 use Rattle.hir_signature.specs.declared.signature_fault.SignatureFault.TheVariants.{IdOutOfRange, NotAPath}

@@ -1,11 +1,7 @@
 -- Defines how each call of a builder of source maps changes it: one map has one entry more, or another value
 -- at its key, and nothing else changes.
-use Rattle.std.specs.Prelude.{◌≡◌, [], ◌∷◌, ◌++◌, Bool, ◌||◌, cond, Some, None}
+use Rattle.hir_source_map.specs.Prelude.{◌≡◌, [], ◌∷◌, ◌++◌, Bool, ◌||◌, cond, Some, None, Global, MacroCallId, ExprId, PatId, BindingId, LabelId, TypeRefId, LifetimeRefId, ExprOrPatId}
 use Rattle.std.specs.FinMap as map
-use Rattle.std.specs.declared.alloc.Global.{Global}
-use Rattle.hir_base.specs.Ids.{MacroCallId}
-use Rattle.hir_path.specs.NodeIds.{ExprId, PatId, BindingId, LabelId, TypeRefId, LifetimeRefId}
-use Rattle.hir_path.specs.declared.ids.ExprOrPatId.{ExprOrPatId}
 use Rattle.hir_source_map.specs.declared.diagnostics.ExpressionStoreDiagnostics.{ExpressionStoreDiagnostics}
 use Rattle.hir_source_map.specs.declared.source_map_builder.SourceMapBuilder.{SourceMapBuilder}
 use Rattle.hir_source_map.specs.declared.source_map.ExpressionStoreSourceMap.{ExpressionStoreSourceMap}

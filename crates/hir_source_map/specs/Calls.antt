@@ -1,8 +1,5 @@
 -- Defines macro calls with their expansions, as iterators yield them.
-use Rattle.std.specs.Prelude.{List, [], Option, Some, None}
-use Rattle.hir_base.specs.Ids.{MacroCallId}
-use Rattle.hir_base.specs.declared.ptr.InFile.{InFile}
-use Rattle.hir_base.specs.declared.ptr.SyntaxNodePtr.{SyntaxNodePtr}
+use Rattle.hir_source_map.specs.Prelude.{List, [], Option, Some, None, MacroCallId, InFile, SyntaxNodePtr}
 
 abbrev pub Calls : Type 0
 Calls = List (InFile SyntaxNodePtr × MacroCallId)

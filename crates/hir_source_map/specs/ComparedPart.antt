@@ -1,12 +1,7 @@
 -- Defines the compared part of source maps, which `==` compares: it is without the maps from sources to
 -- nodes.
-use Rattle.std.specs.Prelude.{List, Bool, ◌&&◌, Option}
-use Rattle.std.specs.Option.{option_eq, option_map}
+use Rattle.hir_source_map.specs.Prelude.{List, Bool, ◌&&◌, Option, option_eq, option_map, pointwise, MacroCallId, same_maps, by_code}
 use Rattle.std.specs.FinMap as map
-use Rattle.std.specs.Cmp.Lexicographic.{pointwise}
-use Rattle.hir_base.specs.Ids.{MacroCallId}
-use Rattle.hir_collections.specs.Maps.{same_maps}
-use Rattle.hir_collections.specs.Table.{by_code}
 use Rattle.hir_source_map.specs.declared.diagnostics.ExpressionStoreDiagnostics.{ExpressionStoreDiagnostics}
 use Rattle.hir_source_map.specs.declared.sources.ExprSources.{ExprSources}
 use Rattle.hir_source_map.specs.declared.source_map.ExpressionStoreSourceMap.{ExpressionStoreSourceMap}

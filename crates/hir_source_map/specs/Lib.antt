@@ -8,6 +8,8 @@ pub mod Lookups
 pub mod Calls
 -- the part that `==` compares
 pub mod ComparedPart
+-- what the files here import of std and of lower crates, from one place
+pub mod Prelude
 -- what only contracts within this crate cite
 pub mod internal
 -- proofs alone, of equality

@@ -1,12 +1,7 @@
 -- Defines what lookups in a source map return: the entry of a map, if the part that has the map is kept.
-use Rattle.std.specs.Prelude.{ℕ, List, [], Option, Some, None, Result, Ok, Err}
+use Rattle.hir_source_map.specs.Prelude.{ℕ, List, [], Option, Some, None, Result, Ok, Err, MacroCallId, by_code, SyntheticSyntax, ExprOrPatId, ExprId, PatId, BindingId, LabelId, TypeRefId, LifetimeRefId}
 use Rattle.std.specs.FinMap as map
-use Rattle.hir_base.specs.Ids.{MacroCallId}
-use Rattle.hir_collections.specs.Table.{by_code}
-use Rattle.hir_base.specs.declared.ptr.SyntheticSyntax.{SyntheticSyntax}
-use Rattle.hir_path.specs.declared.ids.ExprOrPatId.{ExprOrPatId}
 use Rattle.hir_path.specs.declared.ids.ExprOrPatId.TheVariants as id
-use Rattle.hir_path.specs.NodeIds.{ExprId, PatId, BindingId, LabelId, TypeRefId, LifetimeRefId}
 use Rattle.hir_source_map.specs.declared.diagnostics.ExpressionStoreDiagnostics.{ExpressionStoreDiagnostics}
 use Rattle.hir_source_map.specs.declared.sources.ExprSources.{ExprSources}
 use Rattle.hir_source_map.specs.declared.source_map.ExpressionStoreSourceMap.{ExpressionStoreSourceMap}

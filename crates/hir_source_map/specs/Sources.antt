@@ -1,12 +1,7 @@
 -- Defines the keys of the maps of a source map, its two parts without entries, that of expressions and that
 -- of types, and when the first is kept.
-use Rattle.std.specs.Prelude.{ℕ, List, [], ◌∷◌, ◌++◌, length, Bool, not, ◌||◌, Option, Some, None, ◌==◌, nat_eq}
+use Rattle.hir_source_map.specs.Prelude.{ℕ, List, [], ◌∷◌, ◌++◌, length, Bool, not, ◌||◌, Option, Some, None, ◌==◌, nat_eq, PatId, BindingId, by_code, node_code, InFile, SyntaxNodePtr}
 use Rattle.std.specs.FinMap as map
-use Rattle.hir_path.specs.NodeIds.{PatId, BindingId}
-use Rattle.hir_collections.specs.Table.{by_code}
-use Rattle.hir_base.specs.Keys.{node_code}
-use Rattle.hir_base.specs.declared.ptr.InFile.{InFile}
-use Rattle.hir_base.specs.declared.ptr.SyntaxNodePtr.{SyntaxNodePtr}
 use Rattle.hir_source_map.specs.declared.sources.ExprSources.{ExprSources}
 use Rattle.hir_source_map.specs.declared.sources.TypeSources.{TypeSources}
 

@@ -1,18 +1,6 @@
 -- The model of a builder: what it holds, what its store holds, and its first fault.
-use Rattle.std.specs.Prelude.{◌≡◌, ◌⊎◌, List, [], ◌∷◌, ◌++◌, Bool, not, ◌||◌, cond, nat_eq, length, Option, Some, None, IsSome}
+use Rattle.hir_store.specs.Prelude.{◌≡◌, ◌⊎◌, List, [], ◌∷◌, ◌++◌, Bool, not, ◌||◌, cond, nat_eq, length, Option, Some, None, IsSome, Global, ExprId, Root, ◌unless◌, ◌before◌, FinishFault, NoRoots, Nodes, ends_of, SideTables, no_side_tables, Contents, contents_fault, HasSameMaps, no_sources}
 use Rattle.std.specs.FinMap as map
-use Rattle.std.specs.declared.alloc.Global.{Global}
-use Rattle.hir_path.specs.NodeIds.{ExprId}
-use Rattle.hir_forest.specs.declared.roots.Root.{Root}
-use Rattle.hir_forest.specs.Verdict.{◌unless◌, ◌before◌}
-use Rattle.hir_validate.specs.declared.fault.FinishFault.{FinishFault}
-use Rattle.hir_validate.specs.declared.fault.FinishFault.TheVariants.{NoRoots}
-use Rattle.hir_validate.specs.Nodes.{Nodes}
-use Rattle.hir_validate.specs.Faults.{ends_of}
-use Rattle.hir_store_core.specs.declared.side_tables.SideTables.{SideTables}
-use Rattle.hir_store_core.specs.SideTables.{no_side_tables}
-use Rattle.hir_store_core.specs.Contents.{Contents, contents_fault}
-use Rattle.hir_source_map.specs.Additions.{HasSameMaps, no_sources}
 use Rattle.hir_store.specs.declared.builder.ExpressionStoreBuilder.{ExpressionStoreBuilder}
 
 -- the nodes and what they name, the roots where a list of them was begun, and the side tables

@@ -1,9 +1,6 @@
 -- The parent of a node, and its ancestors: its parent, the parent of that one, and so on.
-use Rattle.std.specs.Prelude.{ℕ, zero, suc, ◌+◌, ◌==◌, Bool, false, List, [], ◌∷◌, ◌++◌, Option, Some, None, map, find, length}
-use Rattle.std.specs.List.{list_any, enumerate_from}
-use Rattle.hir_node.specs.declared.node_id.NodeId.{NodeId}
+use Rattle.hir_store_core.specs.Prelude.{ℕ, zero, suc, ◌+◌, ◌==◌, Bool, false, List, [], ◌∷◌, ◌++◌, Option, Some, None, map, find, length, list_any, enumerate_from, NodeId, Nodes, children_of}
 use Rattle.hir_node.specs.declared.node_id.NodeId.TheVariants as node
-use Rattle.hir_validate.specs.Nodes.{Nodes, children_of}
 
 -- two ids are of the same node
 abbrev pub is_node : NodeId → NodeId → Bool

@@ -1,10 +1,6 @@
 -- The blocks of a store with the maps of their items.
-use Rattle.std.specs.Prelude.{List, Option, Some, None, Result, Ok, Err, is_none, find}
-use Rattle.std.specs.Option.{option_map}
+use Rattle.hir_store_core.specs.Prelude.{List, Option, Some, None, Result, Ok, Err, is_none, find, option_map, nat_cmp, BTreeMap, get_by, BlockId}
 use Rattle.std.specs.List.{filter_map}
-use Rattle.std.specs.Ordering.{nat_cmp}
-use Rattle.std.specs.BTreeMap.{BTreeMap, get_by}
-use Rattle.hir_base.specs.Ids.{BlockId}
 use Rattle.hir_store_core.specs.declared.missing.Missing.{Missing}
 use Rattle.hir_store_core.specs.declared.missing.Missing.TheVariants.{DefMap}
 

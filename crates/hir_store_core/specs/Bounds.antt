@@ -1,13 +1,8 @@
 -- The path of a bound in a store, with its modifier.
-use Rattle.std.specs.Prelude.{Option, None, option_map, IsTrue}
-use Rattle.std.specs.List.{list_all}
-use Rattle.hir_path.specs.declared.path.Path.{Path}
-use Rattle.hir_path.specs.declared.bound.TypeBound.{TypeBound}
+use Rattle.hir_store_core.specs.Prelude.{Option, None, IsTrue, list_all, Path, TypeBound, TraitBoundModifier, path_at, is_path_at, bound_paths, Nodes}
+use Rattle.std.specs.Prelude.{option_map}
 use Rattle.hir_path.specs.declared.bound.TypeBound.TheVariants as bound
-use Rattle.hir_path.specs.declared.bound.TraitBoundModifier.{TraitBoundModifier}
 use Rattle.hir_path.specs.declared.bound.TraitBoundModifier.TheVariants as modifier
-use Rattle.hir_validate.specs.TestedParts.{path_at, is_path_at, bound_paths}
-use Rattle.hir_validate.specs.Nodes.{Nodes}
 
 -- the path that a bound names, with its modifier; after `for<..>` it has none
 abbrev pub bound_path : TypeBound → Nodes → Option (Path × TraitBoundModifier)

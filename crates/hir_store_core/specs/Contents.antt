@@ -1,10 +1,5 @@
 -- The contents of a store: what it holds, and what an accepted one promises.
-use Rattle.std.specs.Prelude.{List, [], Option, None}
-use Rattle.hir_forest.specs.declared.roots.Root.{Root}
-use Rattle.hir_validate.specs.declared.fault.FinishFault.{FinishFault}
-use Rattle.hir_forest.specs.Parents.{HasParents}
-use Rattle.hir_validate.specs.Nodes.{Nodes, no_nodes, graph}
-use Rattle.hir_validate.specs.Faults.{RootedNodes, rooted_fault}
+use Rattle.hir_store_core.specs.Prelude.{List, [], Option, None, Root, FinishFault, HasParents, Nodes, no_nodes, graph, RootedNodes, rooted_fault}
 use Rattle.hir_store_core.specs.declared.side_tables.SideTables.{SideTables}
 use Rattle.hir_store_core.specs.declared.kept_parts.KeptParts.{KeptParts}
 use Rattle.hir_store_core.specs.SideTables.{no_side_tables}

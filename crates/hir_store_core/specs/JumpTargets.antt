@@ -1,14 +1,9 @@
 -- What encloses an expression, and where a jump goes: the nearest ancestor of a kind, never beyond an
 -- anonymous constant.
-use Rattle.std.specs.Prelude.{◌==◌, ◌||◌, Bool, true, false, List, [], ◌∷◌, Option, Some, None, if◌then◌else◌, find, filter_map, slice_get}
-use Rattle.std.specs.List.{list_any}
-use Rattle.hir_path.specs.NodeIds.{ExprId, LabelId}
-use Rattle.hir_node.specs.declared.expr.Expr.{Expr}
+use Rattle.hir_store_core.specs.Prelude.{◌==◌, ◌||◌, Bool, true, false, List, [], ◌∷◌, Option, Some, None, find, filter_map, slice_get, list_any, ExprId, LabelId, Expr, NodeId, Call, OnExpr, OnAnonConst, OnPat, OnType, OnLifetime, Nodes, calls_of}
+use Rattle.std.specs.Prelude.{if◌then◌else◌}
 use Rattle.hir_node.specs.declared.expr.Expr.TheVariants as expr
-use Rattle.hir_node.specs.declared.node_id.NodeId.{NodeId}
 use Rattle.hir_node.specs.declared.node_id.NodeId.TheVariants as node
-use Rattle.hir_node.specs.ChildCalls.{Call, OnExpr, OnAnonConst, OnPat, OnType, OnLifetime}
-use Rattle.hir_validate.specs.Nodes.{Nodes, calls_of}
 use Rattle.hir_store_core.specs.declared.jump_roles.JumpRole.{JumpRole}
 use Rattle.hir_store_core.specs.declared.jump_roles.JumpRole.TheVariants.{Closure, Loop, Block, Break, Continue, Other}
 use Rattle.hir_store_core.specs.Ancestors.{ancestors}

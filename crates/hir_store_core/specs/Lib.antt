@@ -16,8 +16,6 @@ pub mod RootSearch
 pub mod NodeSets
 -- the blocks with the maps of their items
 pub mod Blocks
--- the store of an owner, and what is missing where there is none
-pub mod Owners
 -- the path of a bound
 pub mod Bounds
 -- the text of a missing fact
@@ -28,6 +26,10 @@ pub mod Tries
 pub mod PatLinks
 -- the kept parts of a store without nodes
 pub mod KeptParts
+-- the store of an owner, and what is missing where there is none
+pub mod Owners
+-- what the files here import of std and of lower crates, from one place
+pub mod Prelude
 -- what only contracts within this crate cite
 pub mod internal
 -- proofs that `==` decides whether two values are the same

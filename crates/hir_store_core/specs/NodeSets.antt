@@ -1,10 +1,5 @@
 -- Sets of nodes of a store, kept as a mark for each node.
-use Rattle.std.specs.Prelude.{◌≡◌, ◌⊎◌, ◌↔◌, Bool, List, Contains}
-use Rattle.hir_forest.specs.Forest.{Marks}
-use Rattle.hir_node.specs.declared.node_id.NodeId.{NodeId}
-use Rattle.hir_validate.specs.declared.sizes.Sizes.{Sizes}
-use Rattle.hir_validate.specs.Sizes.{HasNode, place}
-use Rattle.hir_validate.specs.Nodes.{Nodes, Has, children_of}
+use Rattle.hir_store_core.specs.Prelude.{◌≡◌, ◌⊎◌, ◌↔◌, Bool, List, Contains, Marks, NodeId, Sizes, HasNode, place, Nodes, Has, children_of}
 
 -- the number of nodes, and a mark for each, in the order of their numbers
 pub record MarkedNodes : Type 0 where

@@ -1,7 +1,6 @@
 -- The result of a lookup of a store by its owner, and what is missing where there is none.
-use Rattle.hir_base.specs.declared.defs.ExpressionStoreOwnerId.{ExpressionStoreOwnerId}
+use Rattle.hir_store_core.specs.Prelude.{ExpressionStoreOwnerId, ExpressionStoreSourceMap}
 use Rattle.hir_base.specs.declared.defs.ExpressionStoreOwnerId.TheVariants as owner
-use Rattle.hir_source_map.specs.declared.source_map.ExpressionStoreSourceMap.{ExpressionStoreSourceMap}
 use Rattle.hir_store_core.specs.Contents.{Contents}
 use Rattle.hir_store_core.specs.declared.missing.Missing.{Missing}
 use Rattle.hir_store_core.specs.declared.missing.Missing.TheVariants as missing

@@ -1,11 +1,6 @@
 -- The links of patterns: from each child of a pattern to the next one, and from the last one back to the
 -- pattern.
-use Rattle.std.specs.Prelude.{◌≡◌, ◌<◌, List, [], ◌∷◌, ⊤, length, slice_index_or, Contains}
-use Rattle.std.specs.List.{flat_map}
-use Rattle.hir_path.specs.NodeIds.{PatId}
-use Rattle.hir_node.specs.declared.pat.Pat.{Pat}
-use Rattle.hir_node.specs.ChildCalls.{pat_of_call, pat_calls}
-use Rattle.hir_validate.specs.Nodes.{calls_at}
+use Rattle.hir_store_core.specs.Prelude.{◌≡◌, ◌<◌, List, [], ◌∷◌, ⊤, length, slice_index_or, Contains, flat_map, PatId, Pat, pat_of_call, pat_calls, calls_at}
 use Rattle.hir_store_core.specs.declared.pat_links.PatLink.{PatLink}
 use Rattle.hir_store_core.specs.declared.pat_links.PatLink.TheVariants.{Next, Last, Alone}
 

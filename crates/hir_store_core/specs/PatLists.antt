@@ -1,14 +1,6 @@
 -- The patterns, bindings and expressions of a pattern, and the child expressions of an expression.
-use Rattle.std.specs.Prelude.{List, [], ◌∷◌, slice_get}
-use Rattle.std.specs.List.{flat_map}
-use Rattle.hir_path.specs.NodeIds.{ExprId, PatId, BindingId}
-use Rattle.hir_node.specs.ChildCalls.{Call, OnExpr, OnAnonConst, OnPat, OnType, OnLifetime, pat_of_call}
-use Rattle.hir_node.specs.declared.node_id.NodeId.{NodeId}
+use Rattle.hir_store_core.specs.Prelude.{List, [], ◌∷◌, slice_get, flat_map, ExprId, PatId, BindingId, Call, OnExpr, OnAnonConst, OnPat, OnType, OnLifetime, pat_of_call, NodeId, pat_bindings, all_of, Nodes, calls_of, fold_down}
 use Rattle.hir_node.specs.declared.node_id.NodeId.TheVariants as node
-use Rattle.hir_node.specs.OtherIds.{pat_bindings}
-use Rattle.hir_validate.specs.TestedParts.{all_of}
-use Rattle.hir_validate.specs.Nodes.{Nodes, calls_of}
-use Rattle.hir_validate.specs.Recursion.{fold_down}
 
 -- the patterns among the calls of a pattern
 abbrev pub child_pats_of : Nodes → PatId → List PatId

@@ -1,13 +1,7 @@
 -- The side tables of a store: who owns a binding, what hygiene a path has, which blocks may hold items.
-use Rattle.std.specs.Prelude.{[], Option, Some, None}
+use Rattle.hir_store_core.specs.Prelude.{[], Option, Some, None, Edition2015, SyntaxContext, ExprId, BindingId, ExprOrPatId, expr_or_pat_code, id_key}
 use Rattle.std.specs.FinMap as map
-use Rattle.hir_base.specs.declared.edition.Edition.TheVariants.{Edition2015}
-use Rattle.hir_base.specs.declared.hygiene.SyntaxContext.{SyntaxContext}
 use Rattle.hir_base.specs.declared.hygiene.SyntaxContext.TheVariants.{Root}
-use Rattle.hir_path.specs.NodeIds.{ExprId, BindingId}
-use Rattle.hir_path.specs.declared.ids.ExprOrPatId.{ExprOrPatId}
-use Rattle.hir_path.specs.Keys.{expr_or_pat_code}
-use Rattle.hir_source_map.specs.Sources.{id_key}
 use Rattle.hir_store_core.specs.declared.side_tables.SideTables.{SideTables}
 
 abbrev pub no_side_tables : SideTables

@@ -1,10 +1,6 @@
 -- The descendants of a node, defined from a node to its children, and the nodes that are reached from some
 -- nodes.
-use Rattle.std.specs.Prelude.{◌≡◌, ◌<◌, ℕ, List, [], ◌∷◌, Some, slice_get, Contains}
-use Rattle.std.specs.List.{flat_map}
-use Rattle.hir_node.specs.declared.node_id.NodeId.{NodeId}
-use Rattle.hir_validate.specs.Nodes.{Nodes, Has, children_of}
-use Rattle.hir_validate.specs.Recursion.{fold_down}
+use Rattle.hir_store_core.specs.Prelude.{◌≡◌, ◌<◌, ℕ, List, [], ◌∷◌, Some, slice_get, Contains, flat_map, NodeId, Nodes, Has, children_of, fold_down}
 
 -- a node is a descendant of itself, and a descendant of a child of a node is a descendant of the node
 pub data Under (s : Nodes) (n : NodeId) : NodeId → Type 0 where

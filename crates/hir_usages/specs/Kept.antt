@@ -1,14 +1,11 @@
 -- What a rename keeps, and what a conflict is: what the paths of a body resolve to along the frames that
 -- are around them, whichever scopes were made of it.
-use Rattle.std.specs.List.{All}
-use Rattle.std.specs.Prelude.{◌≡◌, ◌≢◌, ℕ, List, ◌∷◌, ◌++◌, Option, Some, None}
-use Rattle.hir_path.specs.NodeIds.{ExprId, BindingId}
-use Rattle.hir_path.specs.declared.ids.ExprOrPatId.{ExprOrPatId}
-use Rattle.hir_store_core.specs.SideTables.{hygiene_of}
-use Rattle.hir_body.specs.Bodies.{BodyContents}
-use Rattle.hir_scope.specs.{BodyScopes.entry_nodes_of_body, Chains.HasChain, Frames.Chain, Scopes.Scopes}
-use Rattle.hir_usages.specs.{Renamed.renamed_body, Renames.name_at, Renames.refusal, Renames.resolve_along, Usages.usages_of_body}
-use Rattle.hir_usages.specs.declared.{rename_fault.RenameFault.RenameFault, usage.Usage.Usage}
+use Rattle.hir_usages.specs.Prelude.{All, ◌≡◌, ◌≢◌, ℕ, List, ◌∷◌, ◌++◌, Option, Some, None, ExprId, BindingId, ExprOrPatId, hygiene_of, BodyContents, entry_nodes_of_body, HasChain, Chain, Scopes}
+use Rattle.hir_usages.specs.Renamed.{renamed_body}
+use Rattle.hir_usages.specs.Renames.{name_at, refusal, resolve_along}
+use Rattle.hir_usages.specs.Usages.{usages_of_body}
+use Rattle.hir_usages.specs.declared.rename_fault.RenameFault.{RenameFault}
+use Rattle.hir_usages.specs.declared.usage.Usage.{Usage}
 
 -- a path of a body, which asks for its name at this expression, resolves to a binding or to none: by the
 -- frames around the expression

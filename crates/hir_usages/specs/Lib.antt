@@ -12,5 +12,7 @@ pub mod Renamed
 pub mod Renames
 -- what a rename keeps, and what a conflict is
 pub mod Kept
+-- what the files here import of std and of lower crates, from one place
+pub mod Prelude
 -- what only contracts within this crate cite
 pub mod internal

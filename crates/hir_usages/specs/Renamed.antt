@@ -1,16 +1,8 @@
 -- The body in which a binding has a new name, and so have the paths of its uses.
-use Rattle.std.specs.Prelude.{ℕ, zero, suc, List, [], ◌∷◌, fold, map}
-use Rattle.hir_base.specs.Ids.{Name}
-use Rattle.hir_path.specs.declared.ids.ExprOrPatId.{ExprOrPatId}
+use Rattle.hir_usages.specs.Prelude.{ℕ, zero, suc, List, [], ◌∷◌, fold, map, Name, ExprOrPatId, BindingId, one_name, Path, Binding, Expr, Pat, Nodes, Contents, BodyContents, Scopes}
 use Rattle.hir_path.specs.declared.ids.ExprOrPatId.TheVariants.{ExprId, PatId}
-use Rattle.hir_path.specs.NodeIds.{BindingId}
-use Rattle.hir_path.specs.{Paths.one_name, declared.path.Path.Path}
-use Rattle.hir_node.specs.declared.{binding.Binding.Binding, expr.Expr.Expr, pat.Pat.Pat}
-use Rattle.hir_validate.specs.Nodes.{Nodes}
-use Rattle.hir_store_core.specs.Contents.{Contents}
-use Rattle.hir_body.specs.Bodies.{BodyContents}
-use Rattle.hir_scope.specs.Scopes.{Scopes}
-use Rattle.hir_usages.specs.{Usages.usages_of, Usages.usages_of_body, declared.usage.Usage.Usage}
+use Rattle.hir_usages.specs.Usages.{usages_of, usages_of_body}
+use Rattle.hir_usages.specs.declared.usage.Usage.{Usage}
 
 -- a list in which one item is changed, where it is in range
 abbrev pub change_at : {X : Type 0} → (X → X) → List X → ℕ → List X

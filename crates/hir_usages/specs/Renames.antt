@@ -1,21 +1,12 @@
 -- The rename of a binding: what each use resolves to afterwards, and the first reason why there is none.
+use Rattle.hir_usages.specs.Prelude.{list_any, option_or, List, [], ◌∷◌, Option, Some, None, Bool, true, false, ◌==◌, ◌&&◌, ◌||◌, map, not, codes, option_map, slice_get, Name, SyntaxContext, ExprOrPatId, ExprId, BindingId, Binding, Expr, Pat, Nodes, Contents, hygiene_of, BodyContents, Param, Frame, Chain, local_name, binding_at, binding_of, target_binding_at, chain, matches, resolve, Scope, Scopes, ScopeEntry}
 use Rattle.std.specs.FinMap as map
-use Rattle.std.specs.{List.list_any, Option.option_or}
-use Rattle.std.specs.Prelude.{List, [], ◌∷◌, Option, Some, None, Bool, true, false, ◌==◌, ◌&&◌, ◌||◌, if◌then◌else◌, map, not, codes, option_map, slice_get}
-use Rattle.hir_base.specs.Ids.{Name}
+use Rattle.std.specs.Prelude.{if◌then◌else◌}
 use Rattle.hir_base.specs.contracts.name.NamePartialEq.TheImpl as names
-use Rattle.hir_base.specs.declared.hygiene.SyntaxContext.{SyntaxContext}
-use Rattle.hir_path.specs.declared.ids.ExprOrPatId.{ExprOrPatId}
 use Rattle.hir_path.specs.declared.ids.ExprOrPatId.TheVariants as either
-use Rattle.hir_path.specs.NodeIds.{ExprId, BindingId}
-use Rattle.hir_node.specs.declared.{binding.Binding.Binding, expr.Expr.Expr, pat.Pat.Pat}
-use Rattle.hir_validate.specs.Nodes.{Nodes}
-use Rattle.hir_store_core.specs.{Contents.Contents, SideTables.hygiene_of}
-use Rattle.hir_body.specs.{Bodies.BodyContents, declared.formals.Param.Param}
-use Rattle.hir_scope.specs.{Frames.Frame, Frames.Chain, PathResolution.local_name, PathResolution.binding_at, PathResolution.binding_of, PathResolution.target_binding_at, Paths.chain, Resolution.matches, Resolution.resolve, Scopes.Scope, Scopes.Scopes}
-use Rattle.hir_scope.specs.declared.scope.ScopeEntry.{ScopeEntry}
 use Rattle.hir_usages.specs.Usages.{resolves_to, usages_of_body}
-use Rattle.hir_usages.specs.declared.{rename_fault.RenameFault.RenameFault, usage.Usage.Usage}
+use Rattle.hir_usages.specs.declared.rename_fault.RenameFault.{RenameFault}
+use Rattle.hir_usages.specs.declared.usage.Usage.{Usage}
 
 -- the first that f gives for one of these
 abbrev pub first_some : {X Y : Type 0} → (X → Option Y) → List X → Option Y

@@ -1,18 +1,8 @@
 -- The uses of a body, what each resolves to, and the bindings that no use resolves to.
-use Rattle.std.specs.List.{flat_map, filter, list_any}
-use Rattle.std.specs.Option.{option_to_list}
-use Rattle.std.specs.Prelude.{List, [], ◌∷◌, ◌++◌, Option, Some, None, Bool, false, ◌==◌, not, option_map, is_some, slice_get}
-use Rattle.hir_base.specs.Ids.{Name}
-use Rattle.hir_path.specs.declared.ids.ExprOrPatId.{ExprOrPatId}
+use Rattle.hir_usages.specs.Prelude.{flat_map, filter, list_any, option_to_list, List, [], ◌∷◌, ◌++◌, Option, Some, None, Bool, false, ◌==◌, not, option_map, is_some, slice_get, Name, ExprOrPatId, ExprId, PatId, BindingId, Expr, NodeId, Pat, Nodes, Contents, bindings_at, BodyContents, local_name, binding_at, target_binding_at, Scopes, each_once, Spot}
 use Rattle.hir_path.specs.declared.ids.ExprOrPatId.TheVariants as either
-use Rattle.hir_path.specs.NodeIds.{ExprId, PatId, BindingId}
-use Rattle.hir_node.specs.declared.{expr.Expr.Expr, node_id.NodeId.NodeId, pat.Pat.Pat}
-use Rattle.hir_validate.specs.Nodes.{Nodes}
-use Rattle.hir_store_core.specs.{Contents.Contents, PatLists.bindings_at}
-use Rattle.hir_body.specs.Bodies.{BodyContents}
-use Rattle.hir_scope.specs.{PathResolution.local_name, PathResolution.binding_at, PathResolution.target_binding_at, Scopes.Scopes}
-use Rattle.hir_captures.specs.{Captures.each_once, Uses.Spot}
-use Rattle.hir_usages.specs.{Visits.visits, declared.usage.Usage.Usage}
+use Rattle.hir_usages.specs.Visits.{visits}
+use Rattle.hir_usages.specs.declared.usage.Usage.{Usage}
 
 -- 1. Uses
 

@@ -1,8 +1,6 @@
 -- The names that are visible along a chain: what completion offers.
-use Rattle.std.specs.List.{list_any}
-use Rattle.std.specs.Prelude.{List, [], ◌∷◌, ◌++◌, if◌then◌else◌, fold}
-use Rattle.hir_scope.specs.{Frames.Chain, Resolution.entries_of, Resolution.matches}
-use Rattle.hir_scope.specs.declared.scope.ScopeEntry.{ScopeEntry}
+use Rattle.hir_usages.specs.Prelude.{list_any, List, [], ◌∷◌, ◌++◌, fold, Chain, entries_of, matches, ScopeEntry}
+use Rattle.std.specs.Prelude.{if◌then◌else◌}
 
 -- an entry is added where none has its name and its hygiene
 abbrev pub with_new_name : List ScopeEntry → ScopeEntry → List ScopeEntry

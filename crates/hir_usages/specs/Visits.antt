@@ -1,13 +1,6 @@
 -- The walk over a body in the order in which scopes are made: each node, and then its children, also those
 -- in constants and in types.
-use Rattle.std.specs.List.{flat_map}
-use Rattle.std.specs.Prelude.{List, [], ◌∷◌, Option, None}
-use Rattle.hir_path.specs.NodeIds.{ExprId}
-use Rattle.hir_node.specs.{ChildCalls.children, declared.node_id.NodeId.NodeId}
-use Rattle.hir_validate.specs.{Recursion.fold_down, Nodes.Nodes}
-use Rattle.hir_body.specs.Bodies.{BodyContents, entry_nodes}
-use Rattle.hir_scope.specs.{ScopingForms.form_of, Order.met_in_form}
-use Rattle.hir_captures.specs.Uses.{Spot, spot, assignment_at, of_pattern}
+use Rattle.hir_usages.specs.Prelude.{flat_map, List, [], ◌∷◌, Option, None, ExprId, children, NodeId, fold_down, Nodes, BodyContents, entry_nodes, form_of, met_in_form, Spot, spot, assignment_at, of_pattern}
 
 -- the children of a node, in that order
 abbrev pub children_in_order : Nodes → NodeId → List NodeId

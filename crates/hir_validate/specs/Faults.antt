@@ -1,15 +1,8 @@
 -- Defines the first fault of nodes with their roots.
-use Rattle.std.specs.Prelude.{ℕ, List, [], Option, None, IsTrue, true, length, map, slice_index_or}
-use Rattle.hir_node.specs.declared.type_ref.TypeRef.{TypeRef}
-use Rattle.hir_forest.specs.declared.roots.Ends.{Ends}
-use Rattle.hir_forest.specs.declared.roots.Root.{Root}
-use Rattle.hir_forest.specs.declared.roots.ForestFault.{ForestFault}
+use Rattle.hir_validate.specs.Prelude.{ℕ, List, [], Option, None, IsTrue, true, length, map, slice_index_or, TypeRef, Ends, Root, ForestFault, ◌unless◌, ◌before◌, first_below, in_words, forest_fault, NodeId}
 use Rattle.hir_forest.specs.declared.roots.ForestFault.TheVariants as forest
-use Rattle.hir_forest.specs.Verdict.{◌unless◌, ◌before◌, first_below, in_words}
-use Rattle.hir_forest.specs.Faults.{forest_fault}
 use Rattle.hir_validate.specs.declared.sizes.Sizes.{Sizes}
 use Rattle.hir_validate.specs.declared.nodes.NodeSlices.{NodeSlices}
-use Rattle.hir_node.specs.declared.node_id.NodeId.{NodeId}
 use Rattle.hir_node.specs.declared.node_id.NodeId.TheVariants as node
 use Rattle.hir_validate.specs.declared.fault.FinishFault.{FinishFault}
 use Rattle.hir_validate.specs.declared.fault.FinishFault.TheVariants.{IdOutOfRange, NotAPath, NoReturnType, NoSelfArgument, ArgumentLists, SharedChild, Cycle, RootOutOfRange, RootRepeated, RootUnderRoot, RootEnds}

@@ -1,10 +1,5 @@
 -- Defines when a path, generic arguments or a bound fit a store.
-use Rattle.std.specs.Prelude.{Bool, ◌&&◌}
-use Rattle.std.specs.List.{list_all}
-use Rattle.hir_path.specs.declared.path.Path.{Path}
-use Rattle.hir_path.specs.declared.path.GenericArgs.{GenericArgs}
-use Rattle.hir_path.specs.declared.bound.TypeBound.{TypeBound}
-use Rattle.hir_node.specs.ChildCalls.{path_calls, args_calls, bound_calls}
+use Rattle.hir_validate.specs.Prelude.{Bool, ◌&&◌, list_all, Path, GenericArgs, TypeBound, path_calls, args_calls, bound_calls}
 use Rattle.hir_validate.specs.Sizes.{is_in_range}
 use Rattle.hir_validate.specs.TestedParts.{is_path_at, path_paths, args_paths, bound_paths, path_gives_self, args_give_self, one_list_each}
 use Rattle.hir_validate.specs.Nodes.{Nodes, sizes_of}

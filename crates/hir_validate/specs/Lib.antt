@@ -12,6 +12,8 @@ pub mod Fits
 pub mod Sound
 -- recursion over a store
 pub mod Recursion
+-- what the files here import of std and of lower crates, from one place
+pub mod Prelude
 -- what only contracts within this crate cite
 pub mod internal
 -- proof that `==` decides whether the nodes of two stores are the same

@@ -1,12 +1,10 @@
 -- Defines the nodes of a store, by their ids, and the graph of their children.
-use Rattle.std.specs.Prelude.{ℕ, List, [], ◌++◌, map, length, slice_get}
-use Rattle.hir_node.specs.ChildCalls.{Call, expr_calls, pat_calls, type_calls, opt, children}
-use Rattle.hir_node.specs.declared.node_id.NodeId.{NodeId}
+-- Lists of expressions, patterns and types, and of bindings, labels and lifetimes: the struct `Nodes`, which a
+-- contract sees as the record of its six lists, `exprs`, `pats`, `types`, `bindings`, `labels` and `lifetimes`.
+use Rattle.hir_validate.specs.Prelude.{ℕ, List, [], ◌++◌, map, length, slice_get, Call, expr_calls, pat_calls, type_calls, opt, children, NodeId}
 use Rattle.hir_node.specs.declared.node_id.NodeId.TheVariants as node
 use Rattle.hir_validate.specs.declared.sizes.Sizes.{Sizes}
 use Rattle.hir_validate.specs.Sizes.{HasNode, places}
--- Lists of expressions, patterns and types, and of bindings, labels and lifetimes: the struct `Nodes`, which a
--- contract sees as the record of its six lists, `exprs`, `pats`, `types`, `bindings`, `labels` and `lifetimes`.
 pub use Rattle.hir_validate.specs.declared.node_arenas.Nodes.{Nodes}
 
 -- empty lists

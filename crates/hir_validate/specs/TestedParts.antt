@@ -1,24 +1,11 @@
 -- Defines the parts of a node that are tested: its child calls, the other ids that it names, and what it
 -- holds, which is a path, generic arguments and bounds.
-use Rattle.std.specs.Prelude.{Bool, true, false, ◌&&◌, eqb, nat_lt, List, [], ◌∷◌, ◌++◌, Option, Some, None, length, slice_get, flat_map, is_some}
-use Rattle.std.specs.Option.{option_and_then}
-use Rattle.std.specs.List.{list_all}
-use Rattle.hir_path.specs.NodeIds.{TypeRefId, BindingId, LabelId}
-use Rattle.hir_path.specs.declared.bound.TypeBound.{TypeBound}
+use Rattle.hir_validate.specs.Prelude.{Bool, true, false, ◌&&◌, eqb, nat_lt, List, [], ◌∷◌, ◌++◌, Option, Some, None, length, slice_get, flat_map, is_some, option_and_then, list_all, TypeRefId, BindingId, LabelId, TypeBound, TypeRef, GenericArg, GenericArgs, GenericArgs-F, fold-GenericArgs, AssociatedTypeBinding-F, Path, Pat, Expr, Call, expr_calls, pat_calls, type_calls, expr_labels, pat_bindings}
 use Rattle.hir_path.specs.declared.bound.TypeBound.TheVariants as bound
-use Rattle.hir_node.specs.declared.type_ref.TypeRef.{TypeRef}
 use Rattle.hir_node.specs.declared.type_ref.TypeRef.TheVariants as type
-use Rattle.hir_path.specs.declared.path.GenericArg.{GenericArg}
-use Rattle.hir_path.specs.declared.path.GenericArgs.{GenericArgs, GenericArgs-F, fold-GenericArgs}
-use Rattle.hir_path.specs.declared.path.AssociatedTypeBinding.{AssociatedTypeBinding-F}
-use Rattle.hir_path.specs.declared.path.Path.{Path}
 use Rattle.hir_path.specs.declared.path.Path.TheVariants as path
-use Rattle.hir_node.specs.declared.pat.Pat.{Pat}
 use Rattle.hir_node.specs.declared.pat.Pat.TheVariants as pat
-use Rattle.hir_node.specs.declared.expr.Expr.{Expr}
 use Rattle.hir_node.specs.declared.expr.Expr.TheVariants as expr
-use Rattle.hir_node.specs.ChildCalls.{Call, expr_calls, pat_calls, type_calls}
-use Rattle.hir_node.specs.OtherIds.{expr_labels, pat_bindings}
 use Rattle.hir_validate.specs.declared.sizes.Sizes.{Sizes}
 use Rattle.hir_validate.specs.Sizes.{is_in_range}
 

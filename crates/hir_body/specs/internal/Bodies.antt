@@ -1,8 +1,5 @@
 -- Beside Bodies.antt: what only contracts within this crate cite.
-use Rattle.std.specs.Prelude.{◌≡◌, ◌⊎◌, ◌↔◌, List, Contains}
-use Rattle.hir_node.specs.declared.node_id.NodeId.{NodeId}
-use Rattle.hir_validate.specs.Sizes.{HasNode}
-use Rattle.hir_store_core.specs.NodeSets.{MarkedNodes, IsIn}
+use Rattle.hir_body.specs.Prelude.{◌≡◌, ◌⊎◌, ◌↔◌, List, Contains, NodeId, HasNode, MarkedNodes, IsIn}
 
 -- the set gains these nodes, and no other
 abbrev pub GainsAll : MarkedNodes → List NodeId → MarkedNodes → Type 0

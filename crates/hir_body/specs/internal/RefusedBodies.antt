@@ -1,7 +1,5 @@
 -- The parts that the refusal of a body gives back.
-use Rattle.std.specs.Prelude.{List, Option}
-use Rattle.hir_path.specs.NodeIds.{PatId, BindingId}
-use Rattle.hir_store_core.specs.Contents.{Contents}
+use Rattle.hir_body.specs.Prelude.{List, Option, PatId, BindingId, Contents}
 use Rattle.hir_body.specs.declared.body.RefusedBody.{RefusedBody}
 use Rattle.hir_body.specs.declared.body_fault.BodyFault.{BodyFault}
 use Rattle.hir_body.specs.declared.formals.Param.{Param}

@@ -1,8 +1,6 @@
 -- Marks of the numbers that are listed.
+use Rattle.hir_captures.specs.Prelude.{list_any, nat_cmp, ◌≡◌, ℕ, Bool, List, is_some, ◌==◌, BindingId}
 use Rattle.std.specs.FinMap as map
-use Rattle.std.specs.{List.list_any, Ordering.nat_cmp}
-use Rattle.std.specs.Prelude.{◌≡◌, ℕ, Bool, List, is_some, ◌==◌}
-use Rattle.hir_path.specs.NodeIds.{BindingId}
 
 -- a number is listed
 abbrev pub is_listed : List BindingId → BindingId → Bool

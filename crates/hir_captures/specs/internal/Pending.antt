@@ -1,11 +1,7 @@
 -- The code of a closure that is still to be read: the tasks of child calls.
-use Rattle.std.specs.List.{flat_map, AllByRecursion}
-use Rattle.std.specs.Prelude.{List, [], ◌∷◌, Option, Some, None}
-use Rattle.hir_path.specs.NodeIds.{ExprId, PatId}
-use Rattle.hir_node.specs.ChildCalls.{Call, OnExpr, OnAnonConst, OnPat, OnType, OnLifetime}
-use Rattle.hir_node.specs.declared.node_id.NodeId.{NodeId}
-use Rattle.hir_validate.specs.Nodes.{Nodes, Has}
-use Rattle.hir_captures.specs.{Uses.Spot, Uses.code_under, declared.tasks.Task.Task}
+use Rattle.hir_captures.specs.Prelude.{flat_map, AllByRecursion, List, [], ◌∷◌, Option, Some, None, ExprId, PatId, Call, OnExpr, OnAnonConst, OnPat, OnType, OnLifetime, NodeId, Nodes, Has}
+use Rattle.hir_captures.specs.Uses.{Spot, code_under}
+use Rattle.hir_captures.specs.declared.tasks.Task.{Task}
 
 -- the task of a pattern, in the target of an assignment or in none
 abbrev pub pat_task : Option ExprId → PatId → Task

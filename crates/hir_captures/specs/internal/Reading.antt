@@ -1,11 +1,10 @@
 -- The steps of the reading of a closure's code. Only contracts within this crate cite them.
+use Rattle.hir_captures.specs.Prelude.{flat_map, ◌≡◌, ◌-◌, ◌<◌, List, Option, fold, filter_map, length, ExprId, BindingId, Chain, chain, Scopes}
 use Rattle.std.specs.FinMap as map
-use Rattle.std.specs.List.{flat_map}
-use Rattle.std.specs.Prelude.{◌≡◌, ◌-◌, ◌<◌, List, Option, fold, filter_map, length}
-use Rattle.hir_path.specs.NodeIds.{ExprId, BindingId}
-use Rattle.hir_scope.specs.{Frames.Chain, Paths.chain, Scopes.Scopes}
-use Rattle.hir_captures.specs.{Captures.resolve_outside, Captures.with_new, Uses.Use, Uses.spot_uses}
-use Rattle.hir_captures.specs.declared.{code.Code.Code, tasks.Task.Task}
+use Rattle.hir_captures.specs.Captures.{resolve_outside, with_new}
+use Rattle.hir_captures.specs.Uses.{Use, spot_uses}
+use Rattle.hir_captures.specs.declared.code.Code.{Code}
+use Rattle.hir_captures.specs.declared.tasks.Task.{Task}
 use Rattle.hir_captures.specs.internal.Pending.{AreInRange, code_of}
 
 -- the chain that the scopes give an expression

@@ -1,7 +1,5 @@
 -- What ids leave of the visitor that finds the first that doesn't exist. Only private clauses cite it.
-use Rattle.std.specs.Prelude.{◌≡◌, List, [], ◌∷◌}
-use Rattle.std.specs.Option.{option_or}
-use Rattle.hir_node.specs.ChildCalls.{Call}
+use Rattle.hir_error.specs.Prelude.{◌≡◌, List, [], ◌∷◌, option_or, Call}
 use Rattle.hir_error.specs.declared.named_id.NamedId.{NamedId}
 use Rattle.hir_error.specs.declared.missing_ids.FirstMissing.{FirstMissing}
 use Rattle.hir_error.specs.NamedIds.{id_of_call, first_out_of_range}

@@ -1,7 +1,5 @@
 -- Words of what is added beside the documents of definitions.
-use Rattle.std.specs.Prelude.{ℕ, Bool, false, List, ◌++◌, get_or, codes, Option, Some, None, Result, Ok, Err}
-use Rattle.hir_path.specs.NodeIds.{TypeRefId}
-use Rattle.hir_pretty_nodes.specs.Prelude.{Doc, text, t, when}
+use Rattle.hir_pretty.specs.Prelude.{ℕ, Bool, false, List, ◌++◌, get_or, codes, Option, Some, None, Result, Ok, Err, TypeRefId, Doc, text, t, when}
 
 -- what the type of an argument is printed as where its place is marked
 abbrev pub marked_docs : List Bool → ℕ × TypeRefId → List Doc

@@ -1,8 +1,5 @@
 -- Beside Variants.antt: what only contracts within this crate cite.
-use Rattle.std.specs.Prelude.{◌≡◌, ℕ, Bool, List, Some}
-use Rattle.hir_base.specs.declared.{defs.VariantId.VariantId}
-use Rattle.hir_store_core.specs.Contents.{Contents}
-use Rattle.hir_pretty_nodes.specs.Prelude.{Missing, NameLookups, print_env, first_missing, doc_list_pieces}
+use Rattle.hir_pretty.specs.Prelude.{◌≡◌, ℕ, Bool, List, Some, VariantId, Contents, Missing, NameLookups, print_env, first_missing, doc_list_pieces}
 use Rattle.hir_store_core.specs.declared.missing.Missing.TheVariants as missing
 use Rattle.hir_pretty.specs.Bodies.{Parents}
 use Rattle.hir_pretty.specs.Variants.{without_fields}

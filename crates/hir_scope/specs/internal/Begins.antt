@@ -1,22 +1,14 @@
 -- The first state of the walk over a body or a signature: its scopes and its tasks. Only contracts within
 -- this crate cite it.
+use Rattle.hir_scope.specs.Prelude.{flat_map, ◌≡◌, ℕ, ◌<◌, suc, List, [], ◌∷◌, ◌++◌, Some, None, Contains, IfSome, length, slice_get, replicate, ExprId, PatId, e, p, opt, NodeId, Pat, root_nodes, RankDecreases, Nodes, Has, children_of, IsSoundNode, tested_pat, Contents, bindings_at, bindings_in, child_pats_of, nodes_under, BodyContents, AreBelow, formals_of, last_root, entry_nodes, root_entry_nodes}
 use Rattle.std.specs.FinMap as map
-use Rattle.std.specs.List.{flat_map}
-use Rattle.std.specs.Prelude.{◌≡◌, ℕ, ◌<◌, suc, List, [], ◌∷◌, ◌++◌, Some, None, Contains, IfSome, length, option_map, slice_get, replicate}
-use Rattle.hir_path.specs.NodeIds.{ExprId, PatId}
-use Rattle.hir_node.specs.ChildCalls.{e, p, opt}
-use Rattle.hir_node.specs.declared.{node_id.NodeId.NodeId, pat.Pat.Pat}
-use Rattle.hir_forest.specs.Faults.{root_nodes}
-use Rattle.hir_validate.specs.{Recursion.RankDecreases, Nodes.Nodes, Nodes.Has, Nodes.children_of, Sound.IsSoundNode}
-use Rattle.hir_validate.specs.TestedParts.{tested_pat}
-use Rattle.hir_store_core.specs.Contents.{Contents}
-use Rattle.hir_store_core.specs.PatLists.{bindings_at, bindings_in, child_pats_of}
-use Rattle.hir_store_core.specs.Under.{nodes_under}
-use Rattle.hir_body.specs.Bodies.{BodyContents, AreBelow, formals_of, last_root, entry_nodes}
-use Rattle.hir_signature.specs.Signatures.{root_entry_nodes}
-use Rattle.hir_scope.specs.{Scopes.Scope, Scopes.Scopes, EntryNodes.root_frame}
-use Rattle.hir_scope.specs.declared.scope.{ScopeEntry.ScopeEntry, ScopeKind.ScopeKind}
-use Rattle.hir_scope.specs.declared.tasks.{CurrentScopes.CurrentScopes, Task.Task}
+use Rattle.std.specs.Prelude.{option_map}
+use Rattle.hir_scope.specs.Scopes.{Scope, Scopes}
+use Rattle.hir_scope.specs.EntryNodes.{root_frame}
+use Rattle.hir_scope.specs.declared.scope.ScopeEntry.{ScopeEntry}
+use Rattle.hir_scope.specs.declared.scope.ScopeKind.{ScopeKind}
+use Rattle.hir_scope.specs.declared.tasks.CurrentScopes.{CurrentScopes}
+use Rattle.hir_scope.specs.declared.tasks.Task.{Task}
 use Rattle.hir_scope.specs.internal.WalkState.{WalkState}
 use Rattle.hir_scope.specs.internal.Pending.{tasks_of}
 

@@ -1,20 +1,17 @@
 -- The work that a walk has still to do: the tasks of each scoping form, and the expressions that tasks will
 -- visit, each in its context.
-use Rattle.std.specs.List.{flat_map}
-use Rattle.std.specs.Prelude.{List, [], ◌∷◌, ◌++◌, map, Option, Some, None}
-use Rattle.hir_path.specs.NodeIds.{ExprId, PatId}
-use Rattle.hir_node.specs.ChildCalls.{Call, OnExpr, OnAnonConst, OnPat, OnType, OnLifetime, e, t, opt, children}
-use Rattle.hir_node.specs.declared.expr_types.{Item.Item, MatchArm.MatchArm, Statement.Statement}
-use Rattle.hir_node.specs.declared.node_id.NodeId.{NodeId}
-use Rattle.hir_validate.specs.Nodes.{Nodes}
-use Rattle.hir_collections.specs.Stacks.{StackItems, Defers}
+use Rattle.hir_scope.specs.Prelude.{flat_map, List, [], ◌∷◌, ◌++◌, map, Option, Some, None, ExprId, PatId, Call, OnExpr, OnAnonConst, OnPat, OnType, OnLifetime, e, t, opt, children, Item, MatchArm, Statement, NodeId, Nodes, StackItems, Defers}
 use Rattle.hir_scope.specs.Scopes.{ScopeId}
-use Rattle.hir_scope.specs.{Chains.InContext, Chains.child_in_context, ScopingForms.ScopingForm}
+use Rattle.hir_scope.specs.Chains.{InContext, child_in_context}
+use Rattle.hir_scope.specs.ScopingForms.{ScopingForm}
 use Rattle.hir_scope.specs.ScopingForms as form
 use Rattle.hir_scope.specs.Frames.{Frame, Chain, frame, of_kind, empty}
-use Rattle.hir_scope.specs.{OpenFrames.open_frames, Order.met_in_arm, Order.met_in_closure}
+use Rattle.hir_scope.specs.OpenFrames.{open_frames}
+use Rattle.hir_scope.specs.Order.{met_in_arm, met_in_closure}
 use Rattle.hir_scope.specs.ChildContexts.{own_frame, block_const_frames, arm_child_contexts, loop_kind}
-use Rattle.hir_scope.specs.declared.{scope.ScopeKind.ScopeKind, tasks.CurrentScopes.CurrentScopes, tasks.Task.Task}
+use Rattle.hir_scope.specs.declared.scope.ScopeKind.{ScopeKind}
+use Rattle.hir_scope.specs.declared.tasks.CurrentScopes.{CurrentScopes}
+use Rattle.hir_scope.specs.declared.tasks.Task.{Task}
 use Rattle.hir_scope.specs.internal.ContextsUnder.{exprs_at, exprs_under}
 
 -- a task is put onto others

@@ -1,12 +1,7 @@
 -- Beside Answer.antt: what only contracts within this crate cite.
-use Rattle.std.specs.Prelude.{ℕ, List, Option, Some}
+use Rattle.hir_show_run.specs.Prelude.{ℕ, List, Option, Some, option_map, ExprId, Question, Chain, Scopes}
 use Rattle.std.specs.FinMap as map
-use Rattle.std.specs.Option.{option_map}
-use Rattle.hir_path.specs.NodeIds.{ExprId}
-use Rattle.hir_show_grammar.specs.declared.question.Question.{Question}
-use Rattle.hir_scope.specs.Frames.{Chain}
 use Rattle.hir_scope.specs.Paths as path
-use Rattle.hir_scope.specs.Scopes.{Scopes}
 use Rattle.hir_show_run.specs.Answer.{IsAnswer, NamedBody}
 
 -- the chain of an expression by the scopes that were made, if it has one

@@ -1,14 +1,5 @@
 -- Nodes that lines make: each is written as the grammar has it.
-use Rattle.std.specs.Prelude.{◌≡◌, List, Some, slice_get}
-use Rattle.hir_path.specs.NodeIds.{ExprId, PatId, TypeRefId}
-use Rattle.hir_node.specs.declared.expr.Expr.{Expr}
-use Rattle.hir_node.specs.declared.pat.Pat.{Pat}
-use Rattle.hir_node.specs.declared.type_ref.TypeRef.{TypeRef}
-use Rattle.hir_show_grammar.specs.Tokens.{Token}
-use Rattle.hir_show_grammar.specs.ExprGrammar.{IsExpr}
-use Rattle.hir_show_grammar.specs.PatGrammar.{IsPat}
-use Rattle.hir_show_grammar.specs.TypeGrammar.{IsType}
-use Rattle.hir_validate.specs.Nodes.{Nodes}
+use Rattle.hir_show_run.specs.Prelude.{◌≡◌, List, Some, slice_get, ExprId, PatId, TypeRefId, Expr, Pat, TypeRef, Token, IsExpr, IsPat, IsType, Nodes}
 
 -- a line makes this expression
 abbrev pub IsExprOfLine : Expr → Type 0

@@ -1,13 +1,9 @@
 -- Beside Parts.antt: what only contracts within this crate cite.
-use Rattle.std.specs.Prelude.{[], ◌∷◌, ◌++◌, Bool, Some, is_some}
+use Rattle.hir_show_run.specs.Prelude.{[], ◌∷◌, ◌++◌, Bool, Some, is_some, expr_or_pat_code, Maker, building_of, and_root, some_roots, Param}
 use Rattle.std.specs.FinMap as map
-use Rattle.hir_path.specs.Keys.{expr_or_pat_code}
-use Rattle.hir_show_grammar.specs.Makers.{Maker}
 use Rattle.hir_show_grammar.specs.Makers as make
 use Rattle.hir_show_grammar.specs.Taking.{is_second as is_second_of}
-use Rattle.hir_store.specs.Building.{building_of, and_root, some_roots}
-use Rattle.hir_body.specs.declared.formals.Param.{Param}
-use Rattle.hir_show_run.specs.declared.body_builder.BodyBuilder as code
+use Rattle.hir_show_run.specs.declared.body_builder.{BodyBuilder as code}
 use Rattle.hir_show_run.specs.Parts.{Parts, as_written, with_line}
 
 -- the model of the code's `BodyBuilder`

@@ -1,20 +1,6 @@
 -- What the parts of a run do, from one place to another: lines that make something, then sections of
 -- questions.
-use Rattle.std.specs.Prelude.{◌≡◌, ◌≢◌, ◌⊎◌, ℕ, ◌+◌, Bool, true, false, List, [], ◌∷◌, ◌++◌, length, Option, None, Some, Result, Err, IfSome, ⊤, codes}
-use Rattle.std.specs.Io.KnownBytes.{Appends}
-use Rattle.std.specs.List.{list_all}
-use Rattle.hir_show_io.specs.LineState.{LineState}
-use Rattle.hir_show_io.specs.Reads.{ReadsLines, ReadsAll, ReadsPrefix, ReadsUntilFailure}
-use Rattle.hir_show_io.specs.Effects.{AppendsPrefix}
-use Rattle.hir_show_grammar.specs.Line.{Line, Blank, Make, Ask, Bad, asks, line_of, makes, may_ask}
-use Rattle.hir_show_grammar.specs.Makers.{Maker}
-use Rattle.hir_show_grammar.specs.Taking.{line_asked}
-use Rattle.hir_show_grammar.specs.declared.question.Question.{Question}
-use Rattle.hir_validate.specs.declared.fault.FinishFault.{FinishFault}
-use Rattle.hir_body.specs.declared.body_fault.BodyFault.{BodyFault}
-use Rattle.hir_body.specs.Bodies.{BodyContents, body_fault}
-use Rattle.hir_store_core.specs.Contents.{Contents}
-use Rattle.hir_store.specs.Building.{Building, contents_of, finish_fault}
+use Rattle.hir_show_run.specs.Prelude.{◌≡◌, ◌≢◌, ◌⊎◌, ℕ, ◌+◌, Bool, true, false, List, [], ◌∷◌, ◌++◌, length, Option, None, Some, Result, Err, IfSome, ⊤, codes, Appends, list_all, LineState, ReadsLines, ReadsAll, ReadsPrefix, ReadsUntilFailure, AppendsPrefix, Line, Blank, Make, Ask, Bad, asks, line_of, makes, may_ask, Maker, line_asked, Question, FinishFault, BodyFault, BodyContents, body_fault, Contents, Building, contents_of, finish_fault}
 use Rattle.hir_show_run.specs.declared.fault.RunFault.{RunFault}
 use Rattle.hir_show_run.specs.declared.fault.RunFault.TheVariants.{Refused, BodyRefused, OutputFailed}
 use Rattle.hir_show_run.specs.Parts.{Parts, with_line}

@@ -1,7 +1,5 @@
 -- Beside Texts.antt: what only contracts within this crate cite.
-use Rattle.std.specs.Prelude.{ℕ, List, Option, Result, Ok, Err}
-use Rattle.std.specs.Io.KnownBytes.{Appends}
-use Rattle.hir_show_io.specs.Effects.{AppendsPrefix}
+use Rattle.hir_show_run.specs.Prelude.{ℕ, List, Option, Result, Ok, Err, Appends, AppendsPrefix}
 
 -- all of the text was written, or a prefix of it where a write failed
 abbrev pub WritesText : {X E : Type 0} → Option (List ℕ) → Option (List ℕ) → List ℕ → Result X E → Type 0

@@ -1,7 +1,6 @@
 -- Defines when a source map has nothing in its expression part, by each of its lookups.
-use Rattle.std.specs.Prelude.{◌≡◌, [], None}
+use Rattle.hir_source_map.specs.Prelude.{◌≡◌, [], None, ExprId, PatId, BindingId, LabelId}
 use Rattle.std.specs.FinMap as map
-use Rattle.hir_path.specs.NodeIds.{ExprId, PatId, BindingId, LabelId}
 use Rattle.hir_source_map.specs.declared.source_map.ExpressionStoreSourceMap.{ExpressionStoreSourceMap}
 use Rattle.hir_source_map.specs.Sources.{Source}
 use Rattle.hir_source_map.specs.Lookups.{expr_at, pat_at, label_at, expansion_at, expr_source, pat_source, label_source, field_source, pat_field_source, patterns_for, expansions_of, diagnostics_of}

@@ -1,15 +1,10 @@
 -- Where a node's anonymous constants are: whether an expression is one of them, without a look at lists that
 -- have none.
-use Rattle.std.specs.Prelude.{◌==◌, Bool, false, Some}
-use Rattle.hir_path.specs.NodeIds.{ExprId}
+use Rattle.hir_store_core.specs.Prelude.{◌==◌, Bool, false, Some, ExprId, Expr, Pat, TypeRef, args_calls, path_calls}
 use Rattle.hir_node.specs.declared.expr_types.Array.TheVariants as array
-use Rattle.hir_node.specs.declared.expr.Expr.{Expr}
 use Rattle.hir_node.specs.declared.expr.Expr.TheVariants as expr
-use Rattle.hir_node.specs.declared.pat.Pat.{Pat}
 use Rattle.hir_node.specs.declared.pat.Pat.TheVariants as pat
-use Rattle.hir_node.specs.declared.type_ref.TypeRef.{TypeRef}
 use Rattle.hir_node.specs.declared.type_ref.TypeRef.TheVariants as type
-use Rattle.hir_node.specs.ChildCalls.{args_calls, path_calls}
 use Rattle.hir_store_core.specs.JumpTargets.{has_const}
 
 abbrev pub expr_has_const : Expr → ExprId → Bool

@@ -1,6 +1,5 @@
 -- Beside PatLinks.antt: what only contracts within this crate cite.
-use Rattle.std.specs.Prelude.{List, [], ◌∷◌, set}
-use Rattle.hir_path.specs.NodeIds.{PatId}
+use Rattle.hir_store_core.specs.Prelude.{List, [], ◌∷◌, set, PatId}
 use Rattle.hir_store_core.specs.declared.pat_links.PatLink.{PatLink}
 use Rattle.hir_store_core.specs.declared.pat_links.PatLink.TheVariants.{Next, Last}
 

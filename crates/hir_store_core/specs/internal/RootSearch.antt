@@ -1,7 +1,5 @@
 -- Beside RootSearch.antt: what only contracts within this crate cite.
-use Rattle.std.specs.Prelude.{ℕ, ◌<◌, ◌≤◌, List, length, slice_index_or}
-use Rattle.hir_forest.specs.declared.roots.Root.{Root}
-use Rattle.hir_forest.specs.Faults.{no_ends}
+use Rattle.hir_store_core.specs.Prelude.{ℕ, ◌<◌, ◌≤◌, List, length, slice_index_or, Root, no_ends}
 use Rattle.hir_store_core.specs.declared.root_search.EndOf.{EndOf}
 use Rattle.hir_store_core.specs.declared.root_search.EndOf.TheVariants as ends
 use Rattle.hir_store_core.specs.RootSearch.{end_of}

@@ -1,12 +1,7 @@
 -- What is still to be visited: the tasks of child calls.
-use Rattle.std.specs.List.{flat_map, AllByRecursion}
-use Rattle.std.specs.Prelude.{List, [], ◌∷◌, Option, Some, None}
-use Rattle.hir_path.specs.NodeIds.{ExprId, PatId}
-use Rattle.hir_node.specs.ChildCalls.{Call, OnExpr, OnAnonConst, OnPat, OnType, OnLifetime}
-use Rattle.hir_node.specs.declared.node_id.NodeId.{NodeId}
-use Rattle.hir_validate.specs.Nodes.{Nodes, Has}
-use Rattle.hir_captures.specs.Uses.{Spot}
-use Rattle.hir_usages.specs.{Visits.visits_under, declared.to_visit.Task.Task}
+use Rattle.hir_usages.specs.Prelude.{flat_map, AllByRecursion, List, [], ◌∷◌, Option, Some, None, ExprId, PatId, Call, OnExpr, OnAnonConst, OnPat, OnType, OnLifetime, NodeId, Nodes, Has, Spot}
+use Rattle.hir_usages.specs.Visits.{visits_under}
+use Rattle.hir_usages.specs.declared.to_visit.Task.{Task}
 
 -- the task of a pattern, in the target of an assignment or in none
 abbrev pub pat_task : Option ExprId → PatId → Task

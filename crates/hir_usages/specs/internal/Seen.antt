@@ -1,12 +1,7 @@
 -- The names and hygienes that some entries have.
-use Rattle.std.specs.List.{list_any}
-use Rattle.std.specs.Prelude.{◌≡◌, ℕ, Bool, List, ◌&&◌}
-use Rattle.hir_base.specs.Ids.{Name}
+use Rattle.hir_usages.specs.Prelude.{list_any, ◌≡◌, ℕ, Bool, List, ◌&&◌, Name, SyntaxContext, matches, ScopeEntry}
 use Rattle.hir_base.specs.contracts.hygiene.HygieneIdPartialEq.TheImpl as hygienes
 use Rattle.hir_base.specs.contracts.name.NamePartialEq.TheImpl as names
-use Rattle.hir_base.specs.declared.hygiene.SyntaxContext.{SyntaxContext}
-use Rattle.hir_scope.specs.Resolution.{matches}
-use Rattle.hir_scope.specs.declared.scope.ScopeEntry.{ScopeEntry}
 
 -- a hygiene and a name that were seen are these
 abbrev pub is_key : Name → SyntaxContext → SyntaxContext → Name → Bool

@@ -1,7 +1,5 @@
 -- Beside TestedParts.antt: what only contracts within this crate cite.
-use Rattle.std.specs.Prelude.{Bool, List}
-use Rattle.hir_path.specs.NodeIds.{TypeRefId}
-use Rattle.hir_path.specs.declared.path.AssociatedTypeBinding.{AssociatedTypeBinding, fold-AssociatedTypeBinding}
+use Rattle.hir_validate.specs.Prelude.{Bool, List, TypeRefId, AssociatedTypeBinding, fold-AssociatedTypeBinding}
 use Rattle.hir_validate.specs.TestedParts.{args_paths_layer, args_self_layer, binding_paths_layer, binding_self_layer}
 
 abbrev pub binding_paths : AssociatedTypeBinding → List TypeRefId
