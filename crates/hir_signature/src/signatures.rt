@@ -1,5 +1,4 @@
-//! Signatures of definitions, and the fields of variants. Each holds the store in which its ids are, and no
-//! id that doesn't exist.
+//! Signatures of definitions, and the fields of variants, each with the store that has its ids.
 
 ghost use Rattle.std.specs.Prelude.{◌≡◌, ◌<◌, All, None, Some, IfOk, IfErr, IfSome, length};
 ghost use Rattle.std.specs.Option.{option_map};
@@ -119,8 +118,7 @@ pub struct FunctionSignature {
     function: FunctionParts,
 }
 
-/// Drops the parts one after the other. This `impl` exists so that the drop is proved once, and is a call
-/// where a value is dropped.
+/// Drops the parts. By hand, so that it is proved once, and is a call where a value is dropped.
 impl Drop for FunctionSignature {
     fn drop(self) {
         let FunctionSignature { function } = self;
@@ -153,8 +151,7 @@ impl Model for FunctionSignature {
 }
 
 impl FunctionSignature {
-    /// Returns a signature of these parts, or their first fault and the parts as they were, without an
-    /// allocation.
+    /// Returns a signature of these parts, or their first fault and the parts; allocates nothing.
     pub fn new(parts: FunctionParts) -> Result<FunctionSignature, RefusedSignature<FunctionParts>>
         ensures ok { IfOk result (λ made. (made ≡ parts) × function_fault parts None) }
         ensures err { IfErr result (λ refused.
@@ -296,8 +293,7 @@ pub struct StructSignature {
     structure: StructParts,
 }
 
-/// Drops the parts one after the other. This `impl` exists so that the drop is proved once, and is a call
-/// where a value is dropped.
+/// Drops the parts. By hand, so that it is proved once, and is a call where a value is dropped.
 impl Drop for StructSignature {
     fn drop(self) {
         let StructSignature { structure } = self;
@@ -330,8 +326,7 @@ impl Model for StructSignature {
 }
 
 impl StructSignature {
-    /// Returns a signature of these parts, or their first fault and the parts as they were, without an
-    /// allocation.
+    /// Returns a signature of these parts, or their first fault and the parts; allocates nothing.
     pub fn new(parts: StructParts) -> Result<StructSignature, RefusedSignature<StructParts>>
         ensures ok { IfOk result (λ made. (made ≡ parts) × struct_fault parts None) }
         ensures err { IfErr result (λ refused.
@@ -421,8 +416,7 @@ pub struct VariantFields {
     variant: VariantParts,
 }
 
-/// Drops the parts one after the other. This `impl` exists so that the drop is proved once, and is a call
-/// where a value is dropped.
+/// Drops the parts. By hand, so that it is proved once, and is a call where a value is dropped.
 impl Drop for VariantFields {
     fn drop(self) {
         let VariantFields { variant } = self;
@@ -455,8 +449,7 @@ impl Model for VariantFields {
 }
 
 impl VariantFields {
-    /// Returns a signature of these parts, or their first fault and the parts as they were, without an
-    /// allocation.
+    /// Returns a signature of these parts, or their first fault and the parts; allocates nothing.
     pub fn new(parts: VariantParts) -> Result<VariantFields, RefusedSignature<VariantParts>>
         ensures ok { IfOk result (λ made. (made ≡ parts) × fields_fault parts None) }
         ensures err { IfErr result (λ refused.
@@ -533,8 +526,7 @@ pub struct PlainSignature {
     plain: PlainParts,
 }
 
-/// Drops the parts one after the other. This `impl` exists so that the drop is proved once, and is a call
-/// where a value is dropped.
+/// Drops the parts. By hand, so that it is proved once, and is a call where a value is dropped.
 impl Drop for PlainSignature {
     fn drop(self) {
         let PlainSignature { plain } = self;
@@ -567,8 +559,7 @@ impl Model for PlainSignature {
 }
 
 impl PlainSignature {
-    /// Returns a signature of these parts, or their first fault and the parts as they were, without an
-    /// allocation.
+    /// Returns a signature of these parts, or their first fault and the parts; allocates nothing.
     pub fn new(parts: PlainParts) -> Result<PlainSignature, RefusedSignature<PlainParts>>
         ensures ok { IfOk result (λ made. (made ≡ parts) × plain_fault parts None) }
         ensures err { IfErr result (λ refused.
