@@ -10,7 +10,7 @@ use Rattle.hir_show_grammar.specs.Line.{Line, Blank, asks, by_words, line_of, ma
 use Rattle.hir_show_grammar.specs.Makers.{Maker}
 use Rattle.hir_show_grammar.specs.Readings.{Reading, ◌>>=◌, alone, gives, look_up, split_parts, whole}
 use Rattle.hir_show_grammar.specs.internal.Readings.{StartsOtherwise}
-use Rattle.hir_show_grammar.specs.Taking.{Makes, PutsRead, Steps, with, with_line}
+use Rattle.hir_show_grammar.specs.LineEffects.{Makes, PutsRead, Steps, with, with_line}
 use Rattle.hir_show_grammar.specs.Words.{by, one_of}
 use Rattle.hir_show_grammar.proofs.Forms.{same_bytes}
 use Rattle.hir_show_grammar.proofs.WrittenLines.{asks_it}

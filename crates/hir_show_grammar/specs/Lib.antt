@@ -31,7 +31,7 @@ pub mod Exprs
 -- what a line says
 pub mod Line
 -- what a line does to what was made before it
-pub mod Taking
+pub mod LineEffects
 -- what the files here import of std and of lower crates, from one place
 pub mod Prelude
 -- what only contracts within this crate cite

@@ -2,7 +2,7 @@
 
 ghost use Rattle.hir_show_grammar.specs.Line.{line_of, question, resolve};
 ghost use Rattle.hir_show_grammar.specs.internal.Readings.{SaysAll, SaysWhole};
-ghost use Rattle.hir_show_grammar.specs.Taking.{Asks};
+ghost use Rattle.hir_show_grammar.specs.LineEffects.{Asks};
 ghost use Rattle.hir_show_grammar.specs.Words.{number};
 
 use crate::line_error::{LineError, Malformed};

@@ -12,7 +12,7 @@ pub trait Builder {
     ghost use Rattle.std.specs.Prelude.{◌≡◌, Bool};
     ghost use Rattle.hir_show_grammar.specs.Makers.{Maker};
     ghost use Rattle.hir_show_grammar.specs.Makers as make;
-    ghost use Rattle.hir_show_grammar.specs.Taking.{AddsOne};
+    ghost use Rattle.hir_show_grammar.specs.LineEffects.{AddsOne};
 
     // Whether a self parameter was given; a name.
     ghost has_self: { Self → Bool };

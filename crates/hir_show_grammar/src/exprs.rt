@@ -2,7 +2,7 @@
 
 ghost use Rattle.std.specs.Prelude.{IfOk, ◌≡◌};
 ghost use Rattle.hir_show_grammar.specs.Makers as make;
-ghost use Rattle.hir_show_grammar.specs.Taking.{PutsRead};
+ghost use Rattle.hir_show_grammar.specs.LineEffects.{PutsRead};
 ghost use Rattle.hir_show_grammar.specs.Exprs.{array_expr, assign_expr, bin_expr, block_expr, call_expr, closure_expr, expr, if_expr, int_expr, let_expr, loop_expr, match_expr, path_expr, ref_expr, repeat_expr, tuple_expr, no_types};
 
 use crate::builder::Builder;

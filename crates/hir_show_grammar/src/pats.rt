@@ -2,7 +2,7 @@
 
 ghost use Rattle.hir_show_grammar.specs.Makers as make;
 ghost use Rattle.hir_show_grammar.specs.Pats.{bind_pat, or_pat, pat, range_pat, tuple_pat, tuple_struct_pat};
-ghost use Rattle.hir_show_grammar.specs.Taking.{PutsRead};
+ghost use Rattle.hir_show_grammar.specs.LineEffects.{PutsRead};
 
 use crate::builder::Builder;
 use crate::line_error::LineError;

@@ -3,7 +3,7 @@ use Rattle.std.proofs.Common.{◌≡◌, ℕ, zero, suc, Bool, true, false, ◌�
 use Rattle.std.specs.List.{cons_option}
 use Rattle.hir_show_grammar.specs.Line.{Line, Blank, Make, Ask, Bad, line_of}
 use Rattle.hir_show_grammar.specs.Makers.{Maker}
-use Rattle.hir_show_grammar.specs.Taking.{is_second as is_second_of}
+use Rattle.hir_show_grammar.specs.LineEffects.{is_second as is_second_of}
 use Rattle.hir_show_grammar.specs.declared.question.Question.{Question}
 use Rattle.hir_show_grammar.specs.Grammar.{IsLine, IsMaker}
 use Rattle.hir_show_grammar.specs.Grammar as line

@@ -9,7 +9,7 @@ use Rattle.std.proofs.lemmas.List.Folds.{list_any-append}
 use Rattle.hir_show_grammar.specs.Line.{Line, Blank, Make, Ask, Bad, line_of, asks}
 use Rattle.hir_show_grammar.specs.Makers.{Maker}
 use Rattle.hir_show_grammar.specs.Makers as make
-use Rattle.hir_show_grammar.specs.Taking.{is_second as is_second_of}
+use Rattle.hir_show_grammar.specs.LineEffects.{is_second as is_second_of}
 use Rattle.hir_show_run.specs.Parts.{Parts, with_line}
 use Rattle.hir_show_run.specs.internal.Parts.{is_second}
 use Rattle.hir_show_run.specs.Program.{gives_self, gives_name, unless_second, once_each, says, script, line_after}

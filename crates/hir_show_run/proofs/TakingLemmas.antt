@@ -3,7 +3,7 @@ use Rattle.std.proofs.Common.{◌≡◌, ◌≢◌, Bool, true, false, Option, N
 use Rattle.hir_show_grammar.specs.Line.{Line, Blank, Make, Ask, Bad, asks, makes}
 use Rattle.hir_show_grammar.specs.Makers.{Maker}
 use Rattle.hir_show_grammar.specs.Makers as make
-use Rattle.hir_show_grammar.specs.Taking.{with_line as with_text}
+use Rattle.hir_show_grammar.specs.LineEffects.{with_line as with_text}
 use Rattle.hir_show_grammar.specs.declared.question.Question.{Question}
 use Rattle.hir_show_run.specs.declared.body_builder.BodyBuilder as code
 use Rattle.hir_show_run.specs.internal.Parts.{builder_parts, with_maker, is_second}

@@ -41,7 +41,7 @@ pub use Rattle.hir_show_grammar.specs.Line.{Line, Blank, Make, Ask, Bad, any_que
 unfoldable pub use Rattle.hir_show_grammar.specs.Line.{line_of}
 pub use Rattle.hir_show_grammar.specs.Makers.{Maker}
 pub use Rattle.hir_show_grammar.specs.PatGrammar.{IsPat}
-pub use Rattle.hir_show_grammar.specs.Taking.{is_second, line_asked}
+pub use Rattle.hir_show_grammar.specs.LineEffects.{is_second, line_asked}
 pub use Rattle.hir_show_grammar.specs.Tokens.{Token}
 pub use Rattle.hir_show_grammar.specs.TypeGrammar.{IsType}
 pub use Rattle.hir_show_grammar.specs.declared.question.BodyQuestion.{BodyQuestion}

@@ -2,12 +2,12 @@
 #![tactic(auto)]
 
 mod ancestors;
+mod builder_lines;
 mod building;
 mod calls;
 mod ends;
 mod entries;
 mod lines;
-mod making;
 mod mapping;
 mod missing;
 mod nodes;
@@ -21,8 +21,8 @@ mod searches;
 mod sources;
 mod walks;
 
+pub use builder_lines::make;
 pub use building::done_or_stop;
-pub use making::make;
 pub use missing::{answer_unknown, differs, refuse, refuse_missing};
 pub use nodes::has_node;
 pub use questions::ask;

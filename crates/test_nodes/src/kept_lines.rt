@@ -68,7 +68,7 @@ struct BuiltLines {
 
 impl BuiltLines {
     ghost use Rattle.std.specs.Prelude.{[], ◌∷◌, ◌++◌};
-    ghost use Rattle.hir_show_grammar.specs.Taking.{AddsOne};
+    ghost use Rattle.hir_show_grammar.specs.LineEffects.{AddsOne};
 
     fn keep(&mut self, maker: Maker) -> Result<(), LineError>
         ensures { AddsOne (record self.old { makers = self.old.makers ++ maker ∷ [] }) self.old

@@ -7,10 +7,10 @@ use Rattle.hir_show_grammar.specs.Exprs.{expr}
 use Rattle.hir_show_grammar.specs.Makers as make
 use Rattle.hir_show_grammar.specs.Pats.{pat}
 use Rattle.hir_show_grammar.specs.Readings.{split_parts}
-use Rattle.hir_show_grammar.specs.Taking.{with_line}
+use Rattle.hir_show_grammar.specs.LineEffects.{with_line}
 use Rattle.hir_show_grammar.specs.Types.{type_ref}
 use Rattle.hir_show_grammar.proofs.Tables.{NoneFirst, empty_line, inner_put, left_line, takes_by, tried}
-use Rattle.hir_show_grammar.proofs.making.make.Goals as goal
+use Rattle.hir_show_grammar.proofs.maker_lines.make.Goals as goal
 
 pub returns-then-is_empty : goal.returns-then-is_empty
 returns-then-is_empty g c =

@@ -3,7 +3,7 @@
 ghost use Rattle.std.specs.Prelude.{◌≡◌, MatchResult, true};
 ghost use Rattle.hir_show_grammar.specs.Line.{bind, expr_hygiene, fn_name, line_of, param, pat_hygiene, root, roots, self_param};
 ghost use Rattle.hir_show_grammar.specs.Makers as make;
-ghost use Rattle.hir_show_grammar.specs.Taking.{Makes, PutsRead, PutsMaker};
+ghost use Rattle.hir_show_grammar.specs.LineEffects.{Makes, PutsRead, PutsMaker};
 ghost use Rattle.hir_show_grammar.specs.Types.{type_ref};
 
 use crate::builder::Builder;
