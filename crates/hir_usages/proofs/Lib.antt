@@ -10,5 +10,6 @@ pub mod KeptLemmas
 pub mod UseLemmas
 pub mod RenamedLemmas
 pub mod ConflictLemmas
+pub mod AffectedLemmas
 pub mod PartLemmas
 pub mod StoreLemmas

@@ -2,6 +2,7 @@
 -- here.
 pub mod Pending
 pub mod Marks
+pub mod Wanted
 pub mod Reading
 pub mod Groups
 pub mod Parts

@@ -14,13 +14,13 @@ run-requires c = record {
 
 pub returns-clause-usages : goal.returns-clause-usages
 returns-clause-usages c =
-    let walk : Walk = record { store = c.store.result; scopes = c.args.scopes } in
+    let walk : Walk = record { store = c.store.result; scopes = c.args.scopes; wanted = c.args.wanted } in
     all_usages c.args.body.now walk c.store.ensures (lists_of c.in_ok-found.found) (lists_of c.run.new.found) c.in_ok-unread.unread.stack.items
     c.in_ok-unread.ensures.ahead c.in_ok-run.ensures c.in_ok-found.ensures.usages
 
 pub returns-clause-bound : goal.returns-clause-bound
 returns-clause-bound c =
-    let walk : Walk = record { store = c.store.result; scopes = c.args.scopes } in
+    let walk : Walk = record { store = c.store.result; scopes = c.args.scopes; wanted = c.args.wanted } in
     all_bound c.args.body.now walk c.store.ensures (lists_of c.in_ok-found.found) (lists_of c.run.new.found) c.in_ok-unread.unread.stack.items
     c.in_ok-unread.ensures.ahead c.in_ok-run.ensures
     (c.in_ok-found.ensures.bound ∙ ap (λ (o : Option (Param ℕ)). option_to_list (option_map (λ (p : Param ℕ). p.formal) o)) c.self_param.ensures.self_param)
