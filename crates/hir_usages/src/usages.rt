@@ -89,11 +89,11 @@ fn first_found(alloc: Global, self_param: Option<Param<BindingId>>) -> Result<Fo
 }
 
 /// Returns those of the uses of a body that are searched for, and what it binds, in the order of the walk.
-pub(crate) fn find(
+pub(crate) fn find<'a>(
     alloc: Global,
-    body: &Body,
-    scopes: &ExprScopes,
-    wanted: Wanted<'_>,
+    body: &'a Body,
+    scopes: &'a ExprScopes,
+    wanted: Wanted<'a>,
 ) -> Result<Found, AllocError>
     ensures usages { IfOk result (λ found. found.usages.items
         ≡ wanted_among wanted body.now.store.nodes (usages_of_body body.now scopes.now)) }
@@ -123,8 +123,8 @@ impl Usages {
         ensures { IfOk result (λ made. made ≡ found_in_body body.now scopes.now) }
     {
         let found = find(alloc, body, scopes, Wanted::All)?;
-        let groups = Groups::new(alloc, &found.usages)?;
         let bindings = body.store().bindings().len();
+        let groups = Groups::new(alloc, &found.usages, bindings)?;
         let unused = groups.unused(alloc, &found.bound, bindings)?;
         Ok(Usages {
             all: found.usages,

