@@ -10,7 +10,7 @@ use crate::rename_fault::RenameFault;
 use crate::renaming::Renaming;
 use crate::usage::Usage;
 use crate::usages::find;
-use crate::walk::Wanted;
+use crate::walk::{Walk, Wanted};
 use hir_base::{HygieneId, Name};
 use hir_items::{Body, Param};
 use hir_node::{Binding, BindingId};
@@ -175,12 +175,12 @@ fn usages_of(alloc: Global, usages: &[Usage], binding: BindingId) -> Result<Vec<
 
 /// Returns those uses of a body that may resolve to something else where a binding takes a name: its own, and
 /// those that ask for the name. Any other finds the entry that it finds now.
-fn affected_uses(
+fn affected_uses<'a>(
     alloc: Global,
-    body: &Body,
-    scopes: &ExprScopes,
+    body: &'a Body,
+    scopes: &'a ExprScopes,
     binding: BindingId,
-    name: &str,
+    name: &'a str,
 ) -> Result<Vec<Usage>, AllocError>
     requires { binding < length body.now.store.nodes.bindings }
     ensures own { IfOk result (λ found. usages_of binding found.items
@@ -191,7 +191,12 @@ fn affected_uses(
 {
     body.store().has_no_fault();
     rank_decreases();
-    let found = find(alloc, body, scopes, Wanted::OfRename(binding, name))?;
+    let walk = Walk {
+        store: body.store(),
+        scopes,
+        wanted: Wanted::OfRename(binding, name),
+    };
+    let found = find(alloc, body, &walk)?;
     Ok(found.usages)
 }
 

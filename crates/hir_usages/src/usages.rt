@@ -88,25 +88,35 @@ fn first_found(alloc: Global, self_param: Option<Param<BindingId>>) -> Result<Fo
     }
 }
 
-/// Returns those of the uses of a body that are searched for, and what it binds, in the order of the walk.
-pub(crate) fn find<'a>(
-    alloc: Global,
-    body: &'a Body,
-    scopes: &'a ExprScopes,
-    wanted: Wanted<'a>,
-) -> Result<Found, AllocError>
+/// Returns those of the uses of a body that a walk over its store searches for, and what the body binds, in
+/// the order of the walk.
+pub(crate) fn find(alloc: Global, body: &Body, walk: &Walk<'_>) -> Result<Found, AllocError>
+    requires { walk.now.store.now ≡ body.now.store }
     ensures usages { IfOk result (λ found. found.usages.items
-        ≡ wanted_among wanted body.now.store.nodes (usages_of_body body.now scopes.now)) }
+        ≡ wanted_among walk.now.wanted body.now.store.nodes (usages_of_body body.now walk.now.scopes.now)) }
     ensures bound { IfOk result (λ found. found.bound.items ≡ bound_by_body body.now) }
 {
     let mut found = first_found(alloc, body.self_param())?;
     let mut unread = first_visits(alloc, body)?;
+    walk.run(&mut unread, &mut found)?;
+    Ok(found)
+}
+
+/// Returns the uses of a body, and what it binds, in the order of the walk.
+fn find_all<'a>(
+    alloc: Global,
+    body: &'a Body,
+    scopes: &'a ExprScopes,
+) -> Result<Found, AllocError>
+    ensures usages { IfOk result (λ found. found.usages.items ≡ usages_of_body body.now scopes.now) }
+    ensures bound { IfOk result (λ found. found.bound.items ≡ bound_by_body body.now) }
+{
     let walk = Walk {
         store: body.store(),
         scopes,
-        wanted,
+        wanted: Wanted::All,
     };
-    walk.run(&mut unread, &mut found)?;
+    let found = find(alloc, body, &walk)?;
     Ok(found)
 }
 
@@ -122,7 +132,7 @@ impl Usages {
     pub fn new(alloc: Global, body: &Body, scopes: &ExprScopes) -> Result<Usages, AllocError>
         ensures { IfOk result (λ made. made ≡ found_in_body body.now scopes.now) }
     {
-        let found = find(alloc, body, scopes, Wanted::All)?;
+        let found = find_all(alloc, body, scopes)?;
         let bindings = body.store().bindings().len();
         let groups = Groups::new(alloc, &found.usages, bindings)?;
         let unused = groups.unused(alloc, &found.bound, bindings)?;
