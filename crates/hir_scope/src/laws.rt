@@ -14,11 +14,11 @@ ghost use Rattle.hir_scope.specs.ChildContexts.{children_with_base, child_with_b
 ghost use Rattle.hir_scope.specs.Frames.{Chain};
 ghost use Rattle.hir_scope.specs.BodyScopes.{entry_nodes_of_body, entry_nodes_of_signature};
 ghost use Rattle.hir_scope.specs.Chains.{InContext, Occurs, HasChain};
-ghost use Rattle.hir_items.specs.Bodies.{BodyContents, body_fault};
+ghost use Rattle.hir_body.specs.Bodies.{BodyContents, body_fault};
 ghost use Rattle.hir_scope.specs.Scopes.{Scope, ScopeIsInRange, ParentsStandEarlier};
 ghost use Rattle.hir_scope.specs.Paths.{path};
 
-use hir_items::body_laws::{entry_nodes_are_disjoint, entry_nodes_are_in_range};
+use hir_body::laws::{entry_nodes_are_disjoint, entry_nodes_are_in_range};
 use hir_store_core::laws::{
     children_are_disjoint, one_parent, rank_decreases, roots_are_disjoint, roots_stand_apart,
 };

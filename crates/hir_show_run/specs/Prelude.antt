@@ -9,14 +9,14 @@ pub use Rattle.hir_base.specs.Ids.{Name}
 pub use Rattle.hir_base.specs.Keys.{named_code}
 pub use Rattle.hir_base.specs.declared.hygiene.SyntaxContext.{SyntaxContext}
 pub use Rattle.hir_base.specs.declared.hygiene.SyntaxContext.TheVariants.{Root, Expansion}
+pub use Rattle.hir_body.specs.Bodies.{BodyContents, BodyReaches, body_of}
+unfoldable pub use Rattle.hir_body.specs.Bodies.{body_fault}
+pub use Rattle.hir_body.specs.FaultTexts.{body_fault_text}
+pub use Rattle.hir_body.specs.declared.body_fault.BodyFault.{BodyFault}
+pub use Rattle.hir_body.specs.declared.formals.Param.{Param}
 pub use Rattle.hir_captures.specs.Captures.{AreCaptures, IsReachedClosure}
 pub use Rattle.hir_defs.specs.Lookups.{Tables}
 pub use Rattle.hir_defs.specs.NoTables.{no_tables}
-pub use Rattle.hir_items.specs.Bodies.{BodyContents, BodyReaches, body_of}
-unfoldable pub use Rattle.hir_items.specs.Bodies.{body_fault}
-pub use Rattle.hir_items.specs.FaultTexts.{body_fault_text}
-pub use Rattle.hir_items.specs.declared.body_fault.BodyFault.{BodyFault}
-pub use Rattle.hir_items.specs.declared.formals.Param.{Param}
 pub use Rattle.hir_node.specs.declared.expr.Expr.{Expr}
 pub use Rattle.hir_node.specs.declared.node_id.NodeId.{NodeId}
 pub use Rattle.hir_node.specs.declared.pat.Pat.{Pat}

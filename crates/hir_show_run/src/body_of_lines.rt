@@ -15,7 +15,7 @@ use crate::output::Output;
 use crate::printing::answer_print;
 use crate::scope_answers::{answer_chain, answer_resolve};
 use hir_base::Name;
-use hir_items::Body;
+use hir_body::Body;
 use hir_scope::{ExprScopes, ScopesFault};
 use hir_show_grammar::{BodyQuestion, Question};
 use hir_show_io::Sink;

@@ -9,7 +9,7 @@ use Rattle.hir_base.specs.contracts.name.NamePartialEq.TheImpl as names
 use Rattle.hir_base.specs.declared.hygiene.SyntaxContext.{SyntaxContext}
 use Rattle.hir_validate.specs.Recursion.{RankDecreases}
 use Rattle.hir_store_core.specs.{Contents.Contents, SideTables.hygiene_of}
-use Rattle.hir_items.specs.Bodies.{BodyContents}
+use Rattle.hir_body.specs.Bodies.{BodyContents}
 use Rattle.hir_scope.specs.{PathResolution.binding_of, Resolution.matches, Resolution.find_entry, Resolution.entries_of, Scopes.Scopes}
 use Rattle.hir_scope.specs.declared.scope.ScopeEntry.{ScopeEntry}
 use Rattle.hir_validate.specs.Nodes.{Nodes}

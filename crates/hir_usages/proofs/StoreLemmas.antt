@@ -13,8 +13,8 @@ use Rattle.hir_validate.specs.{Nodes.Nodes, Nodes.sizes_of, Nodes.graph, TestedP
 use Rattle.hir_validate.specs.Faults.{ends_of, node_fault, nothing_tested, first_of, first_bad_node, graph_fault, rooted_fault}
 use Rattle.hir_store_core.specs.{Contents.Contents, Contents.IsStore, Contents.contents_fault, Contents.contents_of_parts, PatLinks.HasPatLinks, PatLinks.AreLinked, Under.LiesUnderOther}
 use Rattle.hir_store_core.specs.declared.kept_parts.KeptParts.{KeptParts}
-use Rattle.hir_items.specs.declared.formals.Param.{Param}
-use Rattle.hir_items.specs.Bodies.{BodyContents, body_of, body_fault, fault_at_root, last_root, apart_fault, AreBelow}
+use Rattle.hir_body.specs.declared.formals.Param.{Param}
+use Rattle.hir_body.specs.Bodies.{BodyContents, body_of, body_fault, fault_at_root, last_root, apart_fault, AreBelow}
 use Rattle.hir_scope.specs.Scopes.{Scopes}
 use Rattle.hir_usages.specs.Renames.{renamed_entry}
 use Rattle.hir_usages.specs.Renamed.{change_at, renamed_expr, renamed_pat, rename_path, rename_binding, renamed_nodes, renamed_body, with_nodes}

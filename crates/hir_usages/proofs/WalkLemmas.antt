@@ -7,8 +7,8 @@ use Rattle.hir_node.specs.{ChildCalls.Call, ChildCalls.pat_calls, ChildCalls.typ
 use Rattle.hir_node.specs.declared.{expr.Expr.Expr, node_id.NodeId.NodeId, pat.Pat.Pat, type_ref.TypeRef.TypeRef}
 use Rattle.hir_validate.specs.{Recursion.RankDecreases, Nodes.Nodes}
 use Rattle.hir_store_core.specs.Contents.{Contents}
-use Rattle.hir_stack.specs.Stacks.{Defers}
-use Rattle.hir_stack.proofs.DeferredLemmas.{defers_none, defers_two}
+use Rattle.hir_collections.specs.Stacks.{Defers}
+use Rattle.hir_collections.proofs.DeferredLemmas.{defers_none, defers_two}
 use Rattle.hir_scope.specs.ScopingForms.{form_of, form_at, expr_form, pat_form, type_form}
 use Rattle.hir_scope.specs.{Order.met_in_form, Scopes.Scopes}
 use Rattle.hir_scope.specs.PathResolution.{local_name, resolve_path, resolved_by_expr, binding_at, resolved_by_pat, target_binding_at}

@@ -12,7 +12,7 @@ use crate::usage::Usage;
 use crate::usages::find;
 use crate::walk::{Walk, Wanted};
 use hir_base::{HygieneId, Name};
-use hir_items::{Body, Param};
+use hir_body::{Body, Param};
 use hir_node::{Binding, BindingId};
 use hir_scope::{ExprScopes, ScopeEntry, ScopeId};
 use hir_store_core::laws::rank_decreases;

@@ -1,5 +1,5 @@
 use Rattle.std.proofs.Common.{sym, ap, subst}
-use Rattle.hir_items.specs.Bodies.{BodyContents}
+use Rattle.hir_body.specs.Bodies.{BodyContents}
 use Rattle.hir_scope.specs.BodyScopes.{AreBodyScopes}
 use Rattle.hir_show_run.specs.Answer.{NamedBody}
 use Rattle.hir_show_run.proofs.body_of_lines.BodyOfLines.keep_scopes.Goals as goal
