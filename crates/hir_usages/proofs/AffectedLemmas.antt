@@ -44,9 +44,9 @@ module _ (x : ℕ) (n : List ℕ) (h : SyntaxContext) where
 
   own_kept : (e : ScopeEntry) (m w : Bool) (rest later : Option ScopeEntry) → w ≡ false → e.binding ≡ x → ((binding_in rest ≡ Some x → ⊥) → later ≡ rest) → (binding_in (cond m (Some e) rest) ≡ Some x → ⊥) →
       cond w (Some (named e)) later ≡ cond m (Some e) rest
-  own_kept e true w rest later no own further differs = absurd (differs (ap (λ (k : ℕ). Some k) own))
-  own_kept e false true rest later no own further differs = absurd cc
-  own_kept e false false rest later no own further differs = further differs
+  own_kept e true w rest later misses own further differs = absurd (differs (ap (λ (k : ℕ). Some k) own))
+  own_kept e false true rest later misses own further differs = absurd cc
+  own_kept e false false rest later misses own further differs = further differs
 
   other_kept : (e : ScopeEntry) (m : Bool) (rest later : Option ScopeEntry) → ((binding_in rest ≡ Some x → ⊥) → later ≡ rest) → (binding_in (cond m (Some e) rest) ≡ Some x → ⊥) →
       cond m (Some e) later ≡ cond m (Some e) rest
@@ -55,14 +55,14 @@ module _ (x : ℕ) (n : List ℕ) (h : SyntaxContext) where
 
   step : (y : List ℕ) (e : ScopeEntry) (t : Bool) → nat_eq e.binding x ≡ t → matches y h (named e) ≡ false → (rest later : Option ScopeEntry) → ((binding_in rest ≡ Some x → ⊥) → later ≡ rest) → (binding_in (cond (matches y h e) (Some e) rest) ≡ Some x → ⊥) →
       cond (matches y h (cond t (named e) e)) (Some (cond t (named e) e)) later ≡ cond (matches y h e) (Some e) rest
-  step y e true q no rest later further differs = own_kept e (matches y h e) (matches y h (named e)) rest later no (eqb-true e.binding x q) further differs
-  step y e false q no rest later further differs = other_kept e (matches y h e) rest later further differs
+  step y e true q misses rest later further differs = own_kept e (matches y h e) (matches y h (named e)) rest later misses (eqb-true e.binding x q) further differs
+  step y e false q misses rest later further differs = other_kept e (matches y h e) rest later further differs
 
   finds_same : (y : List ℕ) (es : List ScopeEntry) → names.ghosts.eq n y ≡ false → (binding_in (find_entry y h es) ≡ Some x → ⊥) → find_entry y h (map (renamed_entry x n) es) ≡ find_entry y h es
-  finds_same y [] no differs = refl
-  finds_same y (e ∷ es) no differs =
-      step y e (nat_eq e.binding x) refl (and_false (hygienes.ghosts.eq e.hygiene h) (names.ghosts.eq n y) no)
-      (find_entry y h es) (find_entry y h (map (renamed_entry x n) es)) (finds_same y es no) differs
+  finds_same y [] misses differs = refl
+  finds_same y (e ∷ es) misses differs =
+      step y e (nat_eq e.binding x) refl (and_false (hygienes.ghosts.eq e.hygiene h) (names.ghosts.eq n y) misses)
+      (find_entry y h es) (find_entry y h (map (renamed_entry x n) es)) (finds_same y es misses) differs
 
 -- 3. A use that isn't affected has no conflict
 
@@ -92,8 +92,8 @@ module _ (b : BodyContents) (x : ℕ) (n : List ℕ) (scopes : Scopes) (in_range
     keeps : after v ≡ v.binding
     keeps =
         let differs : binding_in (find_entry is.name h es) ≡ Some x → ⊥ = λ found. is_other x v other (before_is ∙ binding_some b.store (find_entry is.name h es) x in_range found) in
-        let no : names.ghosts.eq n is.name ≡ false = ap (asks_for n) (sym is.asks) ∙ asks in
-        after_is ∙ (ap (binding_of b.store) (finds_same x n h is.name es no differs) ∙ sym before_is)
+        let misses : names.ghosts.eq n is.name ≡ false = ap (asks_for n) (sym is.asks) ∙ asks in
+        after_is ∙ (ap (binding_of b.store) (finds_same x n h is.name es misses differs) ∙ sym before_is)
 
     no_conflict : conflict_at b.store scopes x n v ≡ None
     no_conflict = ap (λ (t : Bool). cond t None (Some (conflict_of v (resolves_to x v) (after v)))) ((same_decides (after v) v.binding).1 keeps)
