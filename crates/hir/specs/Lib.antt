@@ -78,6 +78,7 @@ pub use Rattle.hir_validate.specs.Sizes
 pub use Rattle.hir_validate.specs.Sound
 pub use Rattle.hir_validate.specs.TestedParts
 pub use Rattle.hir_validate.specs.declared.fault.FinishFault
+pub use Rattle.hir_validate.specs.declared.node_arenas.Nodes as NodeArenas
 -- the store
 pub use Rattle.hir_store_core.specs.Ancestors
 pub use Rattle.hir_store_core.specs.Blocks

@@ -10,7 +10,8 @@ use Rattle.hir_forest.proofs.VerdictLemmas.{unless-same, first_below-same}
 use Rattle.hir_node.specs.declared.node_id.NodeId.{NodeId}
 use Rattle.hir_node.specs.declared.node_id.NodeId.TheVariants as node
 use Rattle.hir_validate.specs.Sizes.{HasNode}
-use Rattle.hir_validate.specs.Nodes.{Nodes, Has, sizes_of, children_of}
+use Rattle.hir_validate.specs.Nodes.{Has, sizes_of, children_of}
+use Rattle.hir_validate.specs.declared.node_arenas.Nodes.{Nodes}
 use Rattle.hir_validate.specs.Recursion.{RankDecreases}
 use Rattle.hir_store_core.specs.Contents.{Contents, rooted_of, contents_fault}
 use Rattle.hir_store_core.specs.Under.{Under, itself, below, LiesUnderOther, AreDisjoint}

@@ -10,5 +10,5 @@ pub use Rattle.hir_path.specs.NodeIds.{ExprId, PatId, BindingId}
 pub use Rattle.hir_store_core.specs.Contents.{Contents}
 pub use Rattle.hir_store_core.specs.NodeSets.{MarkedNodes, IsIn}
 pub use Rattle.hir_store_core.specs.Under.{LiesUnderOther, IsReached, reached_nodes}
-pub use Rattle.hir_validate.specs.Nodes.{Nodes}
+pub use Rattle.hir_validate.specs.declared.node_arenas.Nodes.{Nodes}
 pub use Rattle.hir_validate.specs.Sizes.{HasNode}

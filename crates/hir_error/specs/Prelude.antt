@@ -19,7 +19,8 @@ pub use Rattle.hir_signature.specs.declared.signature_fault.SignatureFault.{Sign
 pub use Rattle.hir_store_core.specs.declared.missing.Missing.{Missing}
 pub use Rattle.hir_store_core.specs.declared.missing.Missing.TheVariants.{Name, Variant, Crate, Signature, Body, Fields, TypeParam, LifetimeParam, DefMap}
 pub use Rattle.hir_usages.specs.declared.rename_fault.RenameFault.{RenameFault}
-pub use Rattle.hir_validate.specs.Nodes.{Nodes, sizes_of}
+pub use Rattle.hir_validate.specs.Nodes.{sizes_of}
+pub use Rattle.hir_validate.specs.declared.node_arenas.Nodes.{Nodes}
 pub use Rattle.hir_validate.specs.TestedParts.{all_of}
 pub use Rattle.hir_validate.specs.declared.fault.FinishFault.{FinishFault}
 pub use Rattle.hir_validate.specs.declared.sizes.Sizes.{Sizes}

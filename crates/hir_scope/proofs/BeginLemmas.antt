@@ -9,7 +9,7 @@ use Rattle.std.specs.{Option.option_to_list, Option.option_map, Prelude.IfSome, 
 use Rattle.hir_node.specs.ChildCalls.{Call, e, p, opt}
 use Rattle.hir_node.specs.declared.node_id.NodeId.{NodeId}
 use Rattle.hir_forest.specs.Faults.{root_nodes}
-use Rattle.hir_validate.specs.{Nodes.Nodes, Nodes.Has, Sound.RootsStandApart, TestedParts.all_of}
+use Rattle.hir_validate.specs.{declared.node_arenas.Nodes.Nodes, Nodes.Has, Sound.RootsStandApart, TestedParts.all_of}
 use Rattle.hir_store_core.specs.{Contents.Contents, Contents.rooted_of, Under.reached_nodes}
 use Rattle.hir_body.specs.Bodies.{BodyContents, AreBelow, formals_of, last_root, body_nodes}
 use Rattle.hir_body.specs.Bodies as body

@@ -7,7 +7,8 @@ use Rattle.std.specs.FinMap as finmap
 use Rattle.std.specs.Ordering.{nat_cmp, is_eq, eq_by_cmp}
 use Rattle.std.specs.{Prelude.IsSome, declared.cmp.Ordering.Ordering}
 use Rattle.hir_node.specs.declared.node_id.NodeId.{NodeId}
-use Rattle.hir_validate.specs.Nodes.{Nodes, Has}
+use Rattle.hir_validate.specs.Nodes.{Has}
+use Rattle.hir_validate.specs.declared.node_arenas.Nodes.{Nodes}
 use Rattle.hir_store_core.specs.{Contents.Contents, Under.IsReached, Under.reached_nodes}
 use Rattle.hir_body.specs.{Bodies.BodyContents, Bodies.body_nodes, Bodies.entry_nodes}
 use Rattle.hir_signature.specs.{Signatures.root_entry_nodes}

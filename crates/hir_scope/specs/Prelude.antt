@@ -30,7 +30,8 @@ pub use Rattle.hir_store_core.specs.Owners.{StoreAndSources}
 pub use Rattle.hir_store_core.specs.PatLists.{bindings_at, bindings_in, child_pats_of}
 pub use Rattle.hir_store_core.specs.SideTables.{hygiene_of}
 unfoldable pub use Rattle.hir_store_core.specs.Under.{nodes_under}
-pub use Rattle.hir_validate.specs.Nodes.{Nodes, Has, children_of}
+pub use Rattle.hir_validate.specs.Nodes.{Has, children_of}
+pub use Rattle.hir_validate.specs.declared.node_arenas.Nodes.{Nodes}
 pub use Rattle.hir_validate.specs.Recursion.{RankDecreases}
 unfoldable pub use Rattle.hir_validate.specs.Recursion.{fold_down}
 pub use Rattle.hir_validate.specs.Sound.{IsSoundNode}

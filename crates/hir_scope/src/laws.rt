@@ -4,7 +4,8 @@
 ghost use Rattle.std.specs.Prelude.{◌≡◌, ◌<◌, ◌≤◌, ◌∷◌, ℕ, None, Some, List, Option, IsPermutation, length, map, slice_get};
 ghost use Rattle.std.specs.List.{All, flat_map};
 ghost use Rattle.hir_node.specs.declared.node_id.NodeId.{NodeId};
-ghost use Rattle.hir_validate.specs.Nodes.{Nodes, Has, children_of};
+ghost use Rattle.hir_validate.specs.Nodes.{Has, children_of};
+ghost use Rattle.hir_validate.specs.declared.node_arenas.Nodes.{Nodes};
 ghost use Rattle.hir_store_core.specs.Contents.{Contents, contents_fault};
 ghost use Rattle.hir_store_core.specs.Under.{IsReached};
 ghost use Rattle.hir_scope.specs.OpenFrames.{open_frames, open_frames_step};

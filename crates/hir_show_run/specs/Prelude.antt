@@ -62,5 +62,6 @@ pub use Rattle.hir_store_core.specs.PatLists.{child_exprs}
 pub use Rattle.hir_store_core.specs.RootSearch.{root_for_expr}
 pub use Rattle.hir_store_core.specs.SideTables.{no_side_tables}
 pub use Rattle.hir_store_core.specs.declared.side_tables.SideTables.{SideTables}
-pub use Rattle.hir_validate.specs.Nodes.{Nodes, no_nodes}
+pub use Rattle.hir_validate.specs.Nodes.{no_nodes}
+pub use Rattle.hir_validate.specs.declared.node_arenas.Nodes.{Nodes}
 pub use Rattle.hir_validate.specs.declared.fault.FinishFault.{FinishFault}

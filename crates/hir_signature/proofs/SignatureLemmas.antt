@@ -11,7 +11,7 @@ use Rattle.hir_signature.specs.declared.any_param.TypeOrConstParamData.TheVarian
 use Rattle.hir_signature.specs.declared.predicate.WherePredicate.{WherePredicate}
 use Rattle.hir_signature.specs.declared.predicate.WherePredicate.TheVariants as predicate
 use Rattle.hir_validate.specs.TestedParts.{is_path_at}
-use Rattle.hir_validate.specs.Nodes.{Nodes}
+use Rattle.hir_validate.specs.declared.node_arenas.Nodes.{Nodes}
 use Rattle.hir_signature.specs.Generics.{Generics}
 use Rattle.hir_signature.specs.declared.signature_fault.SignatureFault.TheVariants.{IdOutOfRange, NotAPath}
 use Rattle.hir_signature.specs.declared.signatures.FieldData.{FieldData}

@@ -16,6 +16,7 @@ pub use Rattle.hir_source_map.specs.declared.source_map.ExpressionStoreSourceMap
 pub use Rattle.hir_store_core.specs.Contents.{Contents}
 pub use Rattle.hir_store_core.specs.Under.{IsReached, reached_nodes}
 pub use Rattle.hir_validate.specs.Fits.{bound_fits}
-pub use Rattle.hir_validate.specs.Nodes.{Nodes, sizes_of}
+pub use Rattle.hir_validate.specs.Nodes.{sizes_of}
+pub use Rattle.hir_validate.specs.declared.node_arenas.Nodes.{Nodes}
 pub use Rattle.hir_validate.specs.Sizes.{is_in_range}
 pub use Rattle.hir_validate.specs.TestedParts.{is_path_at, bound_paths}

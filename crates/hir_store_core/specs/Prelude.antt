@@ -31,7 +31,8 @@ pub use Rattle.hir_source_map.specs.Sources.{id_key}
 pub use Rattle.hir_source_map.specs.declared.source_map.ExpressionStoreSourceMap.{ExpressionStoreSourceMap}
 pub use Rattle.hir_validate.specs.Faults.{RootedNodes}
 unfoldable pub use Rattle.hir_validate.specs.Faults.{rooted_fault}
-pub use Rattle.hir_validate.specs.Nodes.{Nodes, children_of, no_nodes, graph, calls_of, Has, calls_at}
+pub use Rattle.hir_validate.specs.Nodes.{children_of, no_nodes, graph, calls_of, Has, calls_at}
+pub use Rattle.hir_validate.specs.declared.node_arenas.Nodes.{Nodes}
 unfoldable pub use Rattle.hir_validate.specs.Recursion.{fold_down}
 pub use Rattle.hir_validate.specs.Sizes.{HasNode, place}
 pub use Rattle.hir_validate.specs.TestedParts.{path_at, is_path_at, bound_paths, all_of}

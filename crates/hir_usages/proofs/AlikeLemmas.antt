@@ -13,7 +13,7 @@ use Rattle.hir_node.specs.declared.{binding.Binding.Binding, expr.Expr.Expr, pat
 use Rattle.hir_node.specs.declared.expr_types.{Item.Item, MatchArm.MatchArm, Statement.Statement}
 use Rattle.hir_validate.specs.declared.sizes.Sizes.{Sizes}
 use Rattle.hir_validate.specs.Recursion.{rank, fold_down, fold_down_within}
-use Rattle.hir_validate.specs.{Nodes.Nodes, Nodes.sizes_of, Nodes.calls_of, Nodes.children_of, Nodes.graph, Sizes.place, Sizes.places, TestedParts.all_of}
+use Rattle.hir_validate.specs.{declared.node_arenas.Nodes.Nodes, Nodes.sizes_of, Nodes.calls_of, Nodes.children_of, Nodes.graph, Sizes.place, Sizes.places, TestedParts.all_of}
 use Rattle.hir_forest.specs.Height.{height}
 use Rattle.hir_store_core.specs.PatLinks.{children_at}
 use Rattle.hir_store_core.specs.PatLists.{pats_step, pats, bindings_at, bindings_in}

@@ -5,7 +5,7 @@ use Rattle.std.proofs.lemmas.List.{Concat.flat_map-append, Elements.filter-appen
 use Rattle.std.specs.List.{slice_get}
 use Rattle.hir_node.specs.{ChildCalls.Call, ChildCalls.pat_calls, ChildCalls.type_calls, Runs.Runs, Runs.no_call, Runs.a_call}
 use Rattle.hir_node.specs.declared.{expr.Expr.Expr, node_id.NodeId.NodeId, pat.Pat.Pat, type_ref.TypeRef.TypeRef}
-use Rattle.hir_validate.specs.{Recursion.RankDecreases, Nodes.Nodes}
+use Rattle.hir_validate.specs.{Recursion.RankDecreases, declared.node_arenas.Nodes.Nodes}
 use Rattle.hir_store_core.specs.Contents.{Contents}
 use Rattle.hir_collections.specs.Stacks.{Defers}
 use Rattle.hir_collections.proofs.DeferredLemmas.{defers_none, defers_two}

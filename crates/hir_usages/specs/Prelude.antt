@@ -31,5 +31,6 @@ pub use Rattle.hir_scope.specs.declared.scope.ScopeEntry.{ScopeEntry}
 pub use Rattle.hir_store_core.specs.Contents.{Contents}
 pub use Rattle.hir_store_core.specs.PatLists.{bindings_at}
 pub use Rattle.hir_store_core.specs.SideTables.{hygiene_of}
-pub use Rattle.hir_validate.specs.Nodes.{Nodes, Has}
+pub use Rattle.hir_validate.specs.Nodes.{Has}
+pub use Rattle.hir_validate.specs.declared.node_arenas.Nodes.{Nodes}
 unfoldable pub use Rattle.hir_validate.specs.Recursion.{fold_down}
