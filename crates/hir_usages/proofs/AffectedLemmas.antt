@@ -12,7 +12,7 @@ use Rattle.hir_store_core.specs.{Contents.Contents, SideTables.hygiene_of}
 use Rattle.hir_body.specs.Bodies.{BodyContents}
 use Rattle.hir_scope.specs.{PathResolution.binding_of, Resolution.matches, Resolution.find_entry, Resolution.entries_of, Scopes.Scopes}
 use Rattle.hir_scope.specs.declared.scope.ScopeEntry.{ScopeEntry}
-use Rattle.hir_validate.specs.Nodes.{Nodes}
+use Rattle.hir_validate.specs.declared.node_arenas.Nodes.{Nodes}
 use Rattle.hir_usages.specs.Usages.{usages_of_body, usages_of, resolves_to}
 use Rattle.hir_usages.specs.Renames.{is_same, conflict_of, conflict_at, first_conflict, name_at, name_after, renamed_entry, renamed_chain, resolve_along, chain_at, resolved_after}
 use Rattle.hir_usages.specs.{declared.rename_fault.RenameFault.RenameFault, declared.usage.Usage.Usage}

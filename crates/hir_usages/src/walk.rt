@@ -3,9 +3,7 @@
 
 ghost use Rattle.std.specs.Prelude.{◌≡◌, ◌<◌, ◌∷◌, ◌++◌, length, option_map, Some, OnOk};
 ghost use Rattle.hir_node.specs.declared.node_id.NodeId.TheVariants as node;
-ghost use Rattle.hir_scope.specs.Paths.{chain};
 ghost use Rattle.hir_scope.specs.PathResolution.{resolve_path};
-ghost use Rattle.hir_scope.specs.Resolution.{resolve};
 ghost use Rattle.hir_captures.specs.Uses.{if_assignment};
 ghost use Rattle.hir_usages.specs.Renames.{name_of_expr};
 ghost use Rattle.hir_usages.specs.Usages.{bound_at};
@@ -14,11 +12,12 @@ ghost use Rattle.hir_usages.specs.internal.Pending.{AreInRange, pat_task};
 ghost use Rattle.hir_usages.specs.internal.Reading.{Reads, lists_of, with_tasks};
 
 use crate::found::Found;
+use crate::lookup::binding_in_scope;
 use crate::to_visit::{Task, ToVisit};
 use crate::usage::Usage;
 use hir_base::HygieneId;
 use hir_node::{BindingId, Expr, ExprId, ExprOrPatId, Pat, PatId, TypeRefId};
-use hir_scope::{ExprScopes, ScopeId, local_name};
+use hir_scope::{ExprScopes, local_name};
 use hir_store_core::ExpressionStore;
 use hir_store_core::laws::rank_decreases;
 use std::alloc::AllocError;
@@ -63,6 +62,7 @@ fn name_of(expr: &Expr) -> Option<&str>
 
 impl<'a> Walk<'a> {
     /// Returns whether a use that asks for this name is searched for.
+    #[inline(always)]
     fn wants(&self, usage: &Usage, name: &str) -> bool
         ensures { result ≡ is_wanted self.now.wanted (Some name.now) usage.now }
     {
@@ -91,30 +91,12 @@ impl<'a> Walk<'a> {
         Ok(())
     }
 
-    /// Returns the binding of the entry that a name resolves to in a scope.
-    fn binding_in_scope(
-        &self,
-        scope: ScopeId,
-        name: &str,
-        hygiene: HygieneId,
-    ) -> Option<BindingId>
-        requires { scope < length self.now.scopes.now.scopes }
-        ensures { result ≡ option_map (λ entry. entry.binding)
-            (resolve (chain self.now.scopes.now.scopes (Some scope)) name.now hygiene) }
-    {
-        self.scopes.parents_stand_earlier();
-        match self.scopes.find_name_in_scope(scope, name, hygiene) {
-            Some((_, entry)) => Some(entry.binding()),
-            None => None,
-        }
-    }
-
     /// Returns the binding of the store that a name resolves to at an expression.
     fn resolve(&self, at: ExprId, name: &str, hygiene: HygieneId) -> Option<BindingId>
         ensures { result ≡ resolve_path self.now.store.now self.now.scopes.now at hygiene (Some name.now) }
     {
         let scope = self.scopes.scope_for(at)?;
-        let binding = self.binding_in_scope(scope, name, hygiene)?;
+        let binding = binding_in_scope(self.scopes, scope, name, hygiene)?;
         self.store.has_binding(binding).then_some(binding)
     }
 

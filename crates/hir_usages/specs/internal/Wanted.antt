@@ -5,7 +5,7 @@ use Rattle.hir_base.specs.contracts.name.NamePartialEq.TheImpl as names
 use Rattle.hir_path.specs.declared.ids.ExprOrPatId.TheVariants as either
 use Rattle.hir_path.specs.NodeIds.{ExprId, PatId, BindingId}
 use Rattle.hir_node.specs.declared.node_id.NodeId.{NodeId}
-use Rattle.hir_validate.specs.Nodes.{Nodes}
+use Rattle.hir_validate.specs.declared.node_arenas.Nodes.{Nodes}
 use Rattle.hir_store_core.specs.SideTables.{hygiene_of}
 use Rattle.hir_scope.specs.PathResolution.{resolve_path}
 use Rattle.hir_usages.specs.Renames.{name_at}
