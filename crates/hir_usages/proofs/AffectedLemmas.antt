@@ -1,22 +1,21 @@
 -- A use that is none of the binding and doesn't ask for the new name resolves to what it resolved to before: what a rename may change is among the others.
 use Rattle.std.proofs.Common.{◌≡◌, ℕ, List, [], ◌∷◌, Option, Some, None, Bool, true, false, cond, map, refl, sym, ap, ◌∙◌, length, nat_eq}
 use Rattle.std.proofs.lemmas.Bool.{eqb-true, lt-ltb}
-use Rattle.std.specs.List.{filter, AllByRecursion}
 use Rattle.std.specs.Option.{option_or}
 use Rattle.std.specs.Prelude.{nat_lt, ◌<◌, ◌||◌, ◌&&◌}
 use Rattle.hir_base.specs.contracts.hygiene.HygieneIdPartialEq.TheImpl as hygienes
 use Rattle.hir_base.specs.contracts.name.NamePartialEq.TheImpl as names
 use Rattle.hir_base.specs.declared.hygiene.SyntaxContext.{SyntaxContext}
 use Rattle.hir_validate.specs.Recursion.{RankDecreases}
-use Rattle.hir_store_core.specs.{Contents.Contents, SideTables.hygiene_of}
+use Rattle.hir_store_core.specs.{SideTables.hygiene_of}
 use Rattle.hir_body.specs.Bodies.{BodyContents}
 use Rattle.hir_scope.specs.{PathResolution.binding_of, Resolution.matches, Resolution.find_entry, Resolution.entries_of, Scopes.Scopes}
 use Rattle.hir_scope.specs.declared.scope.ScopeEntry.{ScopeEntry}
 use Rattle.hir_validate.specs.declared.node_arenas.Nodes.{Nodes}
 use Rattle.hir_usages.specs.Usages.{usages_of_body, usages_of, resolves_to}
-use Rattle.hir_usages.specs.Renames.{is_same, conflict_of, conflict_at, first_conflict, name_at, name_after, renamed_entry, renamed_chain, resolve_along, chain_at, resolved_after}
+use Rattle.hir_usages.specs.Renames.{conflict_of, conflict_at, first_conflict, name_at, name_after, renamed_entry, renamed_chain, resolve_along, chain_at, resolved_after}
 use Rattle.hir_usages.specs.{declared.rename_fault.RenameFault.RenameFault, declared.usage.Usage.Usage}
-use Rattle.hir_usages.specs.internal.Wanted.{asks_for, is_affected, affected_among, is_wanted, wanted_among}
+use Rattle.hir_usages.specs.internal.Wanted.{asks_for, is_affected, affected_among, wanted_among}
 use Rattle.hir_usages.specs.declared.walk.Wanted.{Wanted}
 use Rattle.hir_usages.proofs.KeptLemmas.{same_decides}
 use Rattle.hir_usages.proofs.{RenameLemmas.binding_in, UseLemmas.IsUse, UseLemmas.AreUses, UseLemmas.all_uses, UseLemmas.for_along}

@@ -1,6 +1,6 @@
-use Rattle.std.proofs.Common.{◌≡◌, ◌∙◌, ap, subst, List, None}
+use Rattle.std.proofs.Common.{◌∙◌, ap, subst, None}
 use Rattle.hir_store_core.specs.Contents.{Contents, contents_fault}
-use Rattle.hir_usages.specs.{Renames.first_conflict, Usages.usages_of, Usages.usages_of_body, declared.usage.Usage.Usage}
+use Rattle.hir_usages.specs.{Renames.first_conflict, Usages.usages_of, Usages.usages_of_body}
 use Rattle.hir_usages.proofs.AffectedLemmas.{conflict_among, own_among}
 use Rattle.hir_usages.proofs.renames.affected_uses.Goals as goal
 
