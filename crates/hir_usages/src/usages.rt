@@ -103,11 +103,7 @@ pub(crate) fn find(alloc: Global, body: &Body, walk: &Walk<'_>) -> Result<Found,
 }
 
 /// Returns the uses of a body, and what it binds, in the order of the walk.
-fn find_all<'a>(
-    alloc: Global,
-    body: &'a Body,
-    scopes: &'a ExprScopes,
-) -> Result<Found, AllocError>
+fn find_all<'a>(alloc: Global, body: &'a Body, scopes: &'a ExprScopes) -> Result<Found, AllocError>
     ensures usages { IfOk result (λ found. found.usages.items ≡ usages_of_body body.now scopes.now) }
     ensures bound { IfOk result (λ found. found.bound.items ≡ bound_by_body body.now) }
 {
