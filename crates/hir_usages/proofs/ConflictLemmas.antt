@@ -5,7 +5,7 @@ use Rattle.std.proofs.lemmas.{List.map-append, Option.slice_get_within}
 use Rattle.std.proofs.lemmas.List.Elements.{All-from_recursion, recursion_from_All}
 use Rattle.std.specs.List.{slice_get, All, AllByRecursion}
 use Rattle.std.specs.Option.{option_or, option_map}
-use Rattle.std.specs.Prelude.{◌↔◌, nat_lt}
+use Rattle.std.specs.Prelude.{◌↔◌, ◌<◌, nat_lt}
 use Rattle.hir_base.specs.declared.hygiene.SyntaxContext.{SyntaxContext}
 use Rattle.hir_node.specs.declared.{binding.Binding.Binding, node_id.NodeId.NodeId}
 use Rattle.hir_validate.specs.{declared.node_arenas.Nodes.Nodes, Nodes.children_of, Recursion.RankDecreases}
@@ -25,7 +25,7 @@ use Rattle.hir_usages.proofs.VisibleLemmas.{asked, among}
 
 -- 1. The bindings of the entries around an expression are in range: a change of all other entries changes none of them.
 
-entries_mapped : (ren : ScopeEntry → ScopeEntry) (c : Chain) → entries_of (mapped_chain ren c) ≡ map ren (entries_of c)
+pub entries_mapped : (ren : ScopeEntry → ScopeEntry) (c : Chain) → entries_of (mapped_chain ren c) ≡ map ren (entries_of c)
 entries_mapped ren [] = refl
 entries_mapped ren (f ∷ c) =
     ap (λ (es : List ScopeEntry). map ren f.entries ++ es) (entries_mapped ren c) ∙ sym (map-append ren f.entries (entries_of c))
@@ -150,7 +150,7 @@ binding_told c (Some e) x is = at (nat_lt e.binding (length c.nodes.bindings)) i
 binding_here : (c : Contents) (e : ScopeEntry) → nat_lt e.binding (length c.nodes.bindings) ≡ true → binding_of c (Some e) ≡ Some e.binding
 binding_here c e l = ap (λ (t : Bool). cond t (Some e.binding) None) l
 
-binding_some : (c : Contents) (o : Option ScopeEntry) (x : ℕ) → nat_lt x (length c.nodes.bindings) ≡ true → binding_in o ≡ Some x → binding_of c o ≡ Some x
+pub binding_some : (c : Contents) (o : Option ScopeEntry) (x : ℕ) → nat_lt x (length c.nodes.bindings) ≡ true → binding_in o ≡ Some x → binding_of c o ≡ Some x
 binding_some c None x l is = absurd cc
 binding_some c (Some e) x l is =
     let same : e.binding ≡ x = cc in
@@ -164,7 +164,7 @@ is_own x v q = at v.binding q where
   at None q = absurd cc
   at (Some y) q = ap (λ (k : ℕ). Some k) (eqb-true y x q)
 
-is_other : (x : ℕ) (v : Usage) → resolves_to x v ≡ false → v.binding ≡ Some x → ⊥
+pub is_other : (x : ℕ) (v : Usage) → resolves_to x v ≡ false → v.binding ≡ Some x → ⊥
 is_other x v q e =
     let holds : resolves_to x v ≡ true = ap (is_binding x) e ∙ eq-eqb x x refl in
     let lie : true ≡ false = sym holds ∙ q in
@@ -314,15 +314,19 @@ module _ (b : BodyContents) (x : ℕ) (n : List ℕ) (scopes : Scopes) (are : Ar
 
 -- 4. A binding may have a name exactly where there is no fault, and a fault says why not.
 
+-- a binding that isn't refused exists
+pub bound_in_range : (b : BodyContents) (scopes : Scopes) (x : ℕ) (n : List ℕ) → refusal b scopes x n ≡ None → x < length b.store.nodes.bindings
+bound_in_range b scopes x n none = at (slice_get b.store.nodes.bindings x) refl none where
+  at : (o : Option Binding) → slice_get b.store.nodes.bindings x ≡ o → refusal_at b scopes x n o ≡ None → x < length b.store.nodes.bindings
+  at None e h = absurd cc
+  at (Some found) e h = slice_get_within b.store.nodes.bindings x found e
+
 module _ (b : BodyContents) (x : ℕ) (n : List ℕ) (scopes : Scopes) (are : AreBodyScopes b scopes) (fall : RankDecreases b.store.nodes) (one : (m k j : NodeId) → Contains (children_of b.store.nodes m) j → Contains (children_of b.store.nodes k) j → m ≡ k) (only : OneChain (renamed_body b scopes x n)) where
   abbrev body_uses : List Usage
   body_uses = usages_of_body b scopes
 
   in_range_of : refusal b scopes x n ≡ None → nat_lt x (length b.store.nodes.bindings) ≡ true
-  in_range_of none = at (slice_get b.store.nodes.bindings x) refl none where
-    at : (o : Option Binding) → slice_get b.store.nodes.bindings x ≡ o → refusal_at b scopes x n o ≡ None → nat_lt x (length b.store.nodes.bindings) ≡ true
-    at None e h = absurd cc
-    at (Some found) e h = lt-ltb x (length b.store.nodes.bindings) (slice_get_within b.store.nodes.bindings x found e)
+  in_range_of none = lt-ltb x (length b.store.nodes.bindings) (bound_in_range b scopes x n none)
 
   may_be : refusal b scopes x n ≡ None → first_conflict b.store scopes x n body_uses ≡ None → MayBeRenamed b scopes x n
   may_be none free = record {

@@ -13,6 +13,7 @@ use Rattle.hir_usages.specs.Usages.{usages_in, usages_of_body, bound_in, bound_b
 use Rattle.hir_usages.specs.declared.{to_visit.Task.Task, usage.Usage.Usage, walk.Walk.Walk}
 use Rattle.hir_usages.specs.internal.Pending.{AreInRange, visits_of}
 use Rattle.hir_usages.specs.internal.Reading.{FoundLists, with_tasks, with_visits}
+use Rattle.hir_usages.specs.internal.Wanted.{wanted_among}
 use Rattle.hir_usages.proofs.WalkLemmas.{added, added_bound}
 
 abbrev pub first_tasks : List ℕ → ℕ → List Task
@@ -50,12 +51,12 @@ module _ (b : BodyContents) (w : Walk) (same : w.store.now ≡ b.store) (before 
       ran
       ∙ (ap (λ (c : Contents). with_visits w before (visits_of c.nodes tasks)) same ∙ ap (with_visits w before) begins)
 
-  pub all_usages : before.usages ≡ [] → after.usages ≡ usages_of_body b w.scopes.now
+  pub all_usages : before.usages ≡ [] → after.usages ≡ wanted_among w.wanted b.store.nodes (usages_of_body b w.scopes.now)
   all_usages none =
       ap (λ (x : FoundLists). x.usages) ends
       ∙ (added w before (visits b)
-      ∙ (ap (λ (us : List Usage). us ++ usages_in w.store.now w.scopes.now (visits b)) none
-      ∙ ap (λ (c : Contents). usages_in c w.scopes.now (visits b)) same))
+      ∙ (ap (λ (us : List Usage). us ++ wanted_among w.wanted w.store.now.nodes (usages_in w.store.now w.scopes.now (visits b))) none
+      ∙ ap (λ (c : Contents). wanted_among w.wanted c.nodes (usages_in c w.scopes.now (visits b))) same))
 
   pub all_bound : before.bound ≡ option_to_list (option_map (λ (p : Param ℕ). p.formal) b.self_param) → after.bound ≡ bound_by_body b
   all_bound own =

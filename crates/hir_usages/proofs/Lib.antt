@@ -11,4 +11,5 @@ pub mod UseLemmas
 pub mod RenamedLemmas
 pub mod ConflictLemmas
 pub mod ChangeLemmas
+pub mod AffectedLemmas
 pub mod StoreLemmas

@@ -1,4 +1,4 @@
--- What a name resolves to after a rename, scope by scope.
+-- What a name resolves to before and after a rename, scope by scope.
 use Rattle.std.proofs.Common.{◌≡◌, ℕ, Bool, true, false, cond, List, [], ◌∷◌, ◌++◌, Option, Some, None, refl, ap, sym, ◌∙◌, map, ◌+◌, zero, suc, drop, add-one}
 use Rattle.std.proofs.lemmas.{List.append-nil, List.Concat.flat_map-append}
 use Rattle.std.specs.{List.slice_get, List.flat_map, List.list_any, Option.option_or, Prelude.◌||◌}
@@ -64,6 +64,34 @@ chain_step scopes s parent x outward p is =
     let first : frame_at scopes s ≡ frame_of x ∷ [] = ap (all_of (λ (y : Scope). frame_of y ∷ [])) is in
     along ∙ ap (λ (fs : Chain). fs ++ chain scopes parent) first
 
+-- before a rename
+module _ (scopes : List Scope) (name : List ℕ) (h : SyntaxContext) where
+  -- what the name resolves to in a scope, if any
+  abbrev pub found_in : Option ℕ → Option ℕ
+  found_in s = binding_in (resolve (chain scopes s) name h)
+
+  module _ (s : ℕ) (parent : Option ℕ) (es : List ScopeEntry) (outward : GoesOutward scopes)
+      (p : option_map (λ (x : Scope). x.parent) (slice_get scopes s) ≡ Some parent) (e : option_map (λ (x : Scope). x.entries) (slice_get scopes s) ≡ Some es) where
+    abbrev first : Option ScopeEntry
+    first = find_entry name h es
+
+    -- the entries of the scope come first
+    first_or_outer : resolve (chain scopes (Some s)) name h ≡ option_or first (resolve (chain scopes parent) name h)
+    first_or_outer =
+        let x = of_some_scope (λ (y : Scope). y.entries) (slice_get scopes s) es e in
+        let outer : Chain = chain scopes parent in
+        let f : Frame = frame_of x.0 in
+        let entries : resolve (f ∷ []) name h ≡ first = ap (find_entry name h) (append-nil f.entries) ∙ ap (λ (xs : List ScopeEntry). find_entry name h xs) x.2 in
+        ap (λ (c : Chain). resolve c name h) (chain_step scopes s parent x.0 outward p x.1)
+        ∙ (resolve_append name h (f ∷ []) outer ∙ ap (λ (o : Option ScopeEntry). option_or o (resolve outer name h)) entries)
+
+    pub found_first : (x : ℕ) → binding_in first ≡ Some x → found_in (Some s) ≡ Some x
+    found_first x is = ap binding_in first_or_outer ∙ or_found first (resolve (chain scopes parent) name h) x is
+
+    pub found_outside : binding_in first ≡ None → found_in parent ≡ found_in (Some s)
+    found_outside is = sym (ap binding_in first_or_outer ∙ or_not_found first (resolve (chain scopes parent) name h) is)
+
+-- after it
 module _ (scopes : List Scope) (b : ℕ) (new name : List ℕ) (h : SyntaxContext) where
   -- what the name resolves to in a scope, if any
   abbrev pub found_from : Option ℕ → Option ℕ

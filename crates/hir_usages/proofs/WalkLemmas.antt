@@ -1,7 +1,7 @@
 -- What a run of child calls leaves to be visited, and what visiting a node finds.
-use Rattle.std.proofs.Common.{◌≡◌, ℕ, List, ◌∷◌, refl, ap, ◌∙◌, subst, Option, ◌<◌, [], ◌++◌, Some, None, length, sym, arith, append_assoc}
+use Rattle.std.proofs.Common.{◌≡◌, ℕ, List, ◌∷◌, refl, ap, ◌∙◌, subst, Option, ◌<◌, [], ◌++◌, Some, None, cond, length, sym, arith, append_assoc}
 use Rattle.std.proofs.lemmas.List.{append-nil}
-use Rattle.std.proofs.lemmas.List.{Concat.flat_map-append}
+use Rattle.std.proofs.lemmas.List.{Concat.flat_map-append, Elements.filter-append}
 use Rattle.std.specs.List.{slice_get}
 use Rattle.hir_node.specs.{ChildCalls.Call, ChildCalls.pat_calls, ChildCalls.type_calls, Runs.Runs, Runs.no_call, Runs.a_call}
 use Rattle.hir_node.specs.declared.{expr.Expr.Expr, node_id.NodeId.NodeId, pat.Pat.Pat, type_ref.TypeRef.TypeRef}
@@ -11,13 +11,18 @@ use Rattle.hir_collections.specs.Stacks.{Defers}
 use Rattle.hir_collections.proofs.DeferredLemmas.{defers_none, defers_two}
 use Rattle.hir_scope.specs.ScopingForms.{form_of, form_at, expr_form, pat_form, type_form}
 use Rattle.hir_scope.specs.{Order.met_in_form, Scopes.Scopes}
+use Rattle.hir_scope.specs.PathResolution.{local_name, resolve_path, resolved_by_expr, binding_at, resolved_by_pat, target_binding_at}
+use Rattle.hir_store_core.specs.SideTables.{hygiene_of}
 use Rattle.hir_captures.specs.Uses.{Spot, spot, if_assignment, assignment_at}
-use Rattle.hir_path.specs.declared.{ids.ExprOrPatId.ExprOrPatId, path.Path.Path}
+use Rattle.hir_path.specs.declared.path.Path.{Path}
+use Rattle.hir_path.specs.declared.ids.ExprOrPatId.TheVariants.{ExprId, PatId}
 use Rattle.hir_node.specs.OtherIds.{pat_bindings}
 use Rattle.hir_validate.specs.TestedParts.{all_of}
 use Rattle.hir_usages.specs.Usages.{usage_with, usages_of_expr, usages_of_pat, usages_at, usages_in, bound_at, bound_in}
 use Rattle.hir_usages.specs.declared.{to_visit.Task.Task, to_visit.ToVisit.ToVisit, usage.Usage.Usage, walk.Walk.Walk}
 use Rattle.hir_usages.specs.internal.Pending.{task_of, tasks_of, pat_task, task_node, task_target, visits_of, AreInRange}
+use Rattle.hir_usages.specs.Renames.{name_of_expr, name_of_pat, name_at}
+use Rattle.hir_usages.specs.internal.Wanted.{is_wanted, wanted_among, wanted_at, if_wanted, usage_of_expr, usage_of_pat}
 use Rattle.hir_usages.specs.internal.Reading.{FoundLists, with_visit, with_visits, with_tasks, Reads}
 use Rattle.hir_usages.proofs.VisitLemmas.{visits_left, children_in_range}
 use Rattle.hir_usages.specs.Visits.{visits_under}
@@ -59,11 +64,19 @@ module _ (w : Walk) where
   abbrev c : Contents
   c = w.store.now
 
+  -- those that are searched for of some uses
+  abbrev wanted : List Usage → List Usage
+  wanted us = wanted_among w.wanted c.nodes us
+
   -- what visits add is what their uses and bindings are
-  pub added : (found : FoundLists) (spots : List Spot) → (with_visits w found spots).usages ≡ found.usages ++ usages_in c w.scopes.now spots
+  pub added : (found : FoundLists) (spots : List Spot) → (with_visits w found spots).usages ≡ found.usages ++ wanted_among w.wanted c.nodes (usages_in c w.scopes.now spots)
   added found [] = sym (append-nil found.usages)
   added found (x ∷ xs) =
-      added (with_visit w found x) xs ∙ append_assoc found.usages (usages_at c w.scopes.now x.node x.assignment) (usages_in c w.scopes.now xs)
+      let here = usages_at c w.scopes.now x.node x.assignment in
+      let later = usages_in c w.scopes.now xs in
+      added (with_visit w found x) xs
+      ∙ (append_assoc found.usages (wanted here) (wanted later)
+      ∙ ap (λ (us : List Usage). found.usages ++ us) (sym (filter-append (λ (u : Usage). is_wanted w.wanted (name_at c.nodes u.path) u) here later)))
 
   pub added_bound : (found : FoundLists) (spots : List Spot) → (with_visits w found spots).bound ≡ found.bound ++ bound_in c.nodes spots
   added_bound found [] = sym (append-nil found.bound)
@@ -81,7 +94,7 @@ module _ (w : Walk) where
         ∙ ap (λ (xs : List Spot). spot (task_node t) (task_target t) ∷ xs) (sym (flat_map-append (λ (x : Task). visits_under c.nodes (task_node x) (task_target x)) children rest))
 
     -- one node is visited
-    visit_one : AreInRange c.nodes (t ∷ rest) → after.usages ≡ before.usages ++ usages_at c w.scopes.now (task_node t) (task_target t) → after.bound ≡ before.bound ++ bound_at c.nodes (task_node t) →
+    visit_one : AreInRange c.nodes (t ∷ rest) → after.usages ≡ before.usages ++ wanted_at w (task_node t) (task_target t) → after.bound ≡ before.bound ++ bound_at c.nodes (task_node t) →
         new ≡ deferred → Reads w before (t ∷ rest) after new
     visit_one in_range usages bound is =
         let found : after ≡ with_visit w before (spot (task_node t) (task_target t)) = λ i. listed (usages i) (bound i) in
@@ -94,15 +107,49 @@ module _ (w : Walk) where
           shorter = omega (arith, ap (length {A = Spot}) visits_now, ap (λ (ts : List Task). length (visits_of c.nodes ts)) is);
         }
 
-  pub visit_expr : RankDecreases c.nodes → (id : ℕ) (x : Expr) (rest new : List Task) (before after : FoundLists) → slice_get c.nodes.exprs id ≡ Some x → AreInRange c.nodes (Task.Expr id ∷ rest) →
-      after.usages ≡ before.usages ++ usages_at c w.scopes.now (NodeId.Expr id) None → after.bound ≡ before.bound →
-      new ≡ tasks_of (if_assignment id (Some x)) (met_in_form (expr_form x)) ++ rest → Reads w before (Task.Expr id ∷ rest) after new
-  visit_expr fall id x rest new before after is in_range usages bound deferred =
-      visit_one fall (Task.Expr id) rest new before after in_range usages (bound ∙ sym (append-nil before.bound))
+  -- an expression that asks for a name: nothing is inside it
+  named_alone : (id : ℕ) (path : Path) (name : List ℕ) (rest : List Task) → local_name path ≡ Some name → rest ≡ tasks_of (if_assignment id (Some (Expr.Path path))) (met_in_form (expr_form (Expr.Path path))) ++ rest
+  named_alone id (Path.BarePath path) name rest e = refl
+  named_alone id (Path.Normal path) name rest e = absurd cc
+  named_alone id (Path.LangItem target segment) name rest e = absurd cc
+
+  uses_here : (id : ℕ) (path : Path) (name : List ℕ) → slice_get c.nodes.exprs id ≡ Some (Expr.Path path) → local_name path ≡ Some name → usages_of_expr c w.scopes.now id (slice_get c.nodes.exprs id) ≡ usage_of_expr w id name ∷ []
+  uses_here id path name is asks =
+      ap (usages_of_expr c w.scopes.now id) is
+      ∙ (ap (usage_with (ExprId id) id (binding_at c w.scopes.now id)) asks
+      ∙ ap (λ (q : Option ℕ). usage_with (ExprId id) id q (Some name)) (ap (resolved_by_expr c w.scopes.now id) is ∙ ap (resolve_path c w.scopes.now id (hygiene_of c.side_tables (ExprId id))) asks))
+
+  wanted_here : (id : ℕ) (path : Path) (name : List ℕ) → slice_get c.nodes.exprs id ≡ Some (Expr.Path path) → local_name path ≡ Some name → if_wanted w.wanted (usage_of_expr w id name) name ≡ wanted_at w (NodeId.Expr id) None
+  wanted_here id path name is asks =
+      let u = usage_of_expr w id name in
+      let named : name_at c.nodes (ExprId id) ≡ Some name = ap name_of_expr is ∙ asks in
+      ap (λ (q : Option (List ℕ)). cond (is_wanted w.wanted q u) (u ∷ []) []) (sym named) ∙ sym (ap wanted (uses_here id path name is asks))
+
+  pub visit_named : RankDecreases c.nodes → (id : ℕ) (x : Expr) (name : List ℕ) (rest : List Task) (before after : FoundLists) → slice_get c.nodes.exprs id ≡ Some x → name_of_expr (Some x) ≡ Some name →
+      AreInRange c.nodes (Task.Expr id ∷ rest) → after.usages ≡ before.usages ++ if_wanted w.wanted (usage_of_expr w id name) name → after.bound ≡ before.bound → Reads w before (Task.Expr id ∷ rest) after rest
+  visit_named fall id (Expr.Path path) name rest before after is asks in_range usages bound =
+      visit_one fall (Task.Expr id) rest rest before after in_range
+      (usages ∙ ap (λ (us : List Usage). before.usages ++ us) (wanted_here id path name is asks))
+      (bound ∙ sym (append-nil before.bound))
+      (named_alone id path name rest asks ∙ ap (λ (o : Option Expr). tasks_of (if_assignment id o) (met_in_form (form_at expr_form o)) ++ rest) (sym is))
+  visit_named fall id _ name rest before after is asks in_range usages bound = absurd cc
+
+  -- any other expression is no use
+  no_use : (id : ℕ) (x : Expr) → name_of_expr (Some x) ≡ None → usages_of_expr c w.scopes.now id (Some x) ≡ []
+  no_use id (Expr.Path path) none = ap (usage_with (ExprId id) id (binding_at c w.scopes.now id)) none
+  no_use id _ none = refl
+
+  pub visit_unnamed : RankDecreases c.nodes → (id : ℕ) (x : Expr) (rest new : List Task) (before : FoundLists) → slice_get c.nodes.exprs id ≡ Some x → name_of_expr (Some x) ≡ None →
+      AreInRange c.nodes (Task.Expr id ∷ rest) → new ≡ tasks_of (if_assignment id (Some x)) (met_in_form (expr_form x)) ++ rest → Reads w before (Task.Expr id ∷ rest) before new
+  visit_unnamed fall id x rest new before is none in_range deferred =
+      let nothing : usages_of_expr c w.scopes.now id (slice_get c.nodes.exprs id) ≡ [] = ap (usages_of_expr c w.scopes.now id) is ∙ no_use id x none in
+      visit_one fall (Task.Expr id) rest new before before in_range
+      (sym (append-nil before.usages) ∙ ap (λ (us : List Usage). before.usages ++ wanted us) (sym nothing))
+      (sym (append-nil before.bound))
       (deferred ∙ ap (λ (o : Option Expr). tasks_of (if_assignment id o) (met_in_form (form_at expr_form o)) ++ rest) (sym is))
 
   pub visit_pat : RankDecreases c.nodes → (id : ℕ) (x : Pat) (a : Option ℕ) (rest new : List Task) (before after : FoundLists) → slice_get c.nodes.pats id ≡ Some x → AreInRange c.nodes (pat_task a id ∷ rest) →
-      after.usages ≡ before.usages ++ usages_at c w.scopes.now (NodeId.Pat id) a → after.bound ≡ before.bound ++ bound_at c.nodes (NodeId.Pat id) →
+      after.usages ≡ before.usages ++ wanted_at w (NodeId.Pat id) a → after.bound ≡ before.bound ++ bound_at c.nodes (NodeId.Pat id) →
       new ≡ tasks_of a (pat_calls x) ++ rest → Reads w before (pat_task a id ∷ rest) after new
   visit_pat fall id x None rest new before after is in_range usages bound deferred =
       visit_one fall (Task.Pat id) rest new before after in_range usages bound
@@ -121,32 +168,41 @@ module _ (w : Walk) where
 
 -- 3. What one node adds.
 
--- a path that asks for no name, or for one
-pub adds_no_usage : (path : ExprOrPatId) (x : ℕ) (binding : Option ℕ) (o : Option (List ℕ)) (us : List Usage) → o ≡ None → us ++ usage_with path x binding o ≡ us
-adds_no_usage path x binding o us e = ap (λ (q : Option (List ℕ)). us ++ usage_with path x binding q) e ∙ append-nil us
-
-pub adds_usage : (path : ExprOrPatId) (x : ℕ) (binding : Option ℕ) (o : Option (List ℕ)) (name : List ℕ) (us : List Usage) → o ≡ Some name → us ++ usage_with path x binding o ≡ us ++ record { path = path; expr = x; binding = binding } ∷ []
-adds_usage path x binding o name us e = ap (λ (q : Option (List ℕ)). us ++ usage_with path x binding q) e
-
-no_path : (c : Contents) (scopes : Scopes) (id : ℕ) (x : Expr) → ((path : Path) → x ≡ Expr.Path path → ⊥) → usages_of_expr c scopes id (Some x) ≡ []
-no_path c scopes id (Expr.Path path) h = absurd (h path refl)
-no_path c scopes id _ h = refl
+pattern_uses : (c : Contents) (scopes : Scopes) (id a : ℕ) (path : Path) (o : Option (List ℕ)) → slice_get c.nodes.pats id ≡ Some (Pat.Path path) → local_name path ≡ o →
+    usages_of_pat c scopes id (Some a) (slice_get c.nodes.pats id) ≡ usage_with (PatId id) a (target_binding_at c scopes a id) o
+pattern_uses c scopes id a path o is asks = ap (usages_of_pat c scopes id (Some a)) is ∙ ap (usage_with (PatId id) a (target_binding_at c scopes a id)) asks
 
 no_path_pat : (c : Contents) (scopes : Scopes) (id : ℕ) (a : Option ℕ) (x : Pat) → ((path : Path) → x ≡ Pat.Path path → ⊥) → usages_of_pat c scopes id a (Some x) ≡ []
 no_path_pat c scopes id None x h = refl
 no_path_pat c scopes id (Some a) (Pat.Path path) h = absurd (h path refl)
 no_path_pat c scopes id (Some a) _ h = refl
 
-pub adds_no_expr : (c : Contents) (scopes : Scopes) (id : ℕ) (a : Option ℕ) (x : Expr) (us : List Usage) → slice_get c.nodes.exprs id ≡ Some x → ((path : Path) → x ≡ Expr.Path path → ⊥) → us ++ usages_at c scopes (NodeId.Expr id) a ≡ us
-adds_no_expr c scopes id a x us is h =
-    ap (λ (o : Option Expr). us ++ usages_of_expr c scopes id o) is ∙ (ap (λ (xs : List Usage). us ++ xs) (no_path c scopes id x h) ∙ append-nil us)
+module _ (w : Walk) (id : ℕ) (us : List Usage) where
+  abbrev d : Contents
+  d = w.store.now
 
-pub adds_no_pat : (c : Contents) (scopes : Scopes) (id : ℕ) (a : Option ℕ) (x : Pat) (us : List Usage) → slice_get c.nodes.pats id ≡ Some x → ((path : Path) → x ≡ Pat.Path path → ⊥) → us ++ usages_at c scopes (NodeId.Pat id) a ≡ us
-adds_no_pat c scopes id a x us is h =
-    ap (λ (o : Option Pat). us ++ usages_of_pat c scopes id a o) is ∙ (ap (λ (xs : List Usage). us ++ xs) (no_path_pat c scopes id a x h) ∙ append-nil us)
+  -- a path in a target that asks for a name, or for none
+  pub adds_target : (a : ℕ) (path : Path) (name : List ℕ) → slice_get d.nodes.pats id ≡ Some (Pat.Path path) → local_name path ≡ Some name →
+      us ++ if_wanted w.wanted (usage_of_pat w id a name) name ≡ us ++ wanted_at w (NodeId.Pat id) (Some a)
+  adds_target a path name is asks =
+      let u = usage_of_pat w id a name in
+      let named : name_at d.nodes (PatId id) ≡ Some name = ap name_of_pat is ∙ asks in
+      let resolves : target_binding_at d w.scopes.now a id ≡ u.binding = ap (resolved_by_pat d w.scopes.now a id) is ∙ ap (resolve_path d w.scopes.now a (hygiene_of d.side_tables (PatId id))) asks in
+      let uses = pattern_uses d w.scopes.now id a path (Some name) is asks ∙ ap (λ (q : Option ℕ). usage_with (PatId id) a q (Some name)) resolves in
+      ap (λ (q : Option (List ℕ)). us ++ cond (is_wanted w.wanted q u) (u ∷ []) []) (sym named)
+      ∙ ap (λ (xs : List Usage). us ++ wanted_among w.wanted d.nodes xs) (sym uses)
 
-pub adds_in_no_target : (c : Contents) (scopes : Scopes) (id : ℕ) (us : List Usage) → us ++ usages_at c scopes (NodeId.Pat id) None ≡ us
-adds_in_no_target c scopes id us = append-nil us
+  pub adds_no_name : (a : ℕ) (path : Path) → slice_get d.nodes.pats id ≡ Some (Pat.Path path) → local_name path ≡ None → us ++ wanted_at w (NodeId.Pat id) (Some a) ≡ us
+  adds_no_name a path is asks =
+      ap (λ (xs : List Usage). us ++ wanted_among w.wanted d.nodes xs) (pattern_uses d w.scopes.now id a path None is asks) ∙ append-nil us
+
+  pub adds_no_pat : (a : Option ℕ) (x : Pat) → slice_get d.nodes.pats id ≡ Some x → ((path : Path) → x ≡ Pat.Path path → ⊥) → us ++ wanted_at w (NodeId.Pat id) a ≡ us
+  adds_no_pat a x is h =
+      ap (λ (o : Option Pat). us ++ wanted_among w.wanted d.nodes (usages_of_pat d w.scopes.now id a o)) is
+      ∙ (ap (λ (xs : List Usage). us ++ wanted_among w.wanted d.nodes xs) (no_path_pat d w.scopes.now id a x h) ∙ append-nil us)
+
+  pub adds_in_no_target : us ++ wanted_at w (NodeId.Pat id) None ≡ us
+  adds_in_no_target = append-nil us
 
 no_bind : (x : Pat) → ((id : ℕ) (subpat : Option ℕ) → x ≡ Pat.Bind id subpat → ⊥) → pat_bindings x ≡ []
 no_bind (Pat.Bind id subpat) h = absurd (h id subpat refl)
@@ -156,4 +212,4 @@ pub binds_nothing : (s : Nodes) (id : ℕ) (x : Pat) (bs : List ℕ) → slice_g
 binds_nothing s id x bs is h =
     ap (λ (o : Option Pat). bs ++ all_of pat_bindings o) is ∙ (ap (λ (ys : List ℕ). bs ++ ys) (no_bind x h) ∙ append-nil bs)
 
-pub ruleset reads = (visit_expr, visit_pat, visit_type, adds_no_usage, adds_usage, adds_no_expr, adds_no_pat, adds_in_no_target, binds_nothing)
+pub ruleset reads = (visit_named, visit_unnamed, visit_pat, visit_type, adds_target, adds_no_name, adds_no_pat, adds_in_no_target, binds_nothing)

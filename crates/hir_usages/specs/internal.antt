@@ -4,3 +4,4 @@ pub mod Pending
 pub mod Reading
 pub mod RenamedUses
 pub mod Seen
+pub mod Wanted

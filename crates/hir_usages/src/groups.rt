@@ -75,12 +75,16 @@ impl Groups {
         }
     }
 
-    /// Returns these uses in groups.
-    pub(crate) fn new(alloc: Global, usages: &Vec<Usage>) -> Result<Groups, AllocError>
+    /// Returns these uses in groups. There is room for this number of bindings.
+    pub(crate) fn new(
+        alloc: Global,
+        usages: &Vec<Usage>,
+        bindings: usize,
+    ) -> Result<Groups, AllocError>
         ensures { IfOk result (λ made. AreGroups usages.now.items made.by_binding made.unresolved.items) }
     {
         let mut groups = Groups {
-            by_binding: ArenaMap::new(alloc),
+            by_binding: ArenaMap::with_capacity(alloc, bindings)?,
             unresolved: Vec::new(alloc),
         };
         for usage in usages {

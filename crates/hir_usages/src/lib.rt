@@ -6,6 +6,7 @@ mod distinct;
 mod found;
 mod groups;
 pub mod laws;
+mod lookup;
 mod rename_fault;
 mod renamed_body;
 mod renames;

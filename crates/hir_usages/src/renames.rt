@@ -1,19 +1,21 @@
 //! The rename of a binding: the uses that change with it, or the first reason why there is none.
-ghost use Rattle.std.specs.Prelude.{◌≡◌, ◌∷◌, ◌++◌, [], ◌⊎◌, None, Some, IfErr, IfOk, OnOk, if◌then◌else◌};
+ghost use Rattle.std.specs.Prelude.{◌≡◌, ◌<◌, length, ◌∷◌, ◌++◌, [], ◌⊎◌, None, Some, IfErr, IfOk, OnOk, if◌then◌else◌};
 ghost use Rattle.hir_scope.specs.BodyScopes.{AreBodyScopes};
 ghost use Rattle.hir_usages.specs.Kept.{IsWhyNot, MayBeRenamed};
 ghost use Rattle.hir_usages.specs.Usages.{resolves_to, usages_of, usages_of_body};
-ghost use Rattle.hir_usages.specs.Renames.{first_some, has_entry, is_bound, is_self_name, is_self_param, other_among, other_beside, other_of, refusal, refusal_of, rename_fault};
+ghost use Rattle.hir_usages.specs.Renames.{first_conflict, first_some, has_entry, is_bound, is_self_name, is_self_param, other_among, other_beside, other_of, refusal, refusal_of, rename_fault};
 
 use crate::laws::renames_are_exact;
 use crate::rename_fault::RenameFault;
 use crate::renaming::Renaming;
 use crate::usage::Usage;
 use crate::usages::find;
+use crate::walk::{Walk, Wanted};
 use hir_base::{HygieneId, Name};
 use hir_body::{Body, Param};
 use hir_node::{Binding, BindingId};
 use hir_scope::{ExprScopes, ScopeEntry, ScopeId};
+use hir_store_core::laws::rank_decreases;
 use std::alloc::{AllocError, Global};
 
 /// Returns whether a binding is one of the two of the self parameter.
@@ -171,6 +173,33 @@ fn usages_of(alloc: Global, usages: &[Usage], binding: BindingId) -> Result<Vec<
     Ok(found)
 }
 
+/// Returns those uses of a body that may resolve to something else where a binding takes a name: its own, and
+/// those that ask for the name. Any other finds the entry that it finds now.
+fn affected_uses<'a>(
+    alloc: Global,
+    body: &'a Body,
+    scopes: &'a ExprScopes,
+    binding: BindingId,
+    name: &'a str,
+) -> Result<Vec<Usage>, AllocError>
+    requires { binding < length body.now.store.nodes.bindings }
+    ensures own { IfOk result (λ found. usages_of binding found.items
+        ≡ usages_of binding (usages_of_body body.now scopes.now)) }
+    ensures conflict { IfOk result (λ found.
+        first_conflict body.now.store scopes.now binding name.now found.items
+        ≡ first_conflict body.now.store scopes.now binding name.now (usages_of_body body.now scopes.now)) }
+{
+    body.store().has_no_fault();
+    rank_decreases();
+    let walk = Walk {
+        store: body.store(),
+        scopes,
+        wanted: Wanted::OfRename(binding, name),
+    };
+    let found = find(alloc, body, &walk)?;
+    Ok(found.usages)
+}
+
 /// Returns the uses that take the new name when a binding takes it, or the first fault by these scopes.
 fn uses_to_rename(
     alloc: Global,
@@ -194,11 +223,11 @@ fn uses_to_rename(
         binding,
         name: name.as_str(),
     };
-    let found = find(alloc, body, scopes)?;
-    if let Some(conflict) = renaming.first_conflict(found.usages.as_slice()) {
+    let affected = affected_uses(alloc, body, scopes, binding, name.as_str())?;
+    if let Some(conflict) = renaming.first_conflict(affected.as_slice()) {
         return Err(conflict);
     }
-    Ok(usages_of(alloc, found.usages.as_slice(), binding)?)
+    Ok(usages_of(alloc, affected.as_slice(), binding)?)
 }
 
 /// Returns the uses that take the new name when a binding takes it, in the order of the walk, or why the

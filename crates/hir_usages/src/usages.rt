@@ -4,6 +4,7 @@ ghost use Rattle.std.specs.Option.{option_to_list};
 ghost use Rattle.hir_body.specs.Bodies.{formals_of};
 ghost use Rattle.hir_usages.specs.Visits.{visits};
 ghost use Rattle.hir_usages.specs.internal.Pending.{AreInRange, visits_of};
+ghost use Rattle.hir_usages.specs.internal.Wanted.{wanted_among};
 ghost use Rattle.hir_usages.specs.Usages.{bound_by_body, found_in_body, unresolved_in, usages_of, usages_of_body};
 ghost use Rattle.hir_usages.specs.declared.to_visit.Task.TheVariants as task;
 ghost use Rattle.std.specs.Slice.Iter.{iter_rest};
@@ -13,7 +14,7 @@ use crate::found::Found;
 use crate::groups::Groups;
 use crate::to_visit::{Task, ToVisit};
 use crate::usage::Usage;
-use crate::walk::Walk;
+use crate::walk::{Walk, Wanted};
 use hir_body::laws::entry_nodes_are_in_range;
 use hir_body::{Body, Param};
 use hir_node::{BindingId, PatId};
@@ -87,18 +88,31 @@ fn first_found(alloc: Global, self_param: Option<Param<BindingId>>) -> Result<Fo
     }
 }
 
-/// Returns the uses of a body, and what it binds, in the order of the walk.
-pub(crate) fn find(alloc: Global, body: &Body, scopes: &ExprScopes) -> Result<Found, AllocError>
-    ensures usages { IfOk result (λ found. found.usages.items ≡ usages_of_body body.now scopes.now) }
+/// Returns those of the uses of a body that a walk over its store searches for, and what the body binds, in
+/// the order of the walk.
+pub(crate) fn find(alloc: Global, body: &Body, walk: &Walk<'_>) -> Result<Found, AllocError>
+    requires { walk.now.store.now ≡ body.now.store }
+    ensures usages { IfOk result (λ found. found.usages.items
+        ≡ wanted_among walk.now.wanted body.now.store.nodes (usages_of_body body.now walk.now.scopes.now)) }
     ensures bound { IfOk result (λ found. found.bound.items ≡ bound_by_body body.now) }
 {
     let mut found = first_found(alloc, body.self_param())?;
     let mut unread = first_visits(alloc, body)?;
+    walk.run(&mut unread, &mut found)?;
+    Ok(found)
+}
+
+/// Returns the uses of a body, and what it binds, in the order of the walk.
+fn find_all<'a>(alloc: Global, body: &'a Body, scopes: &'a ExprScopes) -> Result<Found, AllocError>
+    ensures usages { IfOk result (λ found. found.usages.items ≡ usages_of_body body.now scopes.now) }
+    ensures bound { IfOk result (λ found. found.bound.items ≡ bound_by_body body.now) }
+{
     let walk = Walk {
         store: body.store(),
         scopes,
+        wanted: Wanted::All,
     };
-    walk.run(&mut unread, &mut found)?;
+    let found = find(alloc, body, &walk)?;
     Ok(found)
 }
 
@@ -114,9 +128,9 @@ impl Usages {
     pub fn new(alloc: Global, body: &Body, scopes: &ExprScopes) -> Result<Usages, AllocError>
         ensures { IfOk result (λ made. made ≡ found_in_body body.now scopes.now) }
     {
-        let found = find(alloc, body, scopes)?;
-        let groups = Groups::new(alloc, &found.usages)?;
+        let found = find_all(alloc, body, scopes)?;
         let bindings = body.store().bindings().len();
+        let groups = Groups::new(alloc, &found.usages, bindings)?;
         let unused = groups.unused(alloc, &found.bound, bindings)?;
         Ok(Usages {
             all: found.usages,

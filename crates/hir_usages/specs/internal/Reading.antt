@@ -2,9 +2,9 @@
 use Rattle.std.specs.Prelude.{◌≡◌, ◌<◌, List, ◌++◌, fold, length}
 use Rattle.hir_path.specs.NodeIds.{BindingId}
 use Rattle.hir_captures.specs.Uses.{Spot}
-use Rattle.hir_usages.specs.Usages.{usages_at, bound_at}
+use Rattle.hir_usages.specs.Usages.{bound_at}
 use Rattle.hir_usages.specs.declared.{found.Found.Found, walk.Walk.Walk, to_visit.Task.Task, usage.Usage.Usage}
-use Rattle.hir_usages.specs.internal.Pending.{AreInRange, visits_of}
+use Rattle.hir_usages.specs.internal.{Pending.AreInRange, Pending.visits_of, Wanted.wanted_at}
 
 -- what was found, as lists
 pub record FoundLists : Type 0 where
@@ -14,10 +14,10 @@ pub record FoundLists : Type 0 where
 abbrev pub lists_of : Found → FoundLists
 lists_of found = record { usages = found.usages.items; bound = found.bound.items }
 
--- a visit adds the use that the node is, and what it binds
+-- a visit adds the use that the node is, where it is searched for, and what it binds
 abbrev pub with_visit : Walk → FoundLists → Spot → FoundLists
 with_visit w found at = record {
-  usages = found.usages ++ usages_at w.store.now w.scopes.now at.node at.assignment;
+  usages = found.usages ++ wanted_at w at.node at.assignment;
   bound = found.bound ++ bound_at w.store.now.nodes at.node;
 }
 

@@ -1,5 +1,5 @@
 -- The nodes in which the path of one use has a new name.
-use Rattle.hir_usages.specs.Prelude.{List, Name, Nodes}
+use Rattle.hir_usages.specs.Prelude.{Name, Nodes}
 use Rattle.hir_usages.specs.declared.usage.Usage.{Usage}
 use Rattle.hir_usages.specs.Renamed.{rename_path}
 
