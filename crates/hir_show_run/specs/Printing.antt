@@ -1,5 +1,5 @@
 -- What `print` writes: the body as that of function 0.
-use Rattle.std.specs.Prelude.{ℕ, false, List, [], ◌++◌, Option, codes}
+use Rattle.std.specs.Prelude.{ℕ, false, List, [], ◌++◌, Option, None, codes, unwrap_or}
 use Rattle.std.specs.FinMap as map
 use Rattle.hir_base.specs.Keys.{named_code}
 use Rattle.hir_base.specs.declared.defs.DefWithBodyId.TheVariants as body
@@ -18,6 +18,10 @@ use Rattle.hir_pretty.specs.FoundParts.{parents}
 -- the tables have the name of function 0, or that it has none, and nothing else
 abbrev pub tables_of : Option (List ℕ) → Tables
 tables_of name = record no_tables { names = map.insert map.empty (named_code (named.FunctionId 0)) name }
+
+-- the name that tables have of function 0, if they have one
+abbrev pub name_of : Tables → Option (List ℕ)
+name_of t = unwrap_or (map.get t.names (named_code (named.FunctionId 0))) None
 
 -- the body's store, these tables, no raw words, and lines
 abbrev pub printed_from : Option (List ℕ) → BodyContents → PrintEnv

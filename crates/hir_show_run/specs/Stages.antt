@@ -17,6 +17,7 @@ use Rattle.hir_store_core.specs.Contents.{Contents}
 use Rattle.hir_store.specs.Building.{Building, contents_of, finish_fault}
 use Rattle.hir_show_run.specs.declared.fault.RunFault.{RunFault}
 use Rattle.hir_show_run.specs.declared.fault.RunFault.TheVariants.{Refused, BodyRefused, OutputFailed}
+use Rattle.hir_show_run.specs.Answer.{NamedBody}
 use Rattle.hir_show_run.specs.Parts.{Parts, is_second, with_line}
 use Rattle.hir_show_run.specs.Outcomes.{Outcomes}
 use Rattle.hir_show_run.specs.Output.{Output, Wrote, WrotePrefix, PutsText}
@@ -92,10 +93,11 @@ Finishes built result =
     Outcomes (λ store. (store ≡ contents_of built) × finish_fault built None) (λ number. ⊥)
     (λ fault. (first : FinishFault) × (fault ≡ Refused first) × finish_fault built (Some first)) ⊥ ⊥ ⊤ result
 
--- what the parts of a body give: the body; or they have this first fault, or an allocation fails
-abbrev pub IsBodyOf : BodyContents → Result BodyContents RunFault → Type 0
-IsBodyOf parts result =
-    Outcomes (λ body. (body ≡ parts) × body_fault parts None) (λ number. ⊥)
+-- what the parts of a body, of a function of this name, give: the body; or they have this first fault, or an
+-- allocation fails
+abbrev pub IsBodyOf : BodyContents → Option (List ℕ) → Result NamedBody RunFault → Type 0
+IsBodyOf parts name result =
+    Outcomes (λ named. (named ≡ record { body = parts; name = name }) × body_fault parts None) (λ number. ⊥)
     (λ fault. (first : BodyFault) × (fault ≡ BodyRefused first) × body_fault parts (Some first)) ⊥ ⊥ ⊤ result
 
 -- these lines may be asked, and this is the text of their answers

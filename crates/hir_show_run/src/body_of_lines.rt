@@ -2,9 +2,12 @@
 //! comes that needs them.
 
 ghost use Rattle.std.specs.Prelude.{◌≡◌, List, ℕ, IfOk, IfSome, OnOk, OnErr};
+ghost use Rattle.std.specs.Borrow.{sem};
+ghost use Rattle.std.specs.Io.BufRead.{Rests};
+ghost use Rattle.std.specs.contracts.option.Option as option;
+ghost use Rattle.hir_scope.specs.contracts.expr_scopes.ExprScopes as made;
 ghost use Rattle.hir_scope.specs.BodyScopes.{AreBodyScopes};
 ghost use Rattle.hir_show_run.specs.Answer.{IsBodyAnswer};
-ghost use Rattle.hir_show_run.specs.Printing.{print_text};
 ghost use Rattle.hir_show_run.specs.OfLines.{AreOfLines};
 ghost use Rattle.hir_show_run.specs.Output.{OutputsText, Untouched};
 
@@ -12,9 +15,10 @@ use crate::answer::answer_store;
 use crate::asking::{Answers, MemoryRefused};
 use crate::captures::answer_captures;
 use crate::output::Output;
-use crate::printing::answer_print;
+use crate::printing::{answer_print, tables_of};
 use crate::scope_answers::{answer_chain, answer_resolve};
 use hir_base::Name;
+use hir_defs::Tables;
 use hir_items::Body;
 use hir_scope::{ExprScopes, ScopesFault};
 use hir_show_grammar::{BodyQuestion, Question};
@@ -22,20 +26,21 @@ use hir_show_io::Sink;
 use std::alloc::Global;
 use std::marker::Model;
 
-/// A body whose nodes are those of lines, with the name of the function that it is printed as. Its model
-/// leaves the scopes out.
+/// A body whose nodes are those of lines, and the tables that it is printed from, which have the name of its
+/// function alone. Its model leaves the scopes out.
 #[derive(Drop)]
 pub(crate) struct BodyOfLines {
     body: Body,
-    name: Option<Name>,
+    tables: Tables,
     scopes: Option<ExprScopes>,
 }
 
 impl Model for BodyOfLines {
-    ghost use Rattle.std.specs.Prelude.{IfSome};
+    ghost use Rattle.std.specs.Prelude.{◌≡◌, IfSome};
     ghost use Rattle.hir_scope.specs.BodyScopes.{AreBodyScopes};
     ghost use Rattle.hir_show_run.specs.Answer.{NamedBody};
     ghost use Rattle.hir_show_run.specs.OfLines.{AreOfLines};
+    ghost use Rattle.hir_show_run.specs.Printing.{name_of, tables_of};
 
     ghost Value = { NamedBody };
 
@@ -44,25 +49,18 @@ impl Model for BodyOfLines {
 
     ghost coded = { Prim.hlevel (codes, stored.the_row.coded) };
 
-    ghost view = { λ b. record { body = b.body; name = b.name } };
+    ghost view = { λ b. record { body = b.body; name = name_of b.tables } };
 
-    ghost invariant = { λ b. AreOfLines b.body.store.nodes × IfSome b.scopes (AreBodyScopes b.body) };
+    ghost invariant = { λ b. AreOfLines b.body.store.nodes × (b.tables ≡ tables_of (name_of b.tables))
+        × IfSome b.scopes (AreBodyScopes b.body) };
 }
 
-/// The scopes of a body: those that were kept, or new ones.
+/// The scopes of a body.
 ///
 /// Returns `MemoryRefused` where an allocation fails, or where the body needs more scopes than there may be.
-fn scopes_of(
-    alloc: Global,
-    body: &Body,
-    kept: Option<ExprScopes>,
-) -> Result<ExprScopes, MemoryRefused>
-    requires { IfSome kept (AreBodyScopes body.now) }
+fn new_scopes(alloc: Global, body: &Body) -> Result<ExprScopes, MemoryRefused>
     ensures { IfOk result (AreBodyScopes body.now) }
 {
-    if let Some(scopes) = kept {
-        return Ok(scopes);
-    }
     match ExprScopes::new_body(alloc, body) {
         Ok(scopes) => Ok(scopes),
         Err(ScopesFault::Missing) => unreachable!(),
@@ -70,50 +68,42 @@ fn scopes_of(
     }
 }
 
+/// Lends the scopes of a body, which the first call makes.
+///
+/// Returns `MemoryRefused` as `new_scopes` does.
+fn scopes_of<'a>(
+    alloc: Global,
+    body: &Body,
+    scopes: &'a mut Option<ExprScopes>,
+) -> Result<&'a ExprScopes, MemoryRefused>
+    requires { IfSome scopes.old (AreBodyScopes body.now) }
+    ensures* kept { sem 𝓛 (Rests (option.the_row made.the_row) scopes.entry
+        (λ kept. IfSome kept (AreBodyScopes body.now))) }
+    ensures lent { IfOk result (λ scopes. AreBodyScopes body.now scopes.now) }
+{
+    match scopes {
+        Some(scopes) => Ok(scopes),
+        None => Ok(scopes.insert(new_scopes(alloc, body)?)),
+    }
+}
+
 impl BodyOfLines {
-    /// A body that lines made, and the name of its function.
-    pub(crate) fn new(body: Body, name: Option<Name>) -> BodyOfLines
+    /// A body that lines made, of a function of this name.
+    ///
+    /// Returns `MemoryRefused` where an allocation fails.
+    pub(crate) fn new(
+        alloc: Global,
+        body: Body,
+        name: Option<Name>,
+    ) -> Result<BodyOfLines, MemoryRefused>
         requires { AreOfLines body.store.nodes }
-        ensures { result ≡ record { body = body; name = name } }
+        ensures { IfOk result (λ named. named ≡ record { body = body; name = name }) }
     {
-        BodyOfLines {
+        Ok(BodyOfLines {
             body,
-            name,
+            tables: tables_of(alloc, name.as_ref())?,
             scopes: None,
-        }
-    }
-
-    /// The body.
-    fn body(&self) -> &Body
-        ensures { result.now ≡ self.now.body }
-    {
-        &self.body
-    }
-
-    /// Takes the scopes out, or makes them where none were kept.
-    fn take_scopes(&mut self, alloc: Global) -> Result<ExprScopes, MemoryRefused>
-        ensures same { self.new ≡ self.old }
-        ensures scopes { IfOk result (AreBodyScopes self.new.body) }
-    {
-        let kept = self.scopes.take();
-        scopes_of(alloc, &self.body, kept)
-    }
-
-    /// Keeps scopes for the questions to come.
-    fn keep_scopes(&mut self, scopes: ExprScopes)
-        requires { AreBodyScopes self.old.body scopes }
-        ensures { self.new ≡ self.old }
-    {
-        self.scopes = Some(scopes);
-    }
-
-    /// Answers `print` by the body's text.
-    fn print<W: Sink>(&self, alloc: Global, output: &mut Output<'_, W>) -> Result<(), MemoryRefused>
-        ensures ok { OnOk result (OutputsText W.Sink output.old output.new
-            (print_text self.now.name self.now.body)) }
-        ensures memory { OnErr result (Untouched W.Sink output.old output.new) }
-    {
-        answer_print(alloc, &self.body, self.name.as_ref(), output)
+        })
     }
 
     /// Writes the answer to a question on a body by one line, or by the body's text.
@@ -132,23 +122,19 @@ impl BodyOfLines {
     {
         match question {
             BodyQuestion::Chain(id) => {
-                let scopes = self.take_scopes(alloc)?;
-                answer_chain(&scopes, id, output);
-                self.keep_scopes(scopes);
+                let scopes = scopes_of(alloc, &self.body, &mut self.scopes)?;
+                answer_chain(scopes, id, output);
                 Ok(())
             }
             BodyQuestion::Resolve(id, name, hygiene) => {
-                let scopes = self.take_scopes(alloc)?;
-                answer_resolve(&scopes, id, &name, hygiene, output);
-                self.keep_scopes(scopes);
+                let scopes = scopes_of(alloc, &self.body, &mut self.scopes)?;
+                answer_resolve(scopes, id, &name, hygiene, output);
                 Ok(())
             }
-            BodyQuestion::Print => self.print(alloc, output),
+            BodyQuestion::Print => answer_print(alloc, &self.body, &self.tables, output),
             BodyQuestion::Captures(id) => {
-                let scopes = self.take_scopes(alloc)?;
-                let answered = answer_captures(alloc, self.body(), &scopes, id, output);
-                self.keep_scopes(scopes);
-                answered
+                let scopes = scopes_of(alloc, &self.body, &mut self.scopes)?;
+                answer_captures(alloc, &self.body, scopes, id, output)
             }
         }
     }
@@ -170,7 +156,7 @@ impl Answers for BodyOfLines {
         output: &mut Output<'_, W>,
     ) -> Result<Option<Question>, MemoryRefused> {
         match question {
-            Question::OfStore(asked) => answer_store(self.body().store(), asked, output),
+            Question::OfStore(asked) => answer_store(self.body.store(), asked, output),
             Question::OfBody(asked) => self.answer_body(alloc, asked, output)?,
         }
         Ok(None)

@@ -7,6 +7,7 @@ ghost use Rattle.hir_show_io.specs.LineState.{LineState};
 ghost use Rattle.hir_items.specs.Bodies.{body_of};
 ghost use Rattle.hir_store.specs.Building.{building_of};
 ghost use Rattle.hir_show_run.specs.Faults.{status_of};
+ghost use Rattle.hir_show_run.specs.OfLines.{AreOfLines};
 ghost use Rattle.hir_show_run.specs.Outcomes.{is_input_failed, is_output_failed};
 ghost use Rattle.hir_show_run.specs.Output.{output_of};
 ghost use Rattle.hir_show_run.specs.RunStates.{run_state_of};
@@ -23,7 +24,7 @@ use crate::disposal::Disposal;
 use crate::fault::RunFault;
 use crate::output::{Output, close};
 use crate::reporting::report;
-use hir_base::Seq;
+use hir_base::{Name, Seq};
 use hir_items::{Body, Param};
 use hir_node::{BindingId, PatId};
 use hir_show_grammar::laws::said_is_written;
@@ -39,16 +40,19 @@ fn finish(builder: ExpressionStoreBuilder) -> Result<ExpressionStore, RunFault>
     Ok(store)
 }
 
-/// The body of these parts, or why there is none.
+/// The body of these parts, of a function of this name, or why there is none.
 fn body_of_parts(
     alloc: Global,
     store: ExpressionStore,
     params: Seq<Param<PatId>>,
     self_param: Option<Param<BindingId>>,
-) -> Result<Body, RunFault>
-    ensures { IsBodyOf (body_of store params self_param) result }
+    name: Option<Name>,
+) -> Result<BodyOfLines, RunFault>
+    requires { AreOfLines store.nodes }
+    ensures { IsBodyOf (body_of store params self_param) name result }
 {
-    Ok(Body::new(alloc, store, params, self_param)?)
+    let body = Body::new(alloc, store, params, self_param)?;
+    Ok(BodyOfLines::new(alloc, body, name)?)
 }
 
 /// Makes what the lines before the first question make, and writes the answers. The last ones may still
@@ -96,8 +100,7 @@ fn answer_script<R: Source, W: Sink>(
         }
     };
     said_is_written();
-    let whole = body_of_parts(alloc, store, params, self_param)?;
-    let mut body = BodyOfLines::new(whole, name);
+    let mut body = body_of_parts(alloc, store, params, self_param, name)?;
     let unasked = answer_lines(alloc, &mut body, on_body, lines, reader, output)?;
     disposal.release(body);
     match unasked {
