@@ -95,13 +95,13 @@ build_writes_none X known now parts (Refused fault) b = absurd b
 build_writes_none X known now parts (BodyRefused fault) b = absurd b
 
 -- what was made is tested, and nothing is read or written
-pub body_reads_none : (X : Type 0) (parts : BodyContents) (e : RunFault) → IsBodyOf parts (Err e) → (is_input_failed {X = X} (Err e) ≡ false) × (is_output_failed {X = X} (Err e) ≡ false)
-body_reads_none X parts (Refused fault) m = (refl, refl)
-body_reads_none X parts (BodyRefused fault) m = (refl, refl)
-body_reads_none X parts OutOfMemory m = (refl, refl)
-body_reads_none X parts (BadLine n) m = absurd m
-body_reads_none X parts InputFailed m = absurd m
-body_reads_none X parts OutputFailed m = absurd m
+pub body_reads_none : (X : Type 0) (parts : BodyContents) (name : Option (List ℕ)) (e : RunFault) → IsBodyOf parts name (Err e) → (is_input_failed {X = X} (Err e) ≡ false) × (is_output_failed {X = X} (Err e) ≡ false)
+body_reads_none X parts name (Refused fault) m = (refl, refl)
+body_reads_none X parts name (BodyRefused fault) m = (refl, refl)
+body_reads_none X parts name OutOfMemory m = (refl, refl)
+body_reads_none X parts name (BadLine n) m = absurd m
+body_reads_none X parts name InputFailed m = absurd m
+body_reads_none X parts name OutputFailed m = absurd m
 
 pub accept_reads_none : (old new : Output) (outcome : Outcome) → Accepts old new outcome → is_input_failed outcome ≡ false
 accept_reads_none old new (Ok done) a = refl

@@ -111,7 +111,7 @@ module _ (input : List ℕ) (start : Output) (p : RunState) (built : Parts) (not
       by (Err OutOfMemory) a = absurd a
 
 -- the parts of a body have a fault, or an allocation fails
-pub body_ends : (input : List ℕ) (start : Output) (p : RunState) (question : Question) (built : Parts) (text : List ℕ) (fault : RunFault) → StandsAt input p question (on_body built) text → IsBodyOf (body_parts built) (Err fault) → Wrote start p.output text → EndsWith input (Wrote start p.output) (WrotePrefix start p.output) p.remaining p.lines (Err fault)
+pub body_ends : (input : List ℕ) (start : Output) (p : RunState) (question : Question) (built : Parts) (text : List ℕ) (fault : RunFault) → StandsAt input p question (on_body built) text → IsBodyOf (body_parts built) built.name (Err fault) → Wrote start p.output text → EndsWith input (Wrote start p.output) (WrotePrefix start p.output) p.remaining p.lines (Err fault)
 body_ends input start p question built text (BodyRefused fault) at (first, same, verdict) wrote =
     rw same (ends_there input p question (on_body built) text at (Wrote start p.output) _ wrote (λ good more. (Some first, verdict, (refl, refl))))
 body_ends input start p question built text (Refused fault) at (first, same, verdict) wrote = cc

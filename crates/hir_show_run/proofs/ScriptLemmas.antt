@@ -6,7 +6,7 @@ use Rattle.hir_show_io.specs.LineState.{LineState}
 use Rattle.hir_show_grammar.specs.Line.{any_question}
 use Rattle.hir_show_grammar.specs.declared.question.Question.{Question}
 use Rattle.hir_store_core.specs.Contents.{Contents}
-use Rattle.hir_items.specs.Bodies.{BodyContents, body_of}
+use Rattle.hir_items.specs.Bodies.{body_of}
 use Rattle.hir_show_run.specs.declared.fault.RunFault.{RunFault}
 use Rattle.hir_show_run.specs.declared.fault.RunFault.TheVariants.{OutOfMemory}
 use Rattle.hir_show_run.specs.Answer.{NamedBody, IsStoreAnswer, IsAnswerOf}
@@ -74,20 +74,20 @@ module _ (start : Output) (p : RunState) (parts : Parts) (still : p.output ≡ s
             (stands.0, at_body input q left parts stands.0 stands.1, stands.2)
 
         -- the body is refused
-        pub script_body : (known : Option (List ℕ)) (fault : RunFault) → Builds known p parts (Ok (Some question)) → IsBodyOf (body_of store parts.params parts.self_param) (Err fault) → RunsUpTo known start q (Err fault)
+        pub script_body : (known : Option (List ℕ)) (fault : RunFault) → Builds known p parts (Ok (Some question)) → IsBodyOf (body_of store parts.params parts.self_param) parts.name (Err fault) → RunsUpTo known start q (Err fault)
         script_body None fault b m = tt
         script_body (Some input) fault b m =
             let stands = left_store input b in
-            body_ends input start q left parts stands.0 fault stands.1 (subst (λ (s : Contents). IsBodyOf (body_of s parts.params parts.self_param) (Err fault)) f.0 m) stands.2
+            body_ends input start q left parts stands.0 fault stands.1 (subst (λ (s : Contents). IsBodyOf (body_of s parts.params parts.self_param) parts.name (Err fault)) f.0 m) stands.2
 
-        module _ (named : NamedBody) (body : BodyContents) (m : IsBodyOf (body_of store parts.params parts.self_param) (Ok body)) (is : named ≡ record { body = body; name = parts.name }) where
-          whole : IsBodyOf (body_parts parts) (Ok body)
+        module _ (named : NamedBody) (m : IsBodyOf (body_of store parts.params parts.self_param) parts.name (Ok named)) where
+          whole : IsBodyOf (body_parts parts) parts.name (Ok named)
           whole = rw f.0 at m
 
           asked_body : (input : List ℕ) → Builds (Some input) p parts (Ok (Some question)) → (t : List ℕ) × StandsAt input q left (section any_question (IsAnswerOf named) stops) t × Wrote start q.output t
           asked_body input b =
               let stands = left_store input b in
-              rw (is, whole.0) (stands.0, in_body input q left parts stands.0 whole.1 stands.1, stands.2)
+              rw whole.0 (stands.0, in_body input q left parts stands.0 whole.1 stands.1, stands.2)
 
           -- the questions on the body end early
           pub script_body_ends : (known : Option (List ℕ)) (r : RunState) (fault : RunFault) → Builds known p parts (Ok (Some question)) → Asks any_question (IsAnswerOf named) q r left (Err fault) → RunsUpTo known start r (Err fault)

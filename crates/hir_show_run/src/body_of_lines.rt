@@ -1,11 +1,7 @@
 //! A body that lines made, and the answers to questions on it. Its scopes are made where the first question
 //! comes that needs them.
 
-ghost use Rattle.std.specs.Prelude.{◌≡◌, List, ℕ, IfOk, IfSome, OnOk, OnErr};
-ghost use Rattle.std.specs.Borrow.{sem};
-ghost use Rattle.std.specs.Io.BufRead.{Rests};
-ghost use Rattle.std.specs.contracts.option.Option as option;
-ghost use Rattle.hir_scope.specs.contracts.expr_scopes.ExprScopes as made;
+ghost use Rattle.std.specs.Prelude.{◌≡◌, List, ℕ, Some, IsSome, IfOk, IfSome, OnOk, OnErr};
 ghost use Rattle.hir_scope.specs.BodyScopes.{AreBodyScopes};
 ghost use Rattle.hir_show_run.specs.Answer.{IsBodyAnswer};
 ghost use Rattle.hir_show_run.specs.OfLines.{AreOfLines};
@@ -55,35 +51,39 @@ impl Model for BodyOfLines {
         × IfSome b.scopes (AreBodyScopes b.body) };
 }
 
-/// The scopes of a body.
+/// Makes the scopes of a body, unless they are made.
 ///
 /// Returns `MemoryRefused` where an allocation fails, or where the body needs more scopes than there may be.
-fn new_scopes(alloc: Global, body: &Body) -> Result<ExprScopes, MemoryRefused>
-    ensures { IfOk result (AreBodyScopes body.now) }
+fn make_scopes(
+    alloc: Global,
+    body: &Body,
+    scopes: &mut Option<ExprScopes>,
+) -> Result<(), MemoryRefused>
+    requires { IfSome scopes.old (AreBodyScopes body.now) }
+    ensures are { IfSome scopes.new (AreBodyScopes body.now) }
+    ensures made { OnOk result (IsSome scopes.new) }
 {
+    if scopes.is_some() {
+        return Ok(());
+    }
     match ExprScopes::new_body(alloc, body) {
-        Ok(scopes) => Ok(scopes),
+        Ok(made) => {
+            *scopes = Some(made);
+            Ok(())
+        }
         Err(ScopesFault::Missing) => unreachable!(),
         Err(ScopesFault::Full | ScopesFault::Memory) => Err(MemoryRefused),
     }
 }
 
-/// Lends the scopes of a body, which the first call makes.
-///
-/// Returns `MemoryRefused` as `new_scopes` does.
-fn scopes_of<'a>(
-    alloc: Global,
-    body: &Body,
-    scopes: &'a mut Option<ExprScopes>,
-) -> Result<&'a ExprScopes, MemoryRefused>
-    requires { IfSome scopes.old (AreBodyScopes body.now) }
-    ensures* kept { sem 𝓛 (Rests (option.the_row made.the_row) scopes.entry
-        (λ kept. IfSome kept (AreBodyScopes body.now))) }
-    ensures lent { IfOk result (λ scopes. AreBodyScopes body.now scopes.now) }
+/// Lends the scopes that were made.
+fn made_scopes(scopes: &Option<ExprScopes>) -> &ExprScopes
+    requires { IsSome scopes.now }
+    ensures { scopes.now ≡ Some result.now }
 {
     match scopes {
-        Some(scopes) => Ok(scopes),
-        None => Ok(scopes.insert(new_scopes(alloc, body)?)),
+        Some(scopes) => scopes,
+        None => unreachable!(),
     }
 }
 
@@ -99,9 +99,10 @@ impl BodyOfLines {
         requires { AreOfLines body.store.nodes }
         ensures { IfOk result (λ named. named ≡ record { body = body; name = name }) }
     {
+        let tables = tables_of(alloc, name.as_ref())?;
         Ok(BodyOfLines {
             body,
-            tables: tables_of(alloc, name.as_ref())?,
+            tables,
             scopes: None,
         })
     }
@@ -122,19 +123,19 @@ impl BodyOfLines {
     {
         match question {
             BodyQuestion::Chain(id) => {
-                let scopes = scopes_of(alloc, &self.body, &mut self.scopes)?;
-                answer_chain(scopes, id, output);
+                make_scopes(alloc, &self.body, &mut self.scopes)?;
+                answer_chain(made_scopes(&self.scopes), id, output);
                 Ok(())
             }
             BodyQuestion::Resolve(id, name, hygiene) => {
-                let scopes = scopes_of(alloc, &self.body, &mut self.scopes)?;
-                answer_resolve(scopes, id, &name, hygiene, output);
+                make_scopes(alloc, &self.body, &mut self.scopes)?;
+                answer_resolve(made_scopes(&self.scopes), id, &name, hygiene, output);
                 Ok(())
             }
             BodyQuestion::Print => answer_print(alloc, &self.body, &self.tables, output),
             BodyQuestion::Captures(id) => {
-                let scopes = scopes_of(alloc, &self.body, &mut self.scopes)?;
-                answer_captures(alloc, &self.body, scopes, id, output)
+                make_scopes(alloc, &self.body, &mut self.scopes)?;
+                answer_captures(alloc, &self.body, made_scopes(&self.scopes), id, output)
             }
         }
     }

@@ -65,9 +65,9 @@ returns-in-None-left-clause-runs g c =
     let q = run_state_of g.R.Source g.W.Sink c.answer_lines.new.lines c.answer_lines.new.reader c.answer_lines.new.output in
     script_store_done start.output p parts told.still_quiet c.in_ok-store.store store c.in-Some.on_store start.remaining q met (rw c.in-None-left.is at (c.in_ok-left.ensures {u = tt}).asks)
 
-pub returns-in_err-whole-clause-runs : goal.returns-in_err-whole-clause-runs
-returns-in_err-whole-clause-runs g c =
-    let e = err_from_is_err_and c.from_residual-in_err-whole.result c.from_residual-in_err-whole.ensures.1 in
+pub returns-in_err-body-clause-runs : goal.returns-in_err-body-clause-runs
+returns-in_err-body-clause-runs g c =
+    let e = err_from_is_err_and c.from_residual-in_err-body.result c.from_residual-in_err-body.ensures.1 in
     let start = run_state_of g.R.Source g.W.Sink c.args.lines.now c.args.reader.now c.args.output.now in
     let p = run_state_of g.R.Source g.W.Sink c.build.new.lines c.build.new.reader c.build.new.output in
     let parts = builder_parts c.build.new.builder in
@@ -76,8 +76,8 @@ returns-in_err-whole-clause-runs g c =
     let store = c.in_ok-store.ensures {u = tt} in
     let q = run_state_of g.R.Source g.W.Sink c.answer_lines.new.lines c.answer_lines.new.reader c.answer_lines.new.output in
     let left = rw c.in-Some-left.is at (c.in_ok-left.ensures {u = tt}).asks in
-    let refused : IsBodyOf (body_of c.in_ok-store.store parts.params parts.self_param) (Err c.in_err-whole.field-0.0) = subst (λ (s : Contents). IsBodyOf (body_of s parts.params parts.self_param) (Err c.in_err-whole.field-0.0)) (c.in_ok-left.ensures {u = tt}).same.0 c.in_err-whole.ensures in
-    rw (e.1, e.2) (script_body start.output p parts told.still_quiet c.in_ok-store.store store c.in-Some.on_store q c.in-Some-left.on_body left start.remaining c.in_err-whole.field-0.0 met refused)
+    let refused : IsBodyOf (body_of c.in_ok-store.store parts.params parts.self_param) parts.name (Err c.in_err-body.field-0.0) = subst (λ (s : Contents). IsBodyOf (body_of s parts.params parts.self_param) parts.name (Err c.in_err-body.field-0.0)) (c.in_ok-left.ensures {u = tt}).same.0 c.in_err-body.ensures in
+    rw (e.1, e.2) (script_body start.output p parts told.still_quiet c.in_ok-store.store store c.in-Some.on_store q c.in-Some-left.on_body left start.remaining c.in_err-body.field-0.0 met refused)
 
 pub returns-in_err-unasked-clause-runs : goal.returns-in_err-unasked-clause-runs
 returns-in_err-unasked-clause-runs g c =
@@ -90,8 +90,8 @@ returns-in_err-unasked-clause-runs g c =
     let store = c.in_ok-store.ensures {u = tt} in
     let q = run_state_of g.R.Source g.W.Sink c.answer_lines.new.lines c.answer_lines.new.reader c.answer_lines.new.output in
     let left = rw c.in-Some-left.is at (c.in_ok-left.ensures {u = tt}).asks in
-    let body : IsBodyOf (body_of c.in_ok-store.store parts.params parts.self_param) (Ok c.in_ok-whole.whole) = rw (c.in_ok-left.ensures {u = tt}).same.0 at (c.in_ok-whole.ensures {u = tt}) in
-    rw (e.1, e.2) (script_body_ends start.output p parts told.still_quiet c.in_ok-store.store store c.in-Some.on_store q c.in-Some-left.on_body left c.new-body.result c.in_ok-whole.whole body c.new-body.ensures start.remaining (run_state_of g.R.Source g.W.Sink c.answer_lines-2.new.lines c.answer_lines-2.new.reader c.answer_lines-2.new.output) c.in_err-unasked.field-0.0 met c.in_err-unasked.ensures.asks)
+    let body : IsBodyOf (body_of c.in_ok-store.store parts.params parts.self_param) parts.name (Ok c.in_ok-body.body) = rw (c.in_ok-left.ensures {u = tt}).same.0 at (c.in_ok-body.ensures {u = tt}) in
+    rw (e.1, e.2) (script_body_ends start.output p parts told.still_quiet c.in_ok-store.store store c.in-Some.on_store q c.in-Some-left.on_body left c.in_ok-body.body body start.remaining (run_state_of g.R.Source g.W.Sink c.answer_lines-2.new.lines c.answer_lines-2.new.reader c.answer_lines-2.new.output) c.in_err-unasked.field-0.0 met c.in_err-unasked.ensures.asks)
 
 pub returns-clause-runs : goal.returns-clause-runs
 returns-clause-runs g c =
@@ -103,22 +103,22 @@ returns-clause-runs g c =
     let store = c.in_ok-store.ensures {u = tt} in
     let q = run_state_of g.R.Source g.W.Sink c.answer_lines.new.lines c.answer_lines.new.reader c.answer_lines.new.output in
     let left = rw c.in-Some-left.is at (c.in_ok-left.ensures {u = tt}).asks in
-    let body : IsBodyOf (body_of c.in_ok-store.store parts.params parts.self_param) (Ok c.in_ok-whole.whole) = rw (c.in_ok-left.ensures {u = tt}).same.0 at (c.in_ok-whole.ensures {u = tt}) in
-    script_body_done start.output p parts told.still_quiet c.in_ok-store.store store c.in-Some.on_store q c.in-Some-left.on_body left c.new-body.result c.in_ok-whole.whole body c.new-body.ensures start.remaining (run_state_of g.R.Source g.W.Sink c.answer_lines-2.new.lines c.answer_lines-2.new.reader c.answer_lines-2.new.output) met (rw c.in-None-unasked.is at (c.in_ok-unasked.ensures {u = tt}).asks)
+    let body : IsBodyOf (body_of c.in_ok-store.store parts.params parts.self_param) parts.name (Ok c.in_ok-body.body) = rw (c.in_ok-left.ensures {u = tt}).same.0 at (c.in_ok-body.ensures {u = tt}) in
+    script_body_done start.output p parts told.still_quiet c.in_ok-store.store store c.in-Some.on_store q c.in-Some-left.on_body left c.in_ok-body.body body start.remaining (run_state_of g.R.Source g.W.Sink c.answer_lines-2.new.lines c.answer_lines-2.new.reader c.answer_lines-2.new.output) met (rw c.in-None-unasked.is at (c.in_ok-unasked.ensures {u = tt}).asks)
 
-pub new-body-requires : goal.new-body-requires
-new-body-requires g c =
+pub body_of_parts-requires : goal.body_of_parts-requires
+body_of_parts-requires g c =
     let start = run_state_of g.R.Source g.W.Sink c.args.lines.now c.args.reader.now c.args.output.now in
     let p = run_state_of g.R.Source g.W.Sink c.build.new.lines c.build.new.reader c.build.new.output in
     let parts = builder_parts c.build.new.builder in
     let told = c.in_ok-first.ensures {u = tt} in
     let of_lines = built_of_lines c.said_is_written.ensures start.remaining p parts c.in_ok-first.first told.builds in
-    rw ((c.in_ok-whole.ensures {u = tt}).0, (c.in_ok-left.ensures {u = tt}).same.0) (of_built parts.built c.in_ok-store.store (c.in_ok-store.ensures {u = tt}) of_lines)
+    rw (c.in_ok-left.ensures {u = tt}).same.0 (of_built parts.built c.in_ok-store.store (c.in_ok-store.ensures {u = tt}) of_lines)
 
-pub returns-in_err-whole-clause-input_failed : goal.returns-in_err-whole-clause-input_failed
-returns-in_err-whole-clause-input_failed g c =
-    let e = err_from_is_err_and c.from_residual-in_err-whole.result c.from_residual-in_err-whole.ensures.1 in
-    let none = body_reads_none (Unit {0}) (body_of c.answer_lines.new.asked c.build.new.builder.params c.build.new.builder.self_param) c.in_err-whole.field-0.0 c.in_err-whole.ensures in
+pub returns-in_err-body-clause-input_failed : goal.returns-in_err-body-clause-input_failed
+returns-in_err-body-clause-input_failed g c =
+    let e = err_from_is_err_and c.from_residual-in_err-body.result c.from_residual-in_err-body.ensures.1 in
+    let none = body_reads_none (Unit {0}) (body_of c.answer_lines.new.asked c.build.new.builder.params c.build.new.builder.self_param) c.build.new.builder.name c.in_err-body.field-0.0 c.in_err-body.ensures in
     rw (e.1, e.2) ((c.in_ok-left.ensures {u = tt}).read_failure ∙ (c.in_ok-first.ensures {u = tt}).failure ∙ c.requires.unfailed.0 ∙ sym none.0)
 
 pub returns-in_err-unasked-clause-input_failed : goal.returns-in_err-unasked-clause-input_failed
@@ -157,10 +157,10 @@ returns-in_err-left-clause-quiet g c =
     let e = err_from_is_err_and c.from_residual-in_err-left.result c.from_residual-in_err-left.ensures.1 in
     rw (e.1, e.2) (λ failed. c.in_err-left.ensures.quiet (reads_as (Option Question) (Unit {0}) c.in_err-left.field-0.0 ∙ failed))
 
-pub returns-in_err-whole-clause-quiet : goal.returns-in_err-whole-clause-quiet
-returns-in_err-whole-clause-quiet g c =
-    let e = err_from_is_err_and c.from_residual-in_err-whole.result c.from_residual-in_err-whole.ensures.1 in
-    let none = body_reads_none (Unit {0}) (body_of c.answer_lines.new.asked c.build.new.builder.params c.build.new.builder.self_param) c.in_err-whole.field-0.0 c.in_err-whole.ensures in
+pub returns-in_err-body-clause-quiet : goal.returns-in_err-body-clause-quiet
+returns-in_err-body-clause-quiet g c =
+    let e = err_from_is_err_and c.from_residual-in_err-body.result c.from_residual-in_err-body.ensures.1 in
+    let none = body_reads_none (Unit {0}) (body_of c.answer_lines.new.asked c.build.new.builder.params c.build.new.builder.self_param) c.build.new.builder.name c.in_err-body.field-0.0 c.in_err-body.ensures in
     rw (e.1, e.2) (λ failed. absurd (true≢false (sym failed ∙ none.0)))
 
 pub returns-in_err-unasked-clause-quiet : goal.returns-in_err-unasked-clause-quiet
