@@ -2,21 +2,24 @@
 -- under its own name where no two have one, and one for each type that clauses name, as
 -- `Rattle.hir.specs.NodeId.{NodeId}`.
 
--- ids, names, hygiene, tables
+-- lists, boxes, arenas, maps
+pub use Rattle.hir_collections.specs.Boxed
+pub use Rattle.hir_collections.specs.Codes
+pub use Rattle.hir_collections.specs.Laws
+pub use Rattle.hir_collections.specs.Seq
+pub use Rattle.hir_collections.specs.Table
+pub use Rattle.hir_collections.specs.TableLends
+pub use Rattle.hir_collections.specs.declared.arena.ArenaFault
+pub use Rattle.hir_collections.specs.declared.arena.TheConstants as ArenaConstants
+-- ids, names, hygiene
 pub use Rattle.hir_base.specs.Abi
 pub use Rattle.hir_base.specs.Hygiene
 pub use Rattle.hir_base.specs.Ids as DefinitionIds
 pub use Rattle.hir_base.specs.Keys
-pub use Rattle.hir_base.specs.Laws
 pub use Rattle.hir_base.specs.ModPath
 pub use Rattle.hir_base.specs.OpTexts
 pub use Rattle.hir_base.specs.Precedence
 pub use Rattle.hir_base.specs.RawWords
-pub use Rattle.hir_base.specs.Seq
-pub use Rattle.hir_base.specs.Table
-pub use Rattle.hir_base.specs.TableLends
-pub use Rattle.hir_base.specs.declared.arena.ArenaFault
-pub use Rattle.hir_base.specs.declared.arena.TheConstants as ArenaConstants
 pub use Rattle.hir_base.specs.declared.defs.AdtId
 pub use Rattle.hir_base.specs.declared.defs.DefWithBodyId
 pub use Rattle.hir_base.specs.declared.defs.ExpressionStoreOwnerId
@@ -25,7 +28,6 @@ pub use Rattle.hir_base.specs.declared.hygiene.SyntaxContext
 pub use Rattle.hir_base.specs.declared.params.TypeOrConstParamId
 pub use Rattle.hir_base.specs.declared.ptr.SyntaxNodePtr
 -- paths
-pub use Rattle.hir_path.specs.Boxed
 pub use Rattle.hir_path.specs.Ids
 pub use Rattle.hir_path.specs.Keys as PathKeys
 pub use Rattle.hir_path.specs.Lists
@@ -76,6 +78,7 @@ pub use Rattle.hir_validate.specs.Sizes
 pub use Rattle.hir_validate.specs.Sound
 pub use Rattle.hir_validate.specs.TestedParts
 pub use Rattle.hir_validate.specs.declared.fault.FinishFault
+pub use Rattle.hir_validate.specs.declared.node_arenas.Nodes as NodeArenas
 -- the store
 pub use Rattle.hir_store_core.specs.Ancestors
 pub use Rattle.hir_store_core.specs.Blocks
@@ -83,6 +86,7 @@ pub use Rattle.hir_store_core.specs.Bounds
 pub use Rattle.hir_store_core.specs.Contents
 pub use Rattle.hir_store_core.specs.JumpTargets
 pub use Rattle.hir_store_core.specs.NodeSets
+pub use Rattle.hir_store_core.specs.Owners as StoreOwners
 pub use Rattle.hir_store_core.specs.PatLinks
 pub use Rattle.hir_store_core.specs.PatLists
 pub use Rattle.hir_store_core.specs.RootSearch
@@ -92,23 +96,24 @@ pub use Rattle.hir_store_core.specs.Under
 pub use Rattle.hir_store_core.specs.declared.missing.Missing
 -- the builder
 pub use Rattle.hir_store.specs.Building
--- generic parameters
-pub use Rattle.hir_generics.specs.Params
-pub use Rattle.hir_generics.specs.declared.data.LifetimeBoundType
-pub use Rattle.hir_generics.specs.declared.data.LifetimeParamData
-pub use Rattle.hir_generics.specs.declared.param.TypeOrConstParamData
--- bodies and signatures
-pub use Rattle.hir_items.specs.Bodies
-pub use Rattle.hir_items.specs.FirstOfName
-pub use Rattle.hir_items.specs.Generics
-pub use Rattle.hir_items.specs.Lookups as ItemLookups
-pub use Rattle.hir_items.specs.Signatures
-pub use Rattle.hir_items.specs.declared.body_fault.BodyFault
-pub use Rattle.hir_items.specs.declared.body_source_map.BodySourceMap
-pub use Rattle.hir_items.specs.declared.signatures.FunctionParts
-pub use Rattle.hir_items.specs.declared.signatures.PlainParts
-pub use Rattle.hir_items.specs.declared.signatures.StructParts
-pub use Rattle.hir_items.specs.declared.signatures.VariantParts
+-- bodies
+pub use Rattle.hir_body.specs.Bodies
+pub use Rattle.hir_body.specs.Lookups as BodyLookups
+pub use Rattle.hir_body.specs.declared.body_fault.BodyFault
+pub use Rattle.hir_body.specs.declared.body_source_map.BodySourceMap
+-- generic parameters and signatures
+pub use Rattle.hir_signature.specs.FirstOfName
+pub use Rattle.hir_signature.specs.Generics
+pub use Rattle.hir_signature.specs.Lookups as SignatureLookups
+pub use Rattle.hir_signature.specs.Params
+pub use Rattle.hir_signature.specs.Signatures
+pub use Rattle.hir_signature.specs.declared.any_param.TypeOrConstParamData
+pub use Rattle.hir_signature.specs.declared.param_data.LifetimeBoundType
+pub use Rattle.hir_signature.specs.declared.param_data.LifetimeParamData
+pub use Rattle.hir_signature.specs.declared.signatures.FunctionParts
+pub use Rattle.hir_signature.specs.declared.signatures.PlainParts
+pub use Rattle.hir_signature.specs.declared.signatures.StructParts
+pub use Rattle.hir_signature.specs.declared.signatures.VariantParts
 -- tables of definitions
 pub use Rattle.hir_defs.specs.NoTables
 pub use Rattle.hir_defs.specs.Tables

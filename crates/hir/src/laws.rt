@@ -2,11 +2,13 @@
 //! contract is the theorem.
 
 pub use hir_base::laws as base;
+pub use hir_body::laws as body;
 pub use hir_captures::laws as captures;
-pub use hir_items::{body_laws as body, generic_laws as generics, signature_laws as signature};
+pub use hir_collections::laws as collections;
 pub use hir_node::laws as node;
 pub use hir_path::laws as path;
 pub use hir_scope::{laws as scope, macro_laws as macros};
+pub use hir_signature::{generic_laws as generics, signature_laws as signature};
 pub use hir_source_map::laws as source;
 pub use hir_store::laws as builder;
 pub use hir_store_core::laws as store;

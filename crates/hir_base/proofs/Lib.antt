@@ -1,5 +1,0 @@
-pub mod ArrayMemory
-pub mod NumberedItems
-pub mod PlacesLemmas
-pub mod ShortListLemmas
-pub mod TableLemmas

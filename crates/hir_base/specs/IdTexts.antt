@@ -22,10 +22,7 @@ use Rattle.hir_base.specs.declared.edition.Edition.{Edition}
 use Rattle.hir_base.specs.declared.edition.Edition.TheVariants.{Edition2015, Edition2018, Edition2021, Edition2024}
 use Rattle.hir_base.specs.declared.hygiene.SyntaxContext.{SyntaxContext}
 use Rattle.hir_base.specs.declared.hygiene.SyntaxContext.TheVariants.{Root, Expansion}
-
--- as `FunctionId(7)`
-abbrev pub id_text : List ℕ → ℕ → List ℕ
-id_text kind number = kind ++ codes "(" ++ decimal number ++ codes ")"
+use Rattle.hir_collections.specs.IdText.{id_text}
 
 -- an enum of ids has the text of the id that it holds
 abbrev pub adt_text : AdtId → List ℕ

@@ -1,7 +1,6 @@
 -- Defines the codes by which tables tell keys apart.
-use Rattle.std.proofs.Common.{◌≡◌, ℕ, List, [], ◌∷◌, Bool, ◌&&◌, ◌==◌, refl, ap, sym, ◌∙◌, Decides}
+use Rattle.std.proofs.Common.{◌≡◌, ℕ, List, [], ◌∷◌, Bool, refl, Decides}
 use Rattle.std.specs.Prelude.{Option, Some, None, option_map, slice_get}
-use Rattle.std.specs.Cmp.{unsigned_Decides, first_so, second_so}
 use Rattle.hir_base.specs.declared.ptr.SyntaxNodePtr.{SyntaxNodePtr}
 use Rattle.hir_base.specs.declared.defs.DefWithBodyId.{DefWithBodyId}
 use Rattle.hir_base.specs.declared.defs.DefWithBodyId.TheVariants.{FunctionId as body_function, StaticId as body_static, ConstId as body_const, VariantId as body_variant}
@@ -10,37 +9,7 @@ use Rattle.hir_base.specs.declared.defs.VariantId.TheVariants.{EnumVariantId as 
 use Rattle.hir_base.specs.declared.defs.NamedDef.{NamedDef}
 use Rattle.hir_base.specs.declared.defs.NamedDef.TheVariants.{EnumId as named_enum, FunctionId as named_function, StaticId as named_static, StructId as named_struct, UnionId as named_union, TypeAliasId as named_alias, TraitId as named_trait, EnumVariantId as named_variant, ConstId as named_const, MacroId as named_macro}
 use Rattle.hir_base.specs.declared.defs.MacroId.TheVariants.{Macro2Id as by_macro2, MacroRulesId as by_rules, ProcMacroId as by_proc}
-
--- equality of two numbers decides equality of their codes
-pub number_tells : (x y : ℕ) → Decides (x == y) (x ∷ [] ≡ y ∷ [])
-number_tells x y = (λ h i. (unsigned_Decides x y).0 h i ∷ [], λ e. (unsigned_Decides x y).1 (cc))
-
--- equality of two codes that begin with a number is decided by the numbers and the rests
-pub cons_tells : (a b : Bool) (n m : ℕ) (xs ys : List ℕ) → Decides a (n ≡ m) → Decides b (xs ≡ ys)
-    → Decides (a && b) (n ∷ xs ≡ m ∷ ys)
-cons_tells a b n m xs ys first rest = (
-  λ h.
-      let head = first.0 (first_so _ _ h) in
-      let tail = rest.0 (second_so _ _ h) in
-      λ i. head i ∷ tail i,
-  λ e.
-      let head = first.1 (cc) in
-      let tail = rest.1 (cc) in
-      rw (head, tail),
-)
-
-same_value : {X : Type 0} (x y : X) → Some x ≡ Some y → x ≡ y
-same_value x y e = cc
-
--- equality of keys decides equality of their codes, if the key can be read back from its code
-pub read_back_tells : {X : Type 0} (code : X → List ℕ) (back : List ℕ → Option X)
-    → ((x : X) → back (code x) ≡ Some x) → (b : Bool) (x y : X) → Decides b (x ≡ y)
-    → Decides b (code x ≡ code y)
-read_back_tells code back reads b x y same = (
-  λ h. ap code (same.0 h),
-  λ e.
-      same.1 (same_value x y (sym (reads x) ∙ ap back e ∙ reads y)),
-)
+use Rattle.hir_collections.specs.Codes.{read_back_tells}
 
 -- the code of a node: its kind and its range
 abbrev pub node_code : SyntaxNodePtr → List ℕ

@@ -1,9 +1,9 @@
 //! The calling conventions of functions.
 ghost use Rattle.std.specs.Prelude.{◌≡◌};
-ghost use Rattle.hir_base.specs.Exact.{exact};
+ghost use Rattle.hir_collections.specs.Exact.{exact};
 ghost use Rattle.hir_base.specs.Abi.{abi_text};
 
-use crate::{ExactEq, Text, TryClone};
+use hir_collections::{ExactEq, Text, TryClone};
 
 /// A calling convention, as it is written after `extern`. The Rust Reference lists them under "ABI".
 #[derive(Drop, Clone, PartialEq, Eq, Hash)]

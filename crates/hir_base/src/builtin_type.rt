@@ -1,7 +1,7 @@
 //! The number types of the language, by their suffixes.
-ghost use Rattle.hir_base.specs.Exact.{exact};
+ghost use Rattle.hir_collections.specs.Exact.{exact};
 
-use crate::{ExactEq, TryClone};
+use hir_collections::{ExactEq, TryClone};
 
 /// Signed integers.
 #[derive(Clone, Copy, PartialEq, Eq, Hash)]

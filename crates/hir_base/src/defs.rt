@@ -2,13 +2,13 @@
 //! Each variant holds the id of its name; the three owners of expression stores convert into
 //! `ExpressionStoreOwnerId`.
 ghost use Rattle.std.specs.Prelude.{◌≡◌};
-ghost use Rattle.hir_base.specs.Exact.{exact};
+ghost use Rattle.hir_collections.specs.Exact.{exact};
 
 use crate::ids::{
     ConstId, EnumId, EnumVariantId, FunctionId, ImplId, Macro2Id, MacroRulesId, ProcMacroId,
     StaticId, StructId, TraitId, TypeAliasId, UnionId,
 };
-use crate::{ExactEq, TryClone};
+use hir_collections::{ExactEq, TryClone};
 
 /// A struct, a union or an enum.
 #[derive(Clone, Copy, PartialEq, Eq, Hash)]

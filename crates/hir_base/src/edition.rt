@@ -1,10 +1,10 @@
 //! Editions of the language, and the words that each writes with `r#`.
 ghost use Rattle.std.specs.Prelude.{◌≡◌, Some};
-ghost use Rattle.hir_base.specs.Exact.{exact};
+ghost use Rattle.hir_collections.specs.Exact.{exact};
 ghost use Rattle.hir_base.specs.IdTexts.{edition_text};
 ghost use Rattle.hir_base.specs.RawWords.{words_of, with_words, no_words};
 
-use crate::{ExactEq, Seq, Text, TryClone};
+use hir_collections::{ExactEq, Seq, Text, TryClone};
 use std::alloc::Global;
 use std::fmt;
 

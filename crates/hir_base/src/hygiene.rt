@@ -1,9 +1,9 @@
 //! The hygiene of names: which macro expansion, if any, a name was written by.
 ghost use Rattle.std.specs.Prelude.{◌≡◌, ◌↔◌, IsTrue};
-ghost use Rattle.hir_base.specs.Exact.{exact};
+ghost use Rattle.hir_collections.specs.Exact.{exact};
 
 use crate::edition::Edition;
-use crate::{ExactEq, TryClone};
+use hir_collections::{ExactEq, TryClone};
 use std::hash::{Hash, Hasher};
 use std::marker::Model;
 

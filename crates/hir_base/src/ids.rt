@@ -5,9 +5,10 @@ ghost use Rattle.std.specs.Prelude.{◌≡◌, Some};
 ghost use Rattle.std.specs.Ordering.{nat_cmp};
 ghost use Rattle.std.specs.Cmp.Rules.{comparing};
 ghost use Rattle.std.proofs.Common.{rules};
-ghost use Rattle.hir_base.specs.IdTexts.{id_text};
+ghost use Rattle.hir_collections.specs.IdText.{id_text};
 
-use crate::{ExactEq, Kind, TryClone, kinds};
+use crate::kinds;
+use hir_collections::{ExactEq, Kind, TryClone};
 use std::cmp::Ordering;
 use std::fmt::{self, Debug, Display};
 use std::marker::{Model, PhantomData};

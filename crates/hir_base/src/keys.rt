@@ -1,20 +1,14 @@
 //! Which ids and pointers may be keys of a `Table`, and the codes that tell them apart.
 ghost use Rattle.std.specs.Prelude.{◌∷◌, []};
 ghost use Rattle.std.specs.Cmp.{unsigned_Decides};
-ghost use Rattle.hir_base.specs.Exact.{exact};
-ghost use Rattle.hir_base.specs.Keys.{number_tells, cons_tells, node_code, node_tells, body_code, body_tells, fields_code, fields_tells, named_code, named_tells};
+ghost use Rattle.hir_collections.specs.Exact.{exact};
+ghost use Rattle.hir_collections.specs.Codes.{number_tells, cons_tells};
+ghost use Rattle.hir_base.specs.Keys.{node_code, node_tells, body_code, body_tells, fields_code, fields_tells, named_code, named_tells};
 
-use crate::Idx;
 use crate::defs::{DefWithBodyId, NamedDef, VariantId};
 use crate::ids::Id;
 use crate::ptr::{AstPtr, InFile};
-use crate::table::HasCode;
-
-impl<K> HasCode for Idx<K> {
-    ghost code = { λ id. id ∷ [] };
-
-    ghost code_tells = { number_tells };
-}
+use hir_collections::HasCode;
 
 impl<K> HasCode for Id<K> {
     ghost code = { λ id. id ∷ [] };

@@ -1,7 +1,7 @@
 //! The kinds of numbered ids. They are markers: no value of them exists.
 ghost use Rattle.std.specs.Prelude.{codes};
 
-use crate::Kind;
+use hir_collections::Kind;
 
 /// Of `FunctionId`.
 pub enum Function {}

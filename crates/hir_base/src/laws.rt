@@ -3,22 +3,10 @@
 //! value.
 ghost use Rattle.std.specs.Prelude.{◌≡◌, ℕ};
 ghost use Rattle.std.specs.Ordering.{nat_cmp};
-ghost use Rattle.hir_base.specs.Laws.{OrderAgrees};
+ghost use Rattle.hir_collections.specs.Laws.{OrderAgrees};
 
-use crate::{BlockId, Edition, HygieneId, Idx, MOST_ITEMS, PathKind, SyntaxContext};
+use crate::{BlockId, Edition, HygieneId, PathKind, SyntaxContext};
 use std::hash::Hash;
-
-/// Ids of any kind are ordered by their numbers.
-pub fn idx_order_is_that_of_numbers<K>()
-    ensures total { (x y : ℕ) → ⟦<Idx<K> as Ord>⟧.cmp x y ≡ nat_cmp x y }
-    ensures partial { (x y : ℕ) → ⟦<Idx<K> as PartialOrd>⟧.partial_cmp x y ≡ Some (nat_cmp x y) }
-{}
-
-/// Ids of any kind are equal exactly if their numbers are, exactly if they compare as equal, and then they
-/// hash alike.
-pub fn idx_order_agrees_with_eq_and_hash<K>()
-    ensures { OrderAgrees ⟦<Idx<K> as PartialEq>⟧.eq ⟦<Idx<K> as Ord>⟧.cmp ⟦<Idx<K> as Hash>⟧.hash_input }
-{}
 
 /// Blocks are ordered by their numbers.
 pub fn block_order_is_that_of_numbers()
@@ -30,11 +18,6 @@ pub fn block_order_is_that_of_numbers()
 /// alike.
 pub fn block_order_agrees_with_eq_and_hash()
     ensures { OrderAgrees ⟦<BlockId as PartialEq>⟧.eq ⟦<BlockId as Ord>⟧.cmp ⟦<BlockId as Hash>⟧.hash_input }
-{}
-
-/// An arena holds at most 4,294,967,295 items.
-pub fn most_items_of_an_arena()
-    ensures { MOST_ITEMS ≡ 4294967295 }
 {}
 
 /// Returns the kind of paths that begin with `self`, which is `Super(0)`. (A clause can't name such a

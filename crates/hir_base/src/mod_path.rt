@@ -5,10 +5,11 @@ ghost use Rattle.std.specs.Cmp.Lexicographic.{pointwise, bytes_decides, lists_pe
 ghost use Rattle.std.specs.Bool.{nat_eq};
 ghost use Rattle.std.specs.Hash as fed;
 ghost use Rattle.std.specs.Hash.{and-Alike, on_Alike, items_Alike, same_Alike};
-ghost use Rattle.hir_base.specs.Exact.{exact};
+ghost use Rattle.hir_collections.specs.Exact.{exact};
 
+use crate::Name;
 use crate::ids::CrateId;
-use crate::{ExactEq, Name, Seq, TryClone};
+use hir_collections::{ExactEq, Seq, TryClone};
 use std::alloc::{AllocError, AllocFailed, Global};
 use std::hash::{Hash, Hasher};
 use std::marker::Model;

@@ -8,7 +8,7 @@ ghost use Rattle.std.proofs.Common.{rules};
 ghost use Rattle.std.specs.Hash as fed;
 
 use crate::short_text::{MOST_BYTES, ShortText};
-use crate::{ExactEq, Text, TryClone};
+use hir_collections::{ExactEq, Text, TryClone};
 use std::alloc::{AllocError, AllocFailed, Global};
 use std::hash::{Hash, Hasher};
 use std::marker::Model;

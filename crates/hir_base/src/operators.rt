@@ -1,7 +1,7 @@
 //! Operators of expressions and patterns.
-ghost use Rattle.hir_base.specs.Exact.{exact};
+ghost use Rattle.hir_collections.specs.Exact.{exact};
 
-use crate::{ExactEq, TryClone};
+use hir_collections::{ExactEq, TryClone};
 
 /// Operators on numbers and bits. Each may also come before `=`.
 #[derive(Clone, Copy, PartialEq, Eq, Hash)]

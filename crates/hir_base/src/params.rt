@@ -1,9 +1,9 @@
 //! Ids of generic parameters: a parameter's number among those of its parent, and the parent.
 ghost use Rattle.std.specs.Prelude.{◌≡◌, codes};
-ghost use Rattle.hir_base.specs.Exact.{exact};
+ghost use Rattle.hir_collections.specs.Exact.{exact};
 
 use crate::defs::GenericDefId;
-use crate::{ExactEq, Idx, Kind, TryClone};
+use hir_collections::{ExactEq, Idx, Kind, TryClone};
 use std::marker::Model;
 
 /// The kind of type and constant parameters. It is a marker: no value of it exists.

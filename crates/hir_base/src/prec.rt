@@ -1,9 +1,9 @@
 //! Precedence of expressions, from the one that binds least to the one that binds tightest.
 //! The order is that of the Rust Reference, "Expression precedence".
 ghost use Rattle.std.specs.Prelude.{◌≡◌};
-ghost use Rattle.hir_base.specs.Exact.{exact};
+ghost use Rattle.hir_collections.specs.Exact.{exact};
 
-use crate::{ExactEq, TryClone};
+use hir_collections::{ExactEq, TryClone};
 
 /// How tightly an expression binds, from low to high.
 #[derive(Clone, Copy, PartialEq, Eq)]

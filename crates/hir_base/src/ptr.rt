@@ -1,12 +1,12 @@
 //! Pointers into source files, and what a source is: a pointer and its file.
 //! A pointer is the kind and the range of a syntax node; its type says what kind of node it points to.
 ghost use Rattle.std.specs.Prelude.{◌≡◌, Some, codes};
-ghost use Rattle.hir_base.specs.Exact.{exact};
+ghost use Rattle.hir_collections.specs.Exact.{exact};
 
 use crate::ast::{self, Widens};
 use crate::ids::HirFileId;
-use crate::{ExactEq, TryClone};
 use either::Either;
+use hir_collections::{ExactEq, TryClone};
 use std::fmt;
 use std::marker::{Model, PhantomData};
 

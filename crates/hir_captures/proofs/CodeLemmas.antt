@@ -11,7 +11,8 @@ use Rattle.hir_path.specs.declared.ids.ExprOrPatId.TheVariants.{ExprId, PatId}
 use Rattle.hir_node.specs.ChildCalls.{Call, OnExpr, OnPat}
 use Rattle.hir_node.specs.declared.{expr.Expr.Expr, node_id.NodeId.NodeId, pat.Pat.Pat}
 use Rattle.hir_validate.specs.Recursion.{rank, RankDecreases, AgreeOn, DependsOnChildren}
-use Rattle.hir_validate.specs.Nodes.{Nodes, Has, children_of}
+use Rattle.hir_validate.specs.Nodes.{Has, children_of}
+use Rattle.hir_validate.specs.declared.node_arenas.Nodes.{Nodes}
 use Rattle.hir_validate.proofs.RecursionLemmas.{fold_down_at, parent_in_range}
 use Rattle.hir_store_core.specs.{Contents.Contents, SideTables.hygiene_of, Under.IsReached}
 use Rattle.hir_scope.specs.Chains.{InContext, child_in_context, on_base, Occurs, child, HasChain, within_own}

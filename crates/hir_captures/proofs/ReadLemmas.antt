@@ -7,11 +7,11 @@ use Rattle.std.specs.List.{flat_map, filter_map, slice_get}
 use Rattle.std.specs.Prelude.{IsSome, IfOk, Result, Ok, Err, ◌↔◌, ◌-◌}
 use Rattle.hir_node.specs.{ChildCalls.Call, ChildCalls.pat_calls, Runs.Runs, Runs.no_call, Runs.a_call}
 use Rattle.hir_node.specs.declared.{expr.Expr.Expr, node_id.NodeId.NodeId, pat.Pat.Pat}
-use Rattle.hir_validate.specs.{Recursion.RankDecreases, Nodes.Nodes}
+use Rattle.hir_validate.specs.{Recursion.RankDecreases, declared.node_arenas.Nodes.Nodes}
 use Rattle.hir_store_core.specs.Contents.{Contents}
-use Rattle.hir_items.specs.Bodies.{BodyContents, BodyReaches}
-use Rattle.hir_stack.specs.Stacks.{Defers}
-use Rattle.hir_stack.proofs.DeferredLemmas.{defers_none, defers_two}
+use Rattle.hir_body.specs.Bodies.{BodyContents, BodyReaches}
+use Rattle.hir_collections.specs.Stacks.{Defers}
+use Rattle.hir_collections.proofs.DeferredLemmas.{defers_none, defers_two}
 use Rattle.hir_scope.specs.{BodyScopes.ChainsAreFrames, BodyScopes.entry_nodes_of_body, Chains.HasChain}
 use Rattle.hir_scope.specs.ScopingForms.{form_of, form_at, expr_form, pat_form}
 use Rattle.hir_scope.specs.{Order.met_in_form, Paths.chain, Scopes.Scopes}

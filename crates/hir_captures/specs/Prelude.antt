@@ -5,7 +5,7 @@ pub use Rattle.std.specs.Ordering.{nat_cmp}
 pub use Rattle.std.specs.Prelude.{◌≡◌, ℕ, ◌-◌, ⊤, List, [], ◌∷◌, ◌++◌, Option, Some, None, fold, take, length, filter_map, slice_get, ◌==◌, Bool, is_some, ◌<◌}
 pub use Rattle.hir_base.specs.Ids.{Name}
 pub use Rattle.hir_base.specs.declared.hygiene.SyntaxContext.{SyntaxContext}
-pub use Rattle.hir_items.specs.Bodies.{BodyContents, BodyReaches}
+pub use Rattle.hir_body.specs.Bodies.{BodyContents, BodyReaches}
 pub use Rattle.hir_node.specs.ChildCalls.{Call, OnExpr, OnAnonConst, OnPat, OnType, OnLifetime}
 pub use Rattle.hir_node.specs.declared.expr.Expr.{Expr}
 pub use Rattle.hir_node.specs.declared.node_id.NodeId.{NodeId}
@@ -23,5 +23,6 @@ pub use Rattle.hir_scope.specs.Scopes.{Scopes}
 pub use Rattle.hir_scope.specs.declared.scope.ScopeEntry.{ScopeEntry}
 pub use Rattle.hir_store_core.specs.Contents.{Contents}
 pub use Rattle.hir_store_core.specs.SideTables.{hygiene_of}
-pub use Rattle.hir_validate.specs.Nodes.{Nodes, Has}
+pub use Rattle.hir_validate.specs.Nodes.{Has}
+pub use Rattle.hir_validate.specs.declared.node_arenas.Nodes.{Nodes}
 unfoldable pub use Rattle.hir_validate.specs.Recursion.{fold_down}

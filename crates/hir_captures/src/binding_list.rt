@@ -5,7 +5,7 @@ ghost use Rattle.std.specs.Prelude.{◌≡◌, [], Err, IfOk, OnOk, OnErr};
 ghost use Rattle.hir_captures.specs.Captures.{with_new};
 
 use crate::fault::CapturesFault;
-use hir_base::ArenaMap;
+use hir_collections::ArenaMap;
 use hir_node::{BindingId, BindingKind};
 use std::alloc::Global;
 use std::marker::Model;

@@ -2,7 +2,7 @@
 ghost use Rattle.std.specs.Prelude.{◌≡◌, ◌↔◌, ◌<◌, ℕ, length, Some, Err, IfOk, IfSome, IsSome, slice_get};
 ghost use Rattle.std.specs.FinMap as map;
 ghost use Rattle.hir_node.specs.declared.node_id.NodeId.TheVariants as node;
-ghost use Rattle.hir_items.specs.Bodies.{BodyReaches};
+ghost use Rattle.hir_body.specs.Bodies.{BodyReaches};
 ghost use Rattle.hir_scope.specs.BodyScopes.{ChainsAreFrames, entry_nodes_of_body};
 ghost use Rattle.hir_captures.specs.Captures.{AreCaptures, IsClosure, IsReachedClosure, captures_by};
 ghost use Rattle.hir_captures.specs.internal.Reading.{chain_in};
@@ -13,7 +13,7 @@ use crate::code::Code;
 use crate::fault::CapturesFault;
 use crate::laws::lengths_decide_captures;
 use crate::tasks::{Task, Tasks};
-use hir_items::Body;
+use hir_body::Body;
 use hir_node::{BindingId, Expr, ExprId};
 use hir_scope::{ExprScopes, ScopeId};
 use hir_store_core::ExpressionStore;

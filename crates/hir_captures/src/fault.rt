@@ -1,8 +1,8 @@
 //! The faults with which captures fail.
 ghost use Rattle.std.specs.Prelude.{◌≡◌};
-ghost use Rattle.hir_base.specs.Exact.{exact};
+ghost use Rattle.hir_collections.specs.Exact.{exact};
 
-use hir_base::ExactEq;
+use hir_collections::ExactEq;
 use std::alloc::AllocError;
 use thiserror::Error;
 

@@ -3,7 +3,7 @@ ghost use Rattle.std.specs.Prelude.{◌≡◌, ◌↔◌, ℕ, List, None, Optio
 ghost use Rattle.std.specs.List.{All};
 ghost use Rattle.hir_node.specs.declared.node_id.NodeId.{NodeId};
 ghost use Rattle.hir_store_core.specs.Contents.{Contents, contents_fault};
-ghost use Rattle.hir_items.specs.Bodies.{BodyContents, body_fault};
+ghost use Rattle.hir_body.specs.Bodies.{BodyContents, body_fault};
 ghost use Rattle.hir_scope.specs.Frames.{Chain};
 ghost use Rattle.hir_captures.specs.Captures.{AreCaptures, AreChains, IsOn, IsReachedClosure, captures_by};
 ghost use Rattle.hir_captures.specs.Uses.{code_step, code_under, uses_in};

@@ -3,15 +3,15 @@
 
 ghost use Rattle.std.specs.Prelude.{◌≡◌, [], ◌∷◌, ◌++◌, Err, None, OnErr, OnOk};
 ghost use Rattle.hir_node.specs.ChildCalls.{pat_calls};
-ghost use Rattle.hir_stack.specs.Stacks.{Defers};
+ghost use Rattle.hir_collections.specs.Stacks.{Defers};
 ghost use Rattle.hir_scope.specs.ScopingForms.{expr_form};
 ghost use Rattle.hir_scope.specs.Order.{met_in_form};
 ghost use Rattle.hir_captures.specs.internal.Pending.{task_of, tasks_of};
 
 use crate::fault::CapturesFault;
+use hir_collections::Stack;
 use hir_node::{Expr, ExprId, LifetimeRefId, Pat, PatId, StoreVisitor, TypeRefId};
 use hir_scope::visit_in_scope_order;
-use hir_stack::Stack;
 use std::alloc::Global;
 
 /// A node of a closure's code that is still to be read.

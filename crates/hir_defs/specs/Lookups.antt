@@ -4,7 +4,7 @@ use Rattle.std.specs.Prelude.{ℕ, [], ◌∷◌, Option}
 use Rattle.std.specs.Option.{option_map}
 use Rattle.std.specs.FinMap as map
 use Rattle.hir_base.specs.Keys.{body_code, fields_code}
-use Rattle.hir_base.specs.Table.{by_code}
+use Rattle.hir_collections.specs.Table.{by_code}
 use Rattle.hir_base.specs.declared.defs.AdtId.{AdtId}
 use Rattle.hir_base.specs.declared.defs.AdtId.TheVariants as adt
 use Rattle.hir_base.specs.declared.defs.GenericDefId.{GenericDefId}
@@ -13,17 +13,16 @@ use Rattle.hir_base.specs.declared.defs.DefWithBodyId.{DefWithBodyId}
 use Rattle.hir_base.specs.declared.defs.ExpressionStoreOwnerId.{ExpressionStoreOwnerId}
 use Rattle.hir_base.specs.declared.defs.ExpressionStoreOwnerId.TheVariants as owner
 use Rattle.hir_source_map.specs.declared.source_map.ExpressionStoreSourceMap.{ExpressionStoreSourceMap}
-use Rattle.hir_store_core.specs.Contents.{Contents}
-use Rattle.hir_store_core.specs.declared.missing.Missing.{Missing}
-use Rattle.hir_store_core.specs.declared.missing.Missing.TheVariants as missing
-use Rattle.hir_items.specs.Bodies.{BodyContents}
-use Rattle.hir_items.specs.Generics.{empty}
-use Rattle.hir_items.specs.Lookups.{SignatureAndSources, BodyAndSources}
-use Rattle.hir_items.specs.declared.body_source_map.BodySourceMap.{BodySourceMap}
-use Rattle.hir_items.specs.declared.signatures.FunctionParts.{FunctionParts}
-use Rattle.hir_items.specs.declared.signatures.StructParts.{StructParts}
-use Rattle.hir_items.specs.declared.signatures.PlainParts.{PlainParts}
-use Rattle.hir_items.specs.declared.signatures.VariantParts.{VariantParts}
+use Rattle.hir_store_core.specs.Owners.{StoreAndSources}
+use Rattle.hir_body.specs.Bodies.{BodyContents}
+use Rattle.hir_signature.specs.Generics.{empty}
+use Rattle.hir_signature.specs.Lookups.{SignatureAndSources}
+use Rattle.hir_body.specs.Lookups.{BodyAndSources}
+use Rattle.hir_body.specs.declared.body_source_map.BodySourceMap.{BodySourceMap}
+use Rattle.hir_signature.specs.declared.signatures.FunctionParts.{FunctionParts}
+use Rattle.hir_signature.specs.declared.signatures.StructParts.{StructParts}
+use Rattle.hir_signature.specs.declared.signatures.PlainParts.{PlainParts}
+use Rattle.hir_signature.specs.declared.signatures.VariantParts.{VariantParts}
 use Rattle.hir_defs.specs.Tables.{plain_code}
 use Rattle.hir_defs.specs.declared.plain_def.PlainDef.{PlainDef}
 use Rattle.hir_defs.specs.declared.plain_def.PlainDef.TheVariants as plain
@@ -72,18 +71,12 @@ signature_entry t (generic.TypeAliasId id) =
 abbrev pub body_entry : Tables → DefWithBodyId → Option BodyAndSources
 body_entry t def = map.get t.bodies (body_code def)
 
-abbrev pub without_params : SignatureAndSources → Contents × ExpressionStoreSourceMap
+abbrev pub without_params : SignatureAndSources → StoreAndSources
 without_params s = (s.1, s.2)
 
 -- the store of an owner, and where it comes from
-abbrev pub owner_entry : Tables → ExpressionStoreOwnerId → Option (Contents × ExpressionStoreSourceMap)
+abbrev pub owner_entry : Tables → ExpressionStoreOwnerId → Option StoreAndSources
 owner_entry t (owner.Signature def) = option_map without_params (signature_entry t def)
 owner_entry t (owner.Body def) = option_map (λ e. (e.0.store, e.1.store)) (body_entry t def)
 owner_entry t (owner.VariantFields variant) =
     option_map (λ e. (e.0.store, e.1)) (map.get t.fields (fields_code variant))
-
--- the missing fact where an owner has no entry
-abbrev pub missing_owner : ExpressionStoreOwnerId → Missing
-missing_owner (owner.Signature def) = missing.Signature def
-missing_owner (owner.Body def) = missing.Body def
-missing_owner (owner.VariantFields variant) = missing.Fields variant

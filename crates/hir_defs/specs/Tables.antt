@@ -4,7 +4,7 @@ use Rattle.std.specs.Prelude.{Option, Some, None, option_map, slice_get}
 use Rattle.hir_base.specs.declared.defs.GenericDefId.{GenericDefId}
 use Rattle.hir_base.specs.declared.defs.GenericDefId.TheVariants as generic
 use Rattle.hir_base.specs.declared.defs.AdtId.TheVariants as adt
-use Rattle.hir_base.specs.Keys.{read_back_tells}
+use Rattle.hir_collections.specs.Codes.{read_back_tells}
 use Rattle.hir_defs.specs.declared.plain_def.PlainDef.{PlainDef}
 use Rattle.hir_defs.specs.declared.plain_def.PlainDef.TheVariants as plain
 

@@ -11,20 +11,20 @@ ghost use Rattle.hir_base.specs.declared.defs.ExpressionStoreOwnerId.{Expression
 ghost use Rattle.hir_store_core.specs.declared.missing.Missing.TheVariants as missing;
 ghost use Rattle.hir_source_map.specs.declared.source_map.ExpressionStoreSourceMap.{ExpressionStoreSourceMap};
 ghost use Rattle.hir_defs.specs.Tables.{plain_code, generic_def};
-ghost use Rattle.hir_defs.specs.Lookups.{Tables, function_entry, struct_entry, plain_entry, value_entry, of_adt, owner_entry, missing_owner};
+ghost use Rattle.hir_store_core.specs.Owners.{missing_owner};
+ghost use Rattle.hir_defs.specs.Lookups.{Tables, function_entry, struct_entry, plain_entry, value_entry, of_adt, owner_entry};
 
 use crate::no_generics::NoGenerics;
 use crate::plain_def::PlainDef;
 use crate::tables::{Tables, entry};
-use hir_base::{
-    AdtId, DefWithBodyId, ExpressionStoreOwnerId, FunctionId, GenericDefId, StructId, Table,
-};
-use hir_items::{
-    Bodies, BodyEntry, FunctionSignature, PlainSignature, SignatureEntry, Signatures,
-    StructSignature,
+use hir_base::{AdtId, DefWithBodyId, ExpressionStoreOwnerId, FunctionId, GenericDefId, StructId};
+use hir_body::{Bodies, BodyEntry};
+use hir_collections::Table;
+use hir_signature::{
+    FunctionSignature, PlainSignature, SignatureEntry, Signatures, StructSignature,
 };
 use hir_source_map::ExpressionStoreSourceMap;
-use hir_store_core::{ExpressionStore, Missing};
+use hir_store_core::{ExpressionStore, Missing, StoreEntry, Stores};
 
 fn of_function<'a>(
     functions: &'a Table<FunctionId, (FunctionSignature, ExpressionStoreSourceMap)>,
@@ -137,6 +137,28 @@ impl Bodies for Tables {
     }
 }
 
+impl Stores for Tables {
+    ghost store_entry = { owner_entry };
+
+    fn store_of(&self, owner: ExpressionStoreOwnerId) -> Result<StoreEntry<'_>, Missing> {
+        match owner {
+            ExpressionStoreOwnerId::Signature(def) => {
+                let (_, store, source_map) = self.signature_of(def)?;
+                Ok((store, source_map))
+            }
+            ExpressionStoreOwnerId::Body(def) => {
+                let (body, source_map) = self.body_of(def)?;
+                Ok((body.store(), source_map.store()))
+            }
+            ExpressionStoreOwnerId::VariantFields(variant) => {
+                let wanted = Missing::Fields(variant);
+                let (fields, source_map) = entry(&self.fields, &variant, wanted)?;
+                Ok((fields.store(), source_map))
+            }
+        }
+    }
+}
+
 /// A lookup of a store by its owner.
 pub trait StoreOf {
     // what the tables have for an owner
@@ -177,20 +199,6 @@ impl StoreOf for ExpressionStore {
         tables: &Tables,
         owner: ExpressionStoreOwnerId,
     ) -> Result<(&ExpressionStore, &ExpressionStoreSourceMap), Missing> {
-        match owner {
-            ExpressionStoreOwnerId::Signature(def) => {
-                let (_, store, source_map) = tables.signature_of(def)?;
-                Ok((store, source_map))
-            }
-            ExpressionStoreOwnerId::Body(def) => {
-                let (body, source_map) = tables.body_of(def)?;
-                Ok((body.store(), source_map.store()))
-            }
-            ExpressionStoreOwnerId::VariantFields(variant) => {
-                let wanted = Missing::Fields(variant);
-                let (fields, source_map) = entry(&tables.fields, &variant, wanted)?;
-                Ok((fields.store(), source_map))
-            }
-        }
+        tables.store_of(owner)
     }
 }

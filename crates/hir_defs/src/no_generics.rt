@@ -1,9 +1,9 @@
 //! Empty generic parameters, kept so that they can be borrowed.
 
 ghost use Rattle.std.specs.Prelude.{◌≡◌};
-ghost use Rattle.hir_items.specs.Generics.{empty};
+ghost use Rattle.hir_signature.specs.Generics.{empty};
 
-use hir_items::GenericParams;
+use hir_signature::GenericParams;
 use std::alloc::Global;
 use std::marker::Model;
 

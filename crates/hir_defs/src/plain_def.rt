@@ -1,13 +1,13 @@
 //! The definitions whose signature keeps only the generic parameters, and how structs lie in memory.
 
 ghost use Rattle.std.specs.Prelude.{◌≡◌, false, None};
-ghost use Rattle.hir_base.specs.Exact.{exact};
+ghost use Rattle.hir_collections.specs.Exact.{exact};
 ghost use Rattle.hir_defs.specs.Tables.{plain_code, plain_tells, generic_def};
 
 use hir_base::{
-    AdtId, ConstId, EnumId, ExactEq, GenericDefId, HasCode, ImplId, StaticId, TraitId, TryClone,
-    TypeAliasId, UnionId,
+    AdtId, ConstId, EnumId, GenericDefId, ImplId, StaticId, TraitId, TypeAliasId, UnionId,
 };
+use hir_collections::{ExactEq, HasCode, TryClone};
 
 /// A definition whose signature keeps only the generic parameters.
 #[derive(Clone, Copy, PartialEq, Eq, Hash)]

@@ -15,11 +15,11 @@ use crate::no_generics::NoGenerics;
 use crate::plain_def::{PlainDef, Repr};
 use hir_base::{
     AdtId, CrateId, DefWithBodyId, Edition, EnumId, EnumVariantId, FunctionId, GenericDefId,
-    HasCode, NamedDef, RawWords, Seq, StructId, Table, Text, VariantId,
+    NamedDef, RawWords, StructId, VariantId,
 };
-use hir_items::{
-    Body, BodySourceMap, FunctionSignature, PlainSignature, StructSignature, VariantFields,
-};
+use hir_body::{Body, BodySourceMap};
+use hir_collections::{HasCode, Seq, Table, Text};
+use hir_signature::{FunctionSignature, PlainSignature, StructSignature, VariantFields};
 use hir_source_map::ExpressionStoreSourceMap;
 use hir_store_core::Missing;
 use std::alloc::{AllocFailed, Global};

@@ -1,9 +1,9 @@
 -- Which errors say that an allocation failed.
 use Rattle.std.specs.Prelude.{◌≡◌}
-use Rattle.hir_base.specs.declared.arena.ArenaFault.TheVariants as arena
+use Rattle.hir_collections.specs.declared.arena.ArenaFault.TheVariants as arena
 use Rattle.hir_validate.specs.declared.fault.FinishFault.TheVariants as finish
-use Rattle.hir_items.specs.declared.body_fault.BodyFault.TheVariants as body
-use Rattle.hir_items.specs.declared.signature_fault.SignatureFault.TheVariants as signature
+use Rattle.hir_body.specs.declared.body_fault.BodyFault.TheVariants as body
+use Rattle.hir_signature.specs.declared.signature_fault.SignatureFault.TheVariants as signature
 use Rattle.hir_scope.specs.declared.fault.ScopesFault.TheVariants as scopes
 use Rattle.hir_pretty_nodes.specs.declared.fault.PrintFault.TheVariants as print
 use Rattle.hir_captures.specs.declared.fault.CapturesFault.TheVariants as captures

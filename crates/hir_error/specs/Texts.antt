@@ -1,11 +1,11 @@
 -- The texts of errors: a sentence for each refusal.
 use Rattle.hir_error.specs.Prelude.{List, ℕ, ◌++◌, codes, decimal, id_text, generic_text, body_text, fields_text, named_text, type_or_const_param_text, lifetime_param_text, ArenaFault, ExprOrPatId, NodeId, node_text, Missing, Name, Variant, Crate, Signature, Body, Fields, TypeParam, LifetimeParam, DefMap, FinishFault, BodyFault, SignatureFault, ScopesFault, CapturesFault, RenameFault}
-use Rattle.hir_base.specs.declared.arena.ArenaFault.TheVariants as arena
+use Rattle.hir_collections.specs.declared.arena.ArenaFault.TheVariants as arena
 use Rattle.hir_path.specs.declared.ids.ExprOrPatId.TheVariants as either
 use Rattle.hir_node.specs.declared.node_id.NodeId.TheVariants as node
 use Rattle.hir_validate.specs.declared.fault.FinishFault.TheVariants as finish
-use Rattle.hir_items.specs.declared.body_fault.BodyFault.TheVariants as body
-use Rattle.hir_items.specs.declared.signature_fault.SignatureFault.TheVariants as signature
+use Rattle.hir_body.specs.declared.body_fault.BodyFault.TheVariants as body
+use Rattle.hir_signature.specs.declared.signature_fault.SignatureFault.TheVariants as signature
 use Rattle.hir_scope.specs.declared.fault.ScopesFault.TheVariants as scopes
 use Rattle.hir_pretty_nodes.specs.declared.fault.PrintFault.TheVariants as print
 use Rattle.hir_captures.specs.declared.fault.CapturesFault.TheVariants as captures

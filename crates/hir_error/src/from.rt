@@ -1,16 +1,17 @@
 //! What each refusal turns into.
 
 ghost use Rattle.std.specs.Prelude.{◌≡◌};
-ghost use Rattle.hir_base.specs.declared.arena.ArenaFault.TheVariants.{Memory};
+ghost use Rattle.hir_collections.specs.declared.arena.ArenaFault.TheVariants.{Memory};
 ghost use Rattle.hir_error.specs.declared.error.HirError.TheVariants as error;
 
 use crate::HirError;
 use crate::missing_ids::missing_id;
-use hir_base::ArenaFault;
+use hir_body::{BodyFault, RefusedBody};
 use hir_captures::CapturesFault;
-use hir_items::{BodyFault, RefusedBody, RefusedSignature, SignatureFault};
+use hir_collections::ArenaFault;
 use hir_pretty::PrintFault;
 use hir_scope::ScopesFault;
+use hir_signature::{RefusedSignature, SignatureFault};
 use hir_store::{FinishFault, Refused};
 use hir_store_core::Missing;
 use hir_usages::RenameFault;

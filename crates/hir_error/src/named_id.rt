@@ -1,9 +1,9 @@
 //! An id that a node names, of any of the six arenas.
 
 ghost use Rattle.std.specs.Prelude.{Some};
-ghost use Rattle.hir_base.specs.Exact.{exact};
+ghost use Rattle.hir_collections.specs.Exact.{exact};
 
-use hir_base::ExactEq;
+use hir_collections::ExactEq;
 use hir_node::{BindingId, ExprId, LabelId, LifetimeRefId, PatId, TypeRefId};
 use std::fmt;
 

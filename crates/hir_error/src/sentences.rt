@@ -5,8 +5,9 @@ ghost use Rattle.std.specs.Prelude.{◌≡◌};
 ghost use Rattle.hir_error.specs.Texts.{node_of};
 
 use crate::named_id::NamedId;
-use hir_items::{BodyFault, SignatureFault};
+use hir_body::BodyFault;
 use hir_node::{ExprOrPatId, NodeId};
+use hir_signature::SignatureFault;
 use hir_store::FinishFault;
 use hir_usages::RenameFault;
 use std::fmt::{self, Display};

@@ -1,6 +1,6 @@
 //! Questions on equality and on copies, of nodes and of whole stores.
 
-use hir_base::{ArenaIter, ExactEq, TryClone};
+use hir_collections::{ArenaIter, ExactEq, TryClone};
 use hir_node::{Binding, Expr, Label, LabelId, LifetimeRef, Pat, TypeRef};
 use hir_store::{ExpressionStore, ExpressionStoreSourceMap};
 use hir_text_defs::Finished;

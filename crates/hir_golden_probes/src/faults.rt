@@ -1,10 +1,11 @@
 //! Questions on the texts of faults.
 
 use hir_base::{
-    ArenaFault, DefWithBodyId, FunctionId, GenericDefId, Id, Idx, LifetimeParamId, NamedDef,
-    TypeOrConstParamId, TypeParamId, VariantId,
+    DefWithBodyId, FunctionId, GenericDefId, Id, LifetimeParamId, NamedDef, TypeOrConstParamId,
+    TypeParamId, VariantId,
 };
 use hir_captures::CapturesFault;
+use hir_collections::{ArenaFault, Idx};
 use hir_defs::{BodyFault, SignatureFault};
 use hir_error::HirError;
 use hir_pretty::PrintFault;

@@ -1,6 +1,7 @@
 //! Parts of a path, and paths that are made of them.
 
-use hir_base::{ModPath, PathKind, Seq, TryClone};
+use hir_base::{ModPath, PathKind};
+use hir_collections::{Seq, TryClone};
 use hir_node::{GenericArgs, Path, PathSegment, PathSegments, TypeRefId};
 use hir_text_nodes::{
     Answer, TextError, Words, join_args, write_args, write_mod_path, write_path, write_segments,

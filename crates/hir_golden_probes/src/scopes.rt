@@ -1,7 +1,8 @@
 //! Whether scopes that are made in several ways are the same.
 
 use crate::equality::write_same;
-use hir_base::{ExactEq, ExpressionStoreOwnerId, Steps};
+use hir_base::{ExpressionStoreOwnerId, Steps};
+use hir_collections::ExactEq;
 use hir_defs::{Body, Tables};
 use hir_scope::{ExprScopes, ScopesFault};
 use hir_text::Asked;

@@ -1,6 +1,6 @@
 //! The walks that can stop.
 
-use hir_base::Idx;
+use hir_collections::Idx;
 use hir_node::{BindingId, ExprId, PatId};
 use hir_store::ExpressionStore;
 use hir_text_nodes::{Answer, TextError};

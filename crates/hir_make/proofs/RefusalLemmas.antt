@@ -3,8 +3,8 @@ use Rattle.std.proofs.Common.{◌≡◌, ◌⊎◌, Option, Some, None, inl, inr
 use Rattle.hir_node.specs.declared.node_id.NodeId.{NodeId}
 use Rattle.hir_validate.specs.declared.fault.FinishFault.{FinishFault}
 use Rattle.hir_validate.specs.declared.fault.FinishFault.TheVariants as finish
-use Rattle.hir_items.specs.Bodies.{BodyContents}
-use Rattle.hir_items.specs.declared.signature_fault.SignatureFault.{SignatureFault}
+use Rattle.hir_body.specs.Bodies.{BodyContents}
+use Rattle.hir_signature.specs.declared.signature_fault.SignatureFault.{SignatureFault}
 use Rattle.hir_store.specs.Building.{building_of, nodes_of, finish_fault}
 use Rattle.hir_store.specs.declared.builder.ExpressionStoreBuilder.{ExpressionStoreBuilder}
 use Rattle.hir_error.specs.declared.named_id.NamedId.{NamedId}

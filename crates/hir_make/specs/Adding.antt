@@ -3,7 +3,7 @@
 use Rattle.hir_make.specs.Prelude.{◌≡◌, ◌⊎◌, ℕ, List, [], ◌∷◌, ◌++◌, length, Option, Some, None, MOST_ITEMS, Full, Memory, ExprId, PatId, TypeRefId, LabelId, GenericArgs, Expr, Pat, Binding, Label, TypeRef, NodeId, FinishFault, BodyContents, body_fault, SignatureFault, building_of, nodes_of, finish_fault, ExpressionStoreBuilder, NamedId, missing_id, store_error, HirError}
 use Rattle.hir_node.specs.declared.expr.Expr.TheVariants as expr
 use Rattle.hir_validate.specs.declared.fault.FinishFault.TheVariants as finish
-use Rattle.hir_items.specs.declared.body_fault.BodyFault.TheVariants as body
+use Rattle.hir_body.specs.declared.body_fault.BodyFault.TheVariants as body
 use Rattle.hir_error.specs.declared.error.HirError.TheVariants as error
 
 -- the builder with one node more

@@ -2,7 +2,7 @@
 
 ghost use Rattle.std.specs.Prelude.{◌≡◌, IfOk, IfErr};
 ghost use Rattle.hir_path.specs.Paths.{one_name};
-ghost use Rattle.hir_base.specs.declared.arena.ArenaFault.TheVariants.{Memory};
+ghost use Rattle.hir_collections.specs.declared.arena.ArenaFault.TheVariants.{Memory};
 ghost use Rattle.hir_error.specs.declared.error.HirError.TheVariants as error;
 ghost use Rattle.hir_make.specs.Adding.{AddsExpr, AddsPat, AddsType, RefusesExpr, RefusesPat, RefusesType};
 

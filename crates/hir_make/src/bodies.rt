@@ -1,16 +1,16 @@
 //! The body of a function, out of a builder.
 
 ghost use Rattle.std.specs.Prelude.{◌≡◌, IfOk, IfErr, None};
-ghost use Rattle.hir_base.specs.declared.arena.ArenaFault.TheVariants.{Memory};
+ghost use Rattle.hir_collections.specs.declared.arena.ArenaFault.TheVariants.{Memory};
 ghost use Rattle.hir_error.specs.declared.error.HirError.TheVariants as error;
 ghost use Rattle.hir_store.specs.Building.{building_of, finish_fault};
-ghost use Rattle.hir_items.specs.Bodies.{body_fault};
+ghost use Rattle.hir_body.specs.Bodies.{body_fault};
 ghost use Rattle.hir_make.specs.Adding.{RefusesBody};
 ghost use Rattle.hir_make.specs.Parts.{params_of, with_root, body_with};
 
-use hir_base::Seq;
+use hir_body::{Body, Param};
+use hir_collections::Seq;
 use hir_error::HirError;
-use hir_items::{Body, Param};
 use hir_node::{ExprId, PatId};
 use hir_store::ExpressionStoreBuilder;
 use std::alloc::Global;

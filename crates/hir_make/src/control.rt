@@ -7,7 +7,8 @@ ghost use Rattle.hir_make.specs.Adding.{AddsExpr, RefusesExpr, AddsLabel, Refuse
 ghost use Rattle.hir_make.specs.Parts.{label_named};
 
 use crate::adding::add_expr;
-use hir_base::{Name, Seq};
+use hir_base::Name;
+use hir_collections::Seq;
 use hir_error::HirError;
 use hir_node::{Expr, ExprId, Label, LabelId, LoopSource, MatchArm, PatId};
 use hir_store::ExpressionStoreBuilder;

@@ -10,7 +10,8 @@ ghost use Rattle.hir_make.specs.Adding.{AddsExpr, RefusesExpr, with_pat, Refuses
 ghost use Rattle.hir_make.specs.Parts.{closure_of, block_of, plain_block, no_types};
 
 use crate::adding::{add_expr, add_pat, path};
-use hir_base::{Name, Seq, ShortList};
+use hir_base::Name;
+use hir_collections::{Seq, ShortList};
 use hir_error::HirError;
 use hir_node::{
     CaptureBy, ClosureKind, Expr, ExprId, Literal, Mutability, Pat, PatId, Rawness, Statement,

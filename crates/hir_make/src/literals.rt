@@ -5,7 +5,8 @@ ghost use Rattle.hir_node.specs.declared.literal.Literal.TheVariants as literal;
 ghost use Rattle.hir_make.specs.Adding.{AddsExpr, RefusesExpr};
 
 use crate::adding::add_expr;
-use hir_base::{BuiltinInt, BuiltinUint, Text};
+use hir_base::{BuiltinInt, BuiltinUint};
+use hir_collections::Text;
 use hir_error::HirError;
 use hir_node::{Expr, ExprId, FloatTypeWrapper, Literal};
 use hir_store::ExpressionStoreBuilder;

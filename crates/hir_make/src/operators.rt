@@ -4,7 +4,8 @@ ghost use Rattle.std.specs.Prelude.{◌≡◌, Some, IfOk, IfErr};
 ghost use Rattle.hir_make.specs.Adding.{AddsExpr, RefusesExpr};
 
 use crate::adding::add_expr;
-use hir_base::{BinaryOp, ShortList, UnaryOp};
+use hir_base::{BinaryOp, UnaryOp};
+use hir_collections::ShortList;
 use hir_error::HirError;
 use hir_node::{Array, Expr, ExprId};
 use hir_store::ExpressionStoreBuilder;

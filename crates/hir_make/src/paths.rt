@@ -4,9 +4,10 @@ ghost use Rattle.std.specs.Prelude.{◌≡◌, length, IfOk, IfErr};
 ghost use Rattle.hir_path.specs.Paths.{path_with};
 ghost use Rattle.hir_make.specs.Adding.{RefusesLists};
 
-use hir_base::{ModPath, Seq};
+use hir_base::ModPath;
+use hir_collections::{Boxed, Seq};
 use hir_error::HirError;
-use hir_node::{Boxed, GenericArgs, NormalPath, Path, TypeRefId};
+use hir_node::{GenericArgs, NormalPath, Path, TypeRefId};
 use std::alloc::Global;
 
 /// Returns the path with this anchor and these lists of generic arguments, one for each segment, as

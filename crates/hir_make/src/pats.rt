@@ -8,7 +8,8 @@ ghost use Rattle.hir_make.specs.Adding.{AddsPat, RefusesPat, with_binding, Refus
 ghost use Rattle.hir_make.specs.Parts.{plain_binding, binding_named};
 
 use crate::adding::{add_pat, path};
-use hir_base::{HygieneId, Name, ShortList};
+use hir_base::{HygieneId, Name};
+use hir_collections::ShortList;
 use hir_error::HirError;
 use hir_node::{Binding, BindingAnnotation, ExprId, Pat, PatId};
 use hir_store::ExpressionStoreBuilder;

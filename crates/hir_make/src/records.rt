@@ -2,14 +2,15 @@
 
 ghost use Rattle.std.specs.Prelude.{◌≡◌, false, true, IfOk, IfErr};
 ghost use Rattle.hir_path.specs.Paths.{one_name};
-ghost use Rattle.hir_base.specs.declared.arena.ArenaFault.TheVariants.{Memory};
+ghost use Rattle.hir_collections.specs.declared.arena.ArenaFault.TheVariants.{Memory};
 ghost use Rattle.hir_error.specs.declared.error.HirError.TheVariants as error;
 ghost use Rattle.hir_make.specs.Adding.{AddsExpr, AddsPat, RefusesExpr, RefusesPat};
 
 use crate::adding::{add_expr, add_pat, path};
-use hir_base::{Name, Seq};
+use hir_base::Name;
+use hir_collections::{Boxed, Seq};
 use hir_error::HirError;
-use hir_node::{Boxed, Expr, ExprId, Pat, PatId, RecordFieldPat, RecordLitField, RecordSpread};
+use hir_node::{Expr, ExprId, Pat, PatId, RecordFieldPat, RecordLitField, RecordSpread};
 use hir_store::ExpressionStoreBuilder;
 use std::alloc::Global;
 

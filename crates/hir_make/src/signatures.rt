@@ -2,20 +2,21 @@
 //! source map comes with each, since tables take both.
 
 ghost use Rattle.std.specs.Prelude.{◌≡◌, None, false, IfOk, IfErr};
-ghost use Rattle.hir_base.specs.declared.arena.ArenaFault.TheVariants.{Memory};
+ghost use Rattle.hir_collections.specs.declared.arena.ArenaFault.TheVariants.{Memory};
 ghost use Rattle.hir_error.specs.declared.error.HirError.TheVariants as error;
 ghost use Rattle.hir_store.specs.Building.{building_of, finish_fault};
-ghost use Rattle.hir_items.specs.Signatures.{function_fault, struct_fault, fields_fault};
+ghost use Rattle.hir_signature.specs.Signatures.{function_fault, struct_fault, fields_fault};
 ghost use Rattle.hir_make.specs.Adding.{RefusesSignature};
 ghost use Rattle.hir_make.specs.Parts.{function_of, struct_of, fields_of, sources_of};
 
-use hir_base::{ExternAbi, Name, Seq};
+use hir_base::{ExternAbi, Name};
+use hir_collections::Seq;
 use hir_error::HirError;
-use hir_items::{
+use hir_node::TypeRefId;
+use hir_signature::{
     FieldData, FieldsShape, FunctionParts, FunctionSignature, GenericParams, RawVisibility,
     StructParts, StructSignature, VariantFields, VariantParts,
 };
-use hir_node::TypeRefId;
 use hir_store::{ExpressionStoreBuilder, ExpressionStoreSourceMap};
 use std::alloc::Global;
 

@@ -6,11 +6,10 @@ ghost use Rattle.hir_make.specs.Adding.{AddsType, RefusesType};
 ghost use Rattle.hir_make.specs.Parts.{reference_to};
 
 use crate::adding::{add_type, path};
+use hir_collections::Boxed;
 use hir_error::HirError;
-use hir_generics::WherePredicate;
-use hir_node::{
-    Boxed, Mutability, PathId, RefType, TraitBoundModifier, TypeBound, TypeRef, TypeRefId,
-};
+use hir_node::{Mutability, PathId, RefType, TraitBoundModifier, TypeBound, TypeRef, TypeRefId};
+use hir_signature::WherePredicate;
 use hir_store::ExpressionStoreBuilder;
 use std::alloc::Global;
 

@@ -1,8 +1,9 @@
 //! Bindings, which are the variables that patterns bind, and labels of blocks and loops.
 ghost use Rattle.std.specs.Prelude.{◌≡◌};
-ghost use Rattle.hir_base.specs.Exact.{exact};
+ghost use Rattle.hir_collections.specs.Exact.{exact};
 
-use hir_base::{ExactEq, HygieneId, Name, TryClone};
+use hir_base::{HygieneId, Name};
+use hir_collections::{ExactEq, TryClone};
 
 /// A label of a block or a loop.
 #[derive(Drop, Clone, PartialEq, Eq)]

@@ -10,7 +10,7 @@ use crate::pat::Pat;
 use crate::type_ref::TypeRef;
 use crate::visit::visit_each;
 use crate::visitor::{StoreVisitor, StoreVisitorExt};
-use hir_path::Boxed;
+use hir_collections::Boxed;
 
 impl Expr {
     /// Calls the visitor with each child, in the order of the child calls.

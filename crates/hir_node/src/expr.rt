@@ -8,11 +8,9 @@ use crate::expr_types::{
 };
 use crate::literal::Literal;
 use crate::type_ref::{Mutability, Rawness};
-use hir_base::{
-    ArithOp, BinaryOp, BlockId, ExactEq, ExprPrecedence, LogicOp, Name, Seq, ShortList, TryClone,
-    UnaryOp,
-};
-use hir_path::{Boxed, ExprId, GenericArgs, LabelId, PatId, Path, TypeRefId};
+use hir_base::{ArithOp, BinaryOp, BlockId, ExprPrecedence, LogicOp, Name, UnaryOp};
+use hir_collections::{Boxed, ExactEq, Seq, ShortList, TryClone};
+use hir_path::{ExprId, GenericArgs, LabelId, PatId, Path, TypeRefId};
 use std::alloc::AllocError;
 
 /// An expression. It takes 64 bytes. The compiler lays fields out in this order. The fields of a record

@@ -1,9 +1,10 @@
 //! The types that expressions are made of: statements, match arms, fields, and the kinds of loops, closures
 //! and arrays.
 ghost use Rattle.std.specs.Prelude.{◌≡◌};
-ghost use Rattle.hir_base.specs.Exact.{exact};
+ghost use Rattle.hir_collections.specs.Exact.{exact};
 
-use hir_base::{ExactEq, MacroDefId, Name, Seq, ShortList, TryClone};
+use hir_base::{MacroDefId, Name};
+use hir_collections::{ExactEq, Seq, ShortList, TryClone};
 use hir_path::{ExprId, PatId, TypeRefId};
 
 /// What comes after the fields of a record literal.

@@ -24,8 +24,9 @@ pub use expr_types::{
     Array, CaptureBy, ClosureKind, CoroutineKind, CoroutineSource, Item, LoopSource, MatchArm,
     Movability, OffsetOf, RecordLitField, RecordSpread, Statement, Unsafe,
 };
+pub use hir_collections::Boxed;
 pub use hir_path::{
-    AssociatedTypeBinding, BindingId, BindingKind, Boxed, ConstRef, ExprId, ExprKind, ExprOrPatId,
+    AssociatedTypeBinding, BindingId, BindingKind, ConstRef, ExprId, ExprKind, ExprOrPatId,
     GenericArg, GenericArgs, GenericArgsParentheses, LabelId, LabelKind, LifetimeRefId,
     LifetimeRefKind, NormalPath, PatId, PatKind, Path, PathId, PathSegment, PathSegments,
     PathSegmentsIter, TraitBoundModifier, TypeBound, TypeRefId, TypeRefKind, UseArgRef,

@@ -1,8 +1,9 @@
 //! Literals: texts, bytes, characters, truth values and numbers.
 ghost use Rattle.std.specs.Prelude.{◌≡◌, Some};
-ghost use Rattle.hir_base.specs.Exact.{exact};
+ghost use Rattle.hir_collections.specs.Exact.{exact};
 
-use hir_base::{BuiltinFloat, BuiltinInt, BuiltinUint, ExactEq, Seq, Text, TryClone};
+use hir_base::{BuiltinFloat, BuiltinInt, BuiltinUint};
+use hir_collections::{ExactEq, Seq, Text, TryClone};
 use hir_path::PatId;
 use std::fmt;
 use std::marker::Model;

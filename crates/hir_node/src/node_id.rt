@@ -1,8 +1,8 @@
 //! The id of a node of any sort.
 ghost use Rattle.std.specs.Prelude.{Some};
-ghost use Rattle.hir_base.specs.Exact.{exact};
+ghost use Rattle.hir_collections.specs.Exact.{exact};
 
-use hir_base::ExactEq;
+use hir_collections::ExactEq;
 use hir_path::{ExprId, PatId, TypeRefId};
 use std::fmt;
 

@@ -1,10 +1,11 @@
 //! Patterns.
 ghost use Rattle.std.specs.Prelude.{◌≡◌, IfOk};
 ghost use Rattle.std.specs.List.{FoldsTo};
-ghost use Rattle.hir_base.specs.Exact.{exact};
+ghost use Rattle.hir_collections.specs.Exact.{exact};
 
 use crate::type_ref::Mutability;
-use hir_base::{ExactEq, Name, RangeOp, Seq, ShortList, TryClone};
+use hir_base::{Name, RangeOp};
+use hir_collections::{ExactEq, Seq, ShortList, TryClone};
 use hir_path::{BindingId, ExprId, PatId, Path};
 use std::alloc::AllocError;
 

@@ -2,10 +2,11 @@
 ghost use Rattle.std.specs.Prelude.{◌≡◌, ◌≢◌, IsTrue, ◌↔◌, [], Some};
 ghost use Rattle.std.specs.Option.{option_map};
 ghost use Rattle.hir_path.specs.Lists.{all_but, last_of};
-ghost use Rattle.hir_base.specs.Exact.{exact};
+ghost use Rattle.hir_collections.specs.Exact.{exact};
 
-use hir_base::{ExactEq, ExternAbi, LifetimeParamId, Name, Seq, ShortList, TryClone, TypeParamId};
-use hir_path::{Boxed, ConstRef, LifetimeRefId, PatId, Path, PathId, TypeBound, TypeRefId};
+use hir_base::{ExternAbi, LifetimeParamId, Name, TypeParamId};
+use hir_collections::{Boxed, ExactEq, Seq, ShortList, TryClone};
+use hir_path::{ConstRef, LifetimeRefId, PatId, Path, PathId, TypeBound, TypeRefId};
 use std::alloc::AllocError;
 
 /// Whether the target of a reference or a pointer may be written.

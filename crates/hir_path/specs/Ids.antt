@@ -1,6 +1,6 @@
 -- Defines the two readings of an id that is of an expression or of a pattern, and its text.
 use Rattle.std.specs.Prelude.{ℕ, List, Option, Some, None, codes}
-use Rattle.hir_base.specs.IdTexts.{id_text}
+use Rattle.hir_collections.specs.IdText.{id_text}
 use Rattle.hir_path.specs.declared.ids.ExprOrPatId.{ExprOrPatId}
 use Rattle.hir_path.specs.declared.ids.ExprOrPatId.TheVariants as id
 use Rattle.hir_path.specs.NodeIds.{ExprId, PatId}

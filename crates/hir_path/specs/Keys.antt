@@ -2,7 +2,8 @@
 use Rattle.std.specs.Prelude.{◌≡◌, ℕ, List, [], ◌∷◌, Bool, Some}
 use Rattle.std.specs.Bool.{Decides}
 use Rattle.std.proofs.Common.{refl}
-use Rattle.hir_base.specs.Keys.{read_id, read_back_tells}
+use Rattle.hir_base.specs.Keys.{read_id}
+use Rattle.hir_collections.specs.Codes.{read_back_tells}
 use Rattle.hir_path.specs.declared.ids.ExprOrPatId.{ExprOrPatId}
 use Rattle.hir_path.specs.declared.ids.ExprOrPatId.TheVariants.{ExprId, PatId}
 

@@ -4,8 +4,6 @@ pub mod NodeIds
 pub mod Ids
 -- the codes of such ids as keys of tables
 pub mod Keys
--- writes to a value on the heap
-pub mod Boxed
 -- lists without their last members
 pub mod Lists
 -- the segments of a path, and cuts of them

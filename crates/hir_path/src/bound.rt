@@ -1,10 +1,11 @@
 //! The parts of generic arguments and bounds: constants, the ids of types that are paths, and bounds.
 ghost use Rattle.std.specs.Prelude.{◌≡◌, Some, codes};
-ghost use Rattle.hir_base.specs.Exact.{exact};
-ghost use Rattle.hir_base.specs.IdTexts.{id_text};
+ghost use Rattle.hir_collections.specs.Exact.{exact};
+ghost use Rattle.hir_collections.specs.IdText.{id_text};
 
 use crate::ids::{ExprId, LifetimeRefId, TypeRefId};
-use hir_base::{ExactEq, Name, Seq, TryClone};
+use hir_base::Name;
+use hir_collections::{ExactEq, Seq, TryClone};
 use std::fmt::{self, Debug, Display};
 use std::marker::Model;
 

@@ -1,10 +1,10 @@
 //! The ids of what a store holds: expressions, patterns, bindings, labels, types and lifetimes.
 //! Each is the number of an item in an arena; ids of two kinds can't be mixed up.
 ghost use Rattle.std.specs.Prelude.{◌≡◌, Some, None, IsTrue, IsSome, ◌↔◌, codes};
-ghost use Rattle.hir_base.specs.Exact.{exact};
+ghost use Rattle.hir_collections.specs.Exact.{exact};
 ghost use Rattle.hir_path.specs.Ids.{expr_of, pat_of, expr_or_pat_text};
 
-use hir_base::{ExactEq, Idx, Kind, TryClone};
+use hir_collections::{ExactEq, Idx, Kind, TryClone};
 use std::fmt::{self, Debug, Display};
 
 /// The kind of expressions. It is a marker: no value of it exists.

@@ -4,7 +4,6 @@
 #![tactic(auto)]
 
 mod bound;
-mod boxed;
 mod ids;
 mod keys;
 pub mod laws;
@@ -13,7 +12,6 @@ mod segments;
 mod segments_iter;
 
 pub use bound::{ConstRef, PathId, TraitBoundModifier, TypeBound, UseArgRef};
-pub use boxed::Boxed;
 pub use ids::{
     BindingId, BindingKind, ExprId, ExprKind, ExprOrPatId, LabelId, LabelKind, LifetimeRefId,
     LifetimeRefKind, PatId, PatKind, TypeRefId, TypeRefKind,

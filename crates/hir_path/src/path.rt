@@ -2,15 +2,15 @@
 //! The views of a path's segments are in `segments`.
 ghost use Rattle.std.specs.Prelude.{◌≡◌, ◌↔◌, IfOk, IfErr, IsTrue, length, IsOk, [], None};
 ghost use Rattle.std.specs.Option.{option_copied, option_to_list};
-ghost use Rattle.hir_base.specs.Exact.{exact};
+ghost use Rattle.hir_collections.specs.Exact.{exact};
 ghost use Rattle.hir_path.specs.Paths.{no_args, but_last};
 ghost use Rattle.hir_path.specs.Lists.{all_but};
 
 use crate::bound::{ConstRef, TypeBound};
-use crate::boxed::Boxed;
 use crate::ids::{LifetimeRefId, TypeRefId};
 use crate::segments::PathSegments;
-use hir_base::{ExactEq, LangItemTarget, ModPath, Name, PathKind, Seq, TryClone};
+use hir_base::{LangItemTarget, ModPath, Name, PathKind};
+use hir_collections::{Boxed, ExactEq, Seq, TryClone};
 use std::alloc::{AllocError, AllocFailed, Global};
 use std::slice;
 

@@ -5,9 +5,10 @@ use Rattle.std.proofs.lemmas.Bool.{lt-ltb, true≢false}
 use Rattle.std.proofs.lemmas.List.{drop_all}
 use Rattle.hir_base.specs.declared.mod_path.PathKind.{PathKind}
 use Rattle.hir_base.specs.declared.mod_path.PathKind.TheVariants.{Plain}
-use Rattle.hir_generics.specs.declared.{data.LifetimeParamData.LifetimeParamData, predicate.WherePredicate.WherePredicate, param.TypeOrConstParamData.TypeOrConstParamData}
-use Rattle.hir_items.specs.Bodies.{formals_of}
-use Rattle.hir_items.specs.declared.{formals.Param.Param, signatures.FunctionParts.FunctionParts}
+use Rattle.hir_signature.specs.declared.{param_data.LifetimeParamData.LifetimeParamData, predicate.WherePredicate.WherePredicate, any_param.TypeOrConstParamData.TypeOrConstParamData}
+use Rattle.hir_body.specs.Bodies.{formals_of}
+use Rattle.hir_body.specs.declared.{formals.Param.Param}
+use Rattle.hir_signature.specs.declared.{signatures.FunctionParts.FunctionParts}
 use Rattle.hir_pretty_nodes.specs.Prelude.{PrintEnv, Doc, text, br, into, out, t, p, opt, when, join, comma_joined, binding_docs, colons_first, type_param_docs, following}
 use Rattle.hir_pretty_nodes.proofs.ListLemmas.{drop_item, is_cons, following_append, following_joined}
 use Rattle.hir_pretty_nodes.proofs.OrderLemmas.{cons_length}

@@ -22,20 +22,20 @@ use Rattle.hir_node.specs.declared.literal.Literal.TheVariants as literal
 use Rattle.hir_node.specs.declared.expr.Expr.TheVariants as expr
 use Rattle.hir_node.specs.declared.expr_types.Unsafe.TheVariants as unsafety
 use Rattle.hir_node.specs.declared.type_ref.TypeRef.TheVariants as type
-use Rattle.hir_generics.specs.declared.data.LifetimeBoundType.TheVariants as bound_type
-use Rattle.hir_generics.specs.declared.data.TypeParamProvenance.TheVariants as provenance
-use Rattle.hir_generics.specs.declared.param.TypeOrConstParamData.{TypeOrConstParamData}
-use Rattle.hir_generics.specs.declared.param.TypeOrConstParamData.TheVariants as param
-use Rattle.hir_generics.specs.declared.predicate.WherePredicate.TheVariants as predicate
+use Rattle.hir_signature.specs.declared.param_data.LifetimeBoundType.TheVariants as bound_type
+use Rattle.hir_signature.specs.declared.param_data.TypeParamProvenance.TheVariants as provenance
+use Rattle.hir_signature.specs.declared.any_param.TypeOrConstParamData.{TypeOrConstParamData}
+use Rattle.hir_signature.specs.declared.any_param.TypeOrConstParamData.TheVariants as param
+use Rattle.hir_signature.specs.declared.predicate.WherePredicate.TheVariants as predicate
 use Rattle.hir_validate.specs.Recursion.{fold_down, rank}
 use Rattle.hir_store_core.specs.{Contents.Contents, SideTables.no_side_tables}
 use Rattle.hir_pretty_nodes.specs.Prelude.{Missing, NameLookups, PrintEnv, Doc, pieces, first_missing, text_of, doc_list_pieces}
 use Rattle.hir_store_core.specs.declared.missing.Missing.TheVariants as missing
-use Rattle.hir_items.specs.declared.signatures.FieldsShape.TheVariants as shape
-use Rattle.hir_items.specs.declared.signatures.RawVisibility.TheVariants as visibility
-use Rattle.hir_items.specs.Bodies.{BodyContents}
-use Rattle.hir_items.specs.declared.signatures.FunctionParts.{FunctionParts}
-use Rattle.hir_items.specs.Generics.{Generics, empty}
+use Rattle.hir_signature.specs.declared.signatures.FieldsShape.TheVariants as shape
+use Rattle.hir_signature.specs.declared.signatures.RawVisibility.TheVariants as visibility
+use Rattle.hir_body.specs.Bodies.{BodyContents}
+use Rattle.hir_signature.specs.declared.signatures.FunctionParts.{FunctionParts}
+use Rattle.hir_signature.specs.Generics.{Generics, empty}
 use Rattle.hir_pretty.specs.Bodies.{Parents, body_docs}
 use Rattle.hir_pretty.specs.Variants.{variant_docs, without_fields}
 use Rattle.hir_pretty.specs.Signatures.{function_docs, struct_docs, unimplemented_docs}

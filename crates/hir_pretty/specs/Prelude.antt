@@ -12,21 +12,21 @@ pub use Rattle.hir_base.specs.declared.defs.GenericDefId.{GenericDefId}
 pub use Rattle.hir_base.specs.declared.defs.VariantId.{VariantId}
 pub use Rattle.hir_base.specs.declared.mod_path.PathKind.{PathKind}
 pub use Rattle.hir_base.specs.declared.mod_path.PathKind.TheVariants.{Plain, Super, Crate, Abs, DollarCrate}
+pub use Rattle.hir_body.specs.Bodies.{BodyContents, formals_of, last_root}
+pub use Rattle.hir_body.specs.declared.formals.Param.{Param}
 pub use Rattle.hir_defs.specs.Lookups.{Tables}
 pub use Rattle.hir_defs.specs.declared.plain_def.Repr.{Repr}
-pub use Rattle.hir_generics.specs.declared.data.LifetimeParamData.{LifetimeParamData}
-pub use Rattle.hir_generics.specs.declared.param.TypeOrConstParamData.{TypeOrConstParamData}
-pub use Rattle.hir_generics.specs.declared.predicate.WherePredicate.{WherePredicate}
-pub use Rattle.hir_items.specs.Bodies.{BodyContents, formals_of, last_root}
-pub use Rattle.hir_items.specs.Generics.{Generics}
-pub use Rattle.hir_items.specs.declared.formals.Param.{Param}
-pub use Rattle.hir_items.specs.declared.signatures.FieldData.{FieldData}
-pub use Rattle.hir_items.specs.declared.signatures.FieldsShape.{FieldsShape}
-pub use Rattle.hir_items.specs.declared.signatures.FunctionParts.{FunctionParts}
-pub use Rattle.hir_items.specs.declared.signatures.RawVisibility.{RawVisibility}
-pub use Rattle.hir_items.specs.declared.signatures.StructParts.{StructParts}
-pub use Rattle.hir_items.specs.declared.signatures.VariantParts.{VariantParts}
 pub use Rattle.hir_path.specs.NodeIds.{PatId, BindingId, TypeRefId}
 pub use Rattle.hir_pretty_nodes.specs.Prelude.{Missing, PrintEnv, Doc, MissingDoc, text, e, p, opt, comma_joined, binding_docs, found_name, found_or, print_env, lookups_of, PrintsPieces, doc_list_pieces, br, into, out, t, when, join, with_number, name_docs, l, bound_docs, for_names, supers, NameLookups, first_missing}
 pub use Rattle.hir_pretty_nodes.specs.declared.fault.PrintFault.{PrintFault}
+pub use Rattle.hir_signature.specs.Generics.{Generics}
+pub use Rattle.hir_signature.specs.declared.any_param.TypeOrConstParamData.{TypeOrConstParamData}
+pub use Rattle.hir_signature.specs.declared.param_data.LifetimeParamData.{LifetimeParamData}
+pub use Rattle.hir_signature.specs.declared.predicate.WherePredicate.{WherePredicate}
+pub use Rattle.hir_signature.specs.declared.signatures.FieldData.{FieldData}
+pub use Rattle.hir_signature.specs.declared.signatures.FieldsShape.{FieldsShape}
+pub use Rattle.hir_signature.specs.declared.signatures.FunctionParts.{FunctionParts}
+pub use Rattle.hir_signature.specs.declared.signatures.RawVisibility.{RawVisibility}
+pub use Rattle.hir_signature.specs.declared.signatures.StructParts.{StructParts}
+pub use Rattle.hir_signature.specs.declared.signatures.VariantParts.{VariantParts}
 pub use Rattle.hir_store_core.specs.Contents.{Contents}

@@ -3,8 +3,8 @@ use Rattle.hir_pretty.specs.Prelude.{List, [], ◌∷◌, ◌++◌, map, codes, 
 use Rattle.hir_base.specs.declared.defs.NamedDef.TheVariants as named
 use Rattle.hir_base.specs.declared.defs.VariantId.TheVariants as variant
 use Rattle.hir_store_core.specs.declared.missing.Missing.TheVariants as missing
-use Rattle.hir_items.specs.declared.signatures.FieldsShape.TheVariants as shape
-use Rattle.hir_items.specs.declared.signatures.RawVisibility.TheVariants as visibility
+use Rattle.hir_signature.specs.declared.signatures.FieldsShape.TheVariants as shape
+use Rattle.hir_signature.specs.declared.signatures.RawVisibility.TheVariants as visibility
 use Rattle.hir_pretty.specs.Bodies.{Parents, variant_name}
 
 -- The path of a module: its kind and its names, separated by `::`

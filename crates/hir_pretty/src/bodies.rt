@@ -3,7 +3,7 @@
 
 ghost use Rattle.std.specs.Prelude.{◌≡◌, OnOk, false};
 ghost use Rattle.hir_pretty_nodes.specs.Prelude.{words_of, print_env, opt, comma_joined, binding_docs, lookups_of, PrintsPieces, doc_list_pieces, Adds};
-ghost use Rattle.hir_items.specs.Bodies.{formals_of};
+ghost use Rattle.hir_body.specs.Bodies.{formals_of};
 ghost use Rattle.hir_pretty.specs.Bodies.{formal_self, formal_params, body_params, body_end, body_docs};
 ghost use Rattle.hir_pretty.specs.FoundParts.{parents};
 

@@ -3,7 +3,7 @@
 ghost use Rattle.std.specs.Prelude.{◌<◌, false, length};
 ghost use Rattle.hir_pretty_nodes.specs.Prelude.{words_of, print_env, pieces, doc_list_pieces, lookups_of, PrintsPieces};
 ghost use Rattle.hir_node.specs.declared.node_id.NodeId.TheVariants as node;
-ghost use Rattle.hir_items.specs.Bodies.{BodyContents};
+ghost use Rattle.hir_body.specs.Bodies.{BodyContents};
 ghost use Rattle.hir_pretty.specs.Bodies.{body_docs};
 ghost use Rattle.hir_pretty.specs.FoundParts.{parents};
 

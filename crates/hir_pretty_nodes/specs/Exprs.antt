@@ -16,7 +16,7 @@ use Rattle.hir_node.specs.declared.expr_types.CaptureBy.TheVariants as capture
 use Rattle.hir_node.specs.declared.expr_types.Array.TheVariants as array
 use Rattle.hir_node.specs.declared.expr_types.Statement.TheVariants as statement
 use Rattle.hir_node.specs.declared.expr.Expr.TheVariants as expr
-use Rattle.hir_validate.specs.Nodes.{Nodes}
+use Rattle.hir_validate.specs.declared.node_arenas.Nodes.{Nodes}
 use Rattle.hir_pretty_nodes.specs.NameLookups.{PrintEnv}
 use Rattle.hir_pretty_nodes.specs.Docs.{Doc, text, sp, br, into, out, e, under, p, t, opt, when, join, comma_joined, replacement, with_number}
 use Rattle.hir_pretty_nodes.specs.Names.{name_docs, label_docs}

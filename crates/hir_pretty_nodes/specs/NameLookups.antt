@@ -3,7 +3,7 @@ use Rattle.std.specs.Prelude.{ℕ, Bool, List, Option, Result}
 use Rattle.hir_base.specs.Ids.{CrateId, Name}
 use Rattle.hir_base.specs.declared.{defs.NamedDef.NamedDef, params.TypeOrConstParamId.TypeOrConstParamId, params.LifetimeParamId.LifetimeParamId}
 use Rattle.hir_store_core.specs.declared.missing.Missing.{Missing}
-use Rattle.hir_validate.specs.Nodes.{Nodes}
+use Rattle.hir_validate.specs.declared.node_arenas.Nodes.{Nodes}
 
 -- What is looked up in the tables. A definition, a crate and a type parameter may exist and have no name.
 pub record NameLookups : Type 0 where

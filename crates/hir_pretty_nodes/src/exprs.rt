@@ -7,8 +7,9 @@ ghost use Rattle.hir_pretty_nodes.specs.Prelude.{text, opt, args_docs, turbofish
 
 use crate::{Ending, Part, Printer, Token};
 use hir_base::{BinaryOp, ExprPrecedence, Name};
+use hir_collections::Boxed;
 use hir_node::{
-    Array, Boxed, Expr, ExprId, GenericArgs, LabelId, MatchArm, Path, Rawness, RecordLitField,
+    Array, Expr, ExprId, GenericArgs, LabelId, MatchArm, Path, Rawness, RecordLitField,
     RecordSpread, Unsafe,
 };
 use hir_pretty_layout::PieceWriter;

@@ -1,9 +1,9 @@
 //! Why a printing gives no text.
 ghost use Rattle.std.specs.Prelude.{◌≡◌};
-ghost use Rattle.hir_base.specs.Exact.{exact};
+ghost use Rattle.hir_collections.specs.Exact.{exact};
 ghost use Rattle.hir_pretty_nodes.specs.declared.fault.PrintFault.TheVariants.{Memory};
 
-use hir_base::{ExactEq, TryClone};
+use hir_collections::{ExactEq, TryClone};
 use hir_store_core::Missing;
 use std::alloc::AllocError;
 use thiserror::Error;

@@ -6,7 +6,8 @@ ghost use Rattle.std.specs.Prelude.{◌≡◌, Ok, Err, IfOk, IfErr, OnOk, codes
 ghost use Rattle.hir_pretty_nodes.specs.Prelude.{lifetime_docs, label_docs, l, found_name, type_param_docs, lookups_of, Adds};
 
 use crate::{Part, Printer, Token};
-use hir_base::{CrateId, LifetimeParamId, Name, NamedDef, Text, TypeParamId};
+use hir_base::{CrateId, LifetimeParamId, Name, NamedDef, TypeParamId};
+use hir_collections::Text;
 use hir_defs::{GenericParams, Tables};
 use hir_node::{LabelId, LifetimeRef, LifetimeRefId};
 use hir_pretty_layout::PieceWriter;

@@ -5,7 +5,7 @@ ghost use Rattle.hir_pretty_layout.specs.Steps.{steps};
 ghost use Rattle.hir_pretty_layout.specs.Layouts as piece;
 ghost use Rattle.hir_pretty_nodes.specs.Prelude.{first_if, is_word, name_parts, texts_of, printed_name, same_text};
 
-use hir_base::Text;
+use hir_collections::Text;
 use hir_pretty_layout::PieceWriter;
 use std::alloc::AllocError;
 

@@ -7,8 +7,9 @@ ghost use Rattle.hir_pretty_nodes.specs.Prelude.{opt, bounds_after, arg_docs, ar
 
 use crate::{Part, Printer, Token};
 use hir_base::{ExprPrecedence, LangItemTarget, Name, NamedDef, PathKind};
+use hir_collections::Boxed;
 use hir_node::{
-    AssociatedTypeBinding, Boxed, GenericArg, GenericArgs, NormalPath, Path, TypeBound, TypeRefId,
+    AssociatedTypeBinding, GenericArg, GenericArgs, NormalPath, Path, TypeBound, TypeRefId,
 };
 use hir_pretty_layout::PieceWriter;
 use std::alloc::AllocError;

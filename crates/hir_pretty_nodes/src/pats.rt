@@ -8,7 +8,8 @@ ghost use Rattle.hir_pretty_nodes.specs.Prelude.{PrintEnv, p, opt, under, comma_
 
 use crate::names::is_printed;
 use crate::{Printer, Token};
-use hir_base::{ExprPrecedence, Text};
+use hir_base::ExprPrecedence;
+use hir_collections::Text;
 use hir_node::{Binding, BindingAnnotation, BindingId, ExprId, Pat, PatId, Path, RecordFieldPat};
 use hir_pretty_layout::PieceWriter;
 use hir_store_core::ExpressionStore;

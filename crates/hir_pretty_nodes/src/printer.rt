@@ -2,7 +2,7 @@
 ghost use Rattle.std.specs.Prelude.{◌≤◌, length};
 
 use crate::token::Token;
-use hir_base::Text;
+use hir_collections::Text;
 use hir_defs::Tables;
 use hir_store_core::ExpressionStore;
 

@@ -6,7 +6,8 @@ ghost use Rattle.hir_node.specs.declared.type_ref.TypeRef.TheVariants as of_type
 ghost use Rattle.hir_pretty_nodes.specs.Prelude.{text, t, opt, for_names, use_docs, bound_docs, bounds_docs, extern_docs, signature_docs, fn_docs, type_docs, Adds};
 
 use crate::{Part, Printer, Token};
-use hir_base::{ExprPrecedence, ExternAbi, Name, Seq};
+use hir_base::{ExprPrecedence, ExternAbi, Name};
+use hir_collections::Seq;
 use hir_node::{FnType, RefType, TraitBoundModifier, TypeBound, TypeRef, TypeRefId, UseArgRef};
 use hir_pretty_layout::PieceWriter;
 use std::alloc::AllocError;

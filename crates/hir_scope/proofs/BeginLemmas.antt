@@ -9,11 +9,12 @@ use Rattle.std.specs.{Option.option_to_list, Option.option_map, Prelude.IfSome, 
 use Rattle.hir_node.specs.ChildCalls.{Call, e, p, opt}
 use Rattle.hir_node.specs.declared.node_id.NodeId.{NodeId}
 use Rattle.hir_forest.specs.Faults.{root_nodes}
-use Rattle.hir_validate.specs.{Nodes.Nodes, Nodes.Has, Sound.RootsStandApart, TestedParts.all_of}
+use Rattle.hir_validate.specs.{declared.node_arenas.Nodes.Nodes, Nodes.Has, Sound.RootsStandApart, TestedParts.all_of}
 use Rattle.hir_store_core.specs.{Contents.Contents, Contents.rooted_of, Under.reached_nodes}
-use Rattle.hir_items.specs.Bodies.{BodyContents, AreBelow, formals_of, last_root, body_nodes}
-use Rattle.hir_items.specs.Bodies as body
-use Rattle.hir_items.specs.{Signatures.root_entry_nodes, Signatures.signature_nodes, declared.formals.Param.Param}
+use Rattle.hir_body.specs.Bodies.{BodyContents, AreBelow, formals_of, last_root, body_nodes}
+use Rattle.hir_body.specs.Bodies as body
+use Rattle.hir_signature.specs.{Signatures.root_entry_nodes, Signatures.signature_nodes}
+use Rattle.hir_body.specs.{declared.formals.Param.Param}
 use Rattle.hir_scope.specs.BodyScopes.{entry_nodes_of_body, entry_nodes_of_signature, limit, BodyIsTooLarge, SignatureIsTooLarge}
 use Rattle.hir_scope.specs.Chains.{InContext}
 use Rattle.hir_scope.specs.Counts.{count_if_some, form_scopes, node_entries, body_scope_count, body_entry_count, signature_scope_count, signature_entry_count}

@@ -7,9 +7,11 @@ use Rattle.std.specs.FinMap as finmap
 use Rattle.std.specs.Ordering.{nat_cmp, is_eq, eq_by_cmp}
 use Rattle.std.specs.{Prelude.IsSome, declared.cmp.Ordering.Ordering}
 use Rattle.hir_node.specs.declared.node_id.NodeId.{NodeId}
-use Rattle.hir_validate.specs.Nodes.{Nodes, Has}
+use Rattle.hir_validate.specs.Nodes.{Has}
+use Rattle.hir_validate.specs.declared.node_arenas.Nodes.{Nodes}
 use Rattle.hir_store_core.specs.{Contents.Contents, Under.IsReached, Under.reached_nodes}
-use Rattle.hir_items.specs.{Bodies.BodyContents, Bodies.body_nodes, Bodies.entry_nodes, Signatures.root_entry_nodes}
+use Rattle.hir_body.specs.{Bodies.BodyContents, Bodies.body_nodes, Bodies.entry_nodes}
+use Rattle.hir_signature.specs.{Signatures.root_entry_nodes}
 use Rattle.hir_scope.specs.BodyScopes.{ChainsAreFrames, expr_count, entry_nodes_of_body, entry_nodes_of_signature, AreBodyScopes, AreSignatureScopes, BodyIsTooLarge, SignatureIsTooLarge, limit}
 use Rattle.hir_scope.specs.{Chains.InContext, Chains.Occurs, Chains.within_own, ScopingForms.form_of, Scopes.entry_count}
 use Rattle.hir_scope.specs.internal.Begins.{IsSound, IsSoundBody, IsSoundStore, root_entries, body_begins, signature_begins}

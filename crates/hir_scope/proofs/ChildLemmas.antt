@@ -7,7 +7,8 @@ use Rattle.hir_node.specs.ChildCalls.{Call, OnLifetime, e, p, t, opt, child, chi
 use Rattle.hir_node.specs.declared.expr.Expr.{Expr}
 use Rattle.hir_node.specs.declared.expr_types.{Item.Item, MatchArm.MatchArm, Statement.Statement}
 use Rattle.hir_node.specs.declared.{node_id.NodeId.NodeId, type_ref.TypeRef.TypeRef}
-use Rattle.hir_validate.specs.Nodes.{Nodes, calls_of, children_of}
+use Rattle.hir_validate.specs.Nodes.{calls_of, children_of}
+use Rattle.hir_validate.specs.declared.node_arenas.Nodes.{Nodes}
 use Rattle.hir_scope.specs.ScopingForms.{ScopingForm, form_at, form_of, expr_form, pat_form, type_form}
 use Rattle.hir_scope.specs.ScopingForms as form
 use Rattle.hir_scope.specs.Frames.{Chain, frame, empty, of_kind}

@@ -13,7 +13,7 @@ use Rattle.hir_node.specs.declared.expr_types.{Array.Array, Item.Item, MatchArm.
 use Rattle.hir_node.specs.declared.expr_types.{RecordSpread.RecordSpread, Statement.Statement}
 use Rattle.hir_node.specs.declared.{node_id.NodeId.NodeId, type_ref.TypeRef.TypeRef}
 use Rattle.hir_node.proofs.ChildPatLemmas.{none-path, pats-list}
-use Rattle.hir_validate.specs.{Recursion.rank, Recursion.RankDecreases, Nodes.Nodes, Nodes.Has, Nodes.children_of}
+use Rattle.hir_validate.specs.{Recursion.rank, Recursion.RankDecreases, declared.node_arenas.Nodes.Nodes, Nodes.Has, Nodes.children_of}
 use Rattle.hir_validate.proofs.RecursionLemmas.{fold_down_at}
 use Rattle.hir_store_core.specs.Under.{nodes_under, reached_nodes}
 use Rattle.hir_scope.specs.BodyScopes.{expr_count, is_expr}

@@ -3,8 +3,8 @@ use Rattle.std.proofs.Common.{◌≡◌, length, false, sym, ap, ℕ, List, [], 
 use Rattle.hir_node.specs.ChildCalls.{Call, e, t, opt}
 use Rattle.hir_node.specs.Runs.{Runs, no_call, a_call}
 use Rattle.hir_node.proofs.RunLemmas.{may_freely, runs_one, runs_append, runs_through}
-use Rattle.hir_stack.specs.Stacks.{StackItems, Defers}
-use Rattle.hir_stack.proofs.DeferredLemmas.{defers_none, defers_two}
+use Rattle.hir_collections.specs.Stacks.{StackItems, Defers}
+use Rattle.hir_collections.proofs.DeferredLemmas.{defers_none, defers_two}
 use Rattle.hir_scope.specs.declared.tasks.{Task.Task, Tasks.Tasks}
 use Rattle.hir_scope.specs.internal.Pending.{DefersTask, task_of, tasks_of}
 

@@ -6,7 +6,7 @@ use Rattle.std.specs.List.{All, flat_map, sum_by, slice_get}
 use Rattle.hir_node.specs.ChildCalls.{Call, OnLifetime, e, p, t, opt, child, children}
 use Rattle.hir_node.specs.declared.expr_types.{Item.Item, MatchArm.MatchArm, Statement.Statement}
 use Rattle.hir_node.specs.declared.{node_id.NodeId.NodeId, pat.Pat.Pat, type_ref.TypeRef.TypeRef}
-use Rattle.hir_validate.specs.{Recursion.RankDecreases, Nodes.Nodes, Nodes.Has, Nodes.children_of}
+use Rattle.hir_validate.specs.{Recursion.RankDecreases, declared.node_arenas.Nodes.Nodes, Nodes.Has, Nodes.children_of}
 use Rattle.hir_scope.specs.Chains.{InContext, child_in_context}
 use Rattle.hir_scope.specs.ScopingForms.{ScopingForm, form_of, form_at, pat_form, type_form}
 use Rattle.hir_scope.specs.ScopingForms as form

@@ -7,7 +7,7 @@ use Rattle.std.specs.{List.flat_map, List.slice_get, List.sum_by, List.list_all,
 use Rattle.hir_node.specs.ChildCalls.{Call, OnLifetime, child, children, pat_of_call, pat_calls}
 use Rattle.hir_node.specs.{OtherIds.pat_bindings, declared.binding.Binding.Binding, declared.expr.Expr.Expr}
 use Rattle.hir_node.specs.declared.{node_id.NodeId.NodeId, pat.Pat.Pat, type_ref.TypeRef.TypeRef}
-use Rattle.hir_validate.specs.{Recursion.rank, Recursion.RankDecreases, Nodes.Nodes, Nodes.Has, Nodes.children_of, Nodes.calls_of}
+use Rattle.hir_validate.specs.{Recursion.rank, Recursion.RankDecreases, declared.node_arenas.Nodes.Nodes, Nodes.Has, Nodes.children_of, Nodes.calls_of}
 use Rattle.hir_validate.specs.{Sound.IsSoundNode, TestedParts.all_of, TestedParts.tested_pat}
 use Rattle.hir_validate.proofs.SoundLemmas.{item_at}
 use Rattle.hir_store_core.specs.PatLists.{pats, bindings_at, bindings_in, child_pats_of}

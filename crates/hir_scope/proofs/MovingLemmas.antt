@@ -8,7 +8,7 @@ use Rattle.std.specs.FinMap as finmap
 use Rattle.std.specs.List.{slice_get, flat_map, sum_by, All}
 use Rattle.std.specs.{Ordering.nat_cmp, Prelude.Result, Prelude.OnOk}
 use Rattle.hir_node.specs.declared.node_id.NodeId.{NodeId}
-use Rattle.hir_validate.specs.{Nodes.Nodes, TestedParts.all_of}
+use Rattle.hir_validate.specs.{declared.node_arenas.Nodes.Nodes, TestedParts.all_of}
 use Rattle.hir_validate.proofs.SoundLemmas.{item_at}
 use Rattle.hir_scope.specs.Chains.{InContext, child_in_context, within_own}
 use Rattle.hir_scope.specs.ScopingForms.{ScopingForm, form_of}

@@ -7,7 +7,7 @@ use Rattle.std.specs.Cmp.{nat_cmp_total, unsigned_Decides}
 use Rattle.std.specs.Cmp.Lexicographic.{pointwise, pointwise_decides}
 use Rattle.std.specs.FinMap as finmap
 use Rattle.std.specs.{List.slice_get, Ordering.nat_cmp, Ordering.eq_by_cmp, Prelude.option_map, Prelude.eqb}
-use Rattle.hir_base.specs.Maps.{same_maps, same_maps_decides}
+use Rattle.hir_collections.specs.Maps.{same_maps, same_maps_decides}
 use Rattle.hir_path.specs.same.Fields.{both}
 use Rattle.hir_scope.specs.Flat.{entries_in, scope_of, scopes_of, FollowEachOther, IsFlat}
 use Rattle.hir_scope.specs.Scopes.{Scopes, Scope, IsBelow, ParentsStandEarlier, entry_count}

@@ -7,7 +7,8 @@ use Rattle.std.specs.List.{flat_map, filter}
 use Rattle.hir_node.specs.ChildCalls.{Call, OnExpr, OnPat, OnLifetime, opt, e, children}
 use Rattle.hir_node.specs.declared.node_id.NodeId.{NodeId}
 use Rattle.hir_validate.specs.Recursion.{RankDecreases, fold_down, AgreeOn, DependsOnChildren, rank}
-use Rattle.hir_validate.specs.Nodes.{Nodes, Has, children_of}
+use Rattle.hir_validate.specs.Nodes.{Has, children_of}
+use Rattle.hir_validate.specs.declared.node_arenas.Nodes.{Nodes}
 use Rattle.hir_validate.proofs.RecursionLemmas.{agree_from_members, fold_down_at}
 use Rattle.hir_store_core.specs.Under.{Under, itself, below, IsReached}
 use Rattle.hir_store_core.proofs.UnderLemmas.{under_more}

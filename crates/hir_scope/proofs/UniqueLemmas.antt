@@ -5,7 +5,7 @@ use Rattle.std.proofs.lemmas.{Bool.cases_lt, Bool.Decides.eqb_tells, List.Sorted
 use Rattle.std.proofs.lemmas.{List.Sums.sum_by-cons, Option.slice_get-map}
 use Rattle.std.specs.{List.slice_get, List.sum_by, Prelude.option_map}
 use Rattle.hir_node.specs.declared.node_id.NodeId.{NodeId}
-use Rattle.hir_validate.specs.{Recursion.rank, Recursion.RankDecreases, Nodes.Nodes, Nodes.Has, Nodes.children_of}
+use Rattle.hir_validate.specs.{Recursion.rank, Recursion.RankDecreases, declared.node_arenas.Nodes.Nodes, Nodes.Has, Nodes.children_of}
 use Rattle.hir_store_core.specs.Under.{Under, itself, below, AreDisjoint}
 use Rattle.hir_store_core.proofs.UnderLemmas.{under_more}
 use Rattle.hir_scope.specs.Chains.{InContext, child_in_context, children_in_context, Occurs, entry_node, child, HasChain, within_own}

@@ -1,6 +1,5 @@
--- The scopes of what the tables have of a definition: they are missing only where the tables have no entry of
--- it.
-use Rattle.hir_scope.specs.Prelude.{option_map, ◌≡◌, Option, None, Some, Result, Err, IfOk, DefWithBodyId, ExpressionStoreOwnerId, Contents, BodyContents, Tables, body_entry, owner_entry}
+-- The scopes of what tables have of a definition: they are missing only where the tables have no entry of it.
+use Rattle.hir_scope.specs.Prelude.{option_map, ◌≡◌, Option, None, Some, Result, Err, IfOk, DefWithBodyId, ExpressionStoreOwnerId, Contents, StoreAndSources, BodyContents, BodyAndSources}
 use Rattle.hir_scope.specs.BodyScopes.{AreBodyScopes, BodyIsTooLarge, AreSignatureScopes, SignatureIsTooLarge}
 use Rattle.hir_scope.specs.Scopes.{Scopes}
 use Rattle.hir_scope.specs.declared.fault.ScopesFault.{ScopesFault}
@@ -21,17 +20,21 @@ AnswersBody found result = Answers AreBodyScopes BodyIsTooLarge found result
 abbrev pub AnswersStore : Option Contents → Result Scopes ScopesFault → Type 0
 AnswersStore found result = Answers AreSignatureScopes SignatureIsTooLarge found result
 
--- the body of a definition, and the store of an owner, where the tables have it
-abbrev pub body_in : Tables → DefWithBodyId → Option BodyContents
-body_in t def = option_map (λ e. e.0) (body_entry t def)
+-- the body of an entry, and the store of an entry, where there is one
+abbrev pub body_in : Option BodyAndSources → Option BodyContents
+body_in entry = option_map (λ e. e.0) entry
 
-abbrev pub store_in : Tables → ExpressionStoreOwnerId → Option Contents
-store_in t id = option_map (λ e. e.0) (owner_entry t id)
+abbrev pub store_in : Option StoreAndSources → Option Contents
+store_in entry = option_map (λ e. e.0) entry
 
--- what is returned for the scopes of an owner: those of the body where it owns one
-abbrev pub AnswersOwner : Tables → ExpressionStoreOwnerId → Result Scopes ScopesFault → Type 0
-AnswersOwner t (ExpressionStoreOwnerId.Signature def) result =
-    AnswersStore (store_in t (ExpressionStoreOwnerId.Signature def)) result
-AnswersOwner t (ExpressionStoreOwnerId.Body def) result = AnswersBody (body_in t def) result
-AnswersOwner t (ExpressionStoreOwnerId.VariantFields variant) result =
-    AnswersStore (store_in t (ExpressionStoreOwnerId.VariantFields variant)) result
+-- what is returned for the scopes of an owner, by what the tables have of each: those of the body where it
+-- owns one
+abbrev pub AnswersOwner : (DefWithBodyId → Option BodyAndSources)
+    → (ExpressionStoreOwnerId → Option StoreAndSources) → ExpressionStoreOwnerId
+    → Result Scopes ScopesFault → Type 0
+AnswersOwner bodies stores (ExpressionStoreOwnerId.Signature def) result =
+    AnswersStore (store_in (stores (ExpressionStoreOwnerId.Signature def))) result
+AnswersOwner bodies stores (ExpressionStoreOwnerId.Body def) result =
+    AnswersBody (body_in (bodies def)) result
+AnswersOwner bodies stores (ExpressionStoreOwnerId.VariantFields variant) result =
+    AnswersStore (store_in (stores (ExpressionStoreOwnerId.VariantFields variant))) result

@@ -9,10 +9,10 @@ pub use Rattle.hir_base.specs.declared.defs.ExpressionStoreOwnerId.{ExpressionSt
 pub use Rattle.hir_base.specs.declared.hygiene.SyntaxContext.{SyntaxContext}
 pub use Rattle.hir_base.specs.declared.mod_path.PathKind.{PathKind}
 pub use Rattle.hir_base.specs.declared.mod_path.PathKind.TheVariants.{Plain, Super}
-pub use Rattle.hir_defs.specs.Lookups.{Tables, body_entry, owner_entry}
+pub use Rattle.hir_body.specs.Bodies.{BodyContents, BodyReaches, body_nodes, formals_of, last_root, AreBelow, entry_nodes}
+pub use Rattle.hir_body.specs.Lookups.{BodyAndSources}
+pub use Rattle.hir_collections.specs.Stacks.{StackItems, Defers}
 pub use Rattle.hir_forest.specs.Faults.{root_nodes}
-pub use Rattle.hir_items.specs.Bodies.{BodyContents, BodyReaches, body_nodes, formals_of, last_root, AreBelow, entry_nodes}
-pub use Rattle.hir_items.specs.Signatures.{SignatureReaches, signature_nodes, root_entry_nodes}
 pub use Rattle.hir_node.specs.ChildCalls.{Call, OnExpr, OnAnonConst, OnPat, OnType, OnLifetime, e, p, t, opt, expr_calls, pat_calls, type_calls, children}
 pub use Rattle.hir_node.specs.declared.binding.Binding.{Binding}
 pub use Rattle.hir_node.specs.declared.expr.Expr.{Expr}
@@ -24,12 +24,14 @@ pub use Rattle.hir_node.specs.declared.pat.Pat.{Pat}
 pub use Rattle.hir_node.specs.declared.type_ref.TypeRef.{TypeRef}
 pub use Rattle.hir_path.specs.NodeIds.{ExprId, LabelId, PatId, BindingId, TypeRefId}
 pub use Rattle.hir_path.specs.declared.path.Path.{Path}
-pub use Rattle.hir_stack.specs.Stacks.{StackItems, Defers}
+pub use Rattle.hir_signature.specs.Signatures.{SignatureReaches, signature_nodes, root_entry_nodes}
 pub use Rattle.hir_store_core.specs.Contents.{Contents}
+pub use Rattle.hir_store_core.specs.Owners.{StoreAndSources}
 pub use Rattle.hir_store_core.specs.PatLists.{bindings_at, bindings_in, child_pats_of}
 pub use Rattle.hir_store_core.specs.SideTables.{hygiene_of}
 unfoldable pub use Rattle.hir_store_core.specs.Under.{nodes_under}
-pub use Rattle.hir_validate.specs.Nodes.{Nodes, Has, children_of}
+pub use Rattle.hir_validate.specs.Nodes.{Has, children_of}
+pub use Rattle.hir_validate.specs.declared.node_arenas.Nodes.{Nodes}
 pub use Rattle.hir_validate.specs.Recursion.{RankDecreases}
 unfoldable pub use Rattle.hir_validate.specs.Recursion.{fold_down}
 pub use Rattle.hir_validate.specs.Sound.{IsSoundNode}

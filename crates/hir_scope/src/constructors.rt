@@ -2,7 +2,7 @@
 ghost use Rattle.std.specs.Prelude.{◌≡◌, ◌+◌, ◌<◌, ◌≤◌, ◌∷◌, ◌++◌, [], length, option_map, Err, IfOk, OnErr, OnOk};
 ghost use Rattle.std.specs.List.{All, flat_map};
 ghost use Rattle.hir_validate.specs.TestedParts.{all_of};
-ghost use Rattle.hir_items.specs.Bodies.{AreBelow, body_nodes, formals_of};
+ghost use Rattle.hir_body.specs.Bodies.{AreBelow, body_nodes, formals_of};
 ghost use Rattle.hir_scope.specs.BodyScopes.{AreBodyScopes, AreSignatureScopes, BodyIsTooLarge, SignatureIsTooLarge, expr_count};
 ghost use Rattle.hir_scope.specs.Frames.{entry_at, binds};
 ghost use Rattle.hir_scope.specs.internal.Begins.{IsSoundBody, IsSoundStore, at_first, for_none, root_entries, body_root, body_begins, formal_tasks, signature_begins};
@@ -14,11 +14,11 @@ use crate::fault::ScopesFault;
 use crate::scope::{ScopeEntry, ScopeId, ScopeKind};
 use crate::tasks::{CurrentScopes, Task, Tasks};
 use crate::walk::Walk;
-use hir_base::{MOST_ITEMS, Steps};
-use hir_items::body_laws::entry_nodes_are_in_range;
-use hir_items::{Body, Param};
+use hir_base::Steps;
+use hir_body::laws::entry_nodes_are_in_range;
+use hir_body::{Body, Param};
+use hir_collections::{MOST_ITEMS, Stack};
 use hir_node::{BindingId, PatId};
-use hir_stack::Stack;
 use hir_store_core::ExpressionStore;
 use hir_store_core::laws::{
     bindings_in_unfold, nodes_are_sound, nodes_under_unfold, rank_decreases, roots_stand_apart,

@@ -6,7 +6,7 @@ ghost use Rattle.hir_scope.specs.Frames.{entry_at, binds};
 
 use crate::fault::ScopesFault;
 use crate::scope::ScopeEntry;
-use hir_base::TryClone;
+use hir_collections::TryClone;
 use hir_node::{BindingId, PatId};
 use hir_store_core::ExpressionStore;
 

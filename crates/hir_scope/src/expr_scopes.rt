@@ -7,7 +7,8 @@ use crate::laws::a_chain_goes_outward;
 use crate::scope::{ScopeEntry, ScopeId, ScopeKind};
 use crate::scope_chain::ScopeChain;
 use crate::scope_ids::ScopeIds;
-use hir_base::{ArenaMap, BlockId, ExactEq, MOST_ITEMS, MacroDefId};
+use hir_base::{BlockId, MacroDefId};
+use hir_collections::{ArenaMap, ExactEq, MOST_ITEMS};
 use hir_node::{ExprId, ExprKind, LabelId};
 use std::alloc::Global;
 use std::marker::Model;
@@ -22,7 +23,7 @@ pub struct ScopeData {
 }
 
 impl ExactEq for ScopeData {
-    ghost use Rattle.hir_base.specs.Exact.{exact};
+    ghost use Rattle.hir_collections.specs.Exact.{exact};
 
     ghost eq_decides = { Prim.search exact };
 }

@@ -4,7 +4,8 @@
 ghost use Rattle.std.specs.Prelude.{◌≡◌, ◌<◌, ◌≤◌, ◌∷◌, ℕ, None, Some, List, Option, IsPermutation, length, map, slice_get};
 ghost use Rattle.std.specs.List.{All, flat_map};
 ghost use Rattle.hir_node.specs.declared.node_id.NodeId.{NodeId};
-ghost use Rattle.hir_validate.specs.Nodes.{Nodes, Has, children_of};
+ghost use Rattle.hir_validate.specs.Nodes.{Has, children_of};
+ghost use Rattle.hir_validate.specs.declared.node_arenas.Nodes.{Nodes};
 ghost use Rattle.hir_store_core.specs.Contents.{Contents, contents_fault};
 ghost use Rattle.hir_store_core.specs.Under.{IsReached};
 ghost use Rattle.hir_scope.specs.OpenFrames.{open_frames, open_frames_step};
@@ -14,11 +15,11 @@ ghost use Rattle.hir_scope.specs.ChildContexts.{children_with_base, child_with_b
 ghost use Rattle.hir_scope.specs.Frames.{Chain};
 ghost use Rattle.hir_scope.specs.BodyScopes.{entry_nodes_of_body, entry_nodes_of_signature};
 ghost use Rattle.hir_scope.specs.Chains.{InContext, Occurs, HasChain};
-ghost use Rattle.hir_items.specs.Bodies.{BodyContents, body_fault};
+ghost use Rattle.hir_body.specs.Bodies.{BodyContents, body_fault};
 ghost use Rattle.hir_scope.specs.Scopes.{Scope, ScopeIsInRange, ParentsStandEarlier};
 ghost use Rattle.hir_scope.specs.Paths.{path};
 
-use hir_items::body_laws::{entry_nodes_are_disjoint, entry_nodes_are_in_range};
+use hir_body::laws::{entry_nodes_are_disjoint, entry_nodes_are_in_range};
 use hir_store_core::laws::{
     children_are_disjoint, one_parent, rank_decreases, roots_are_disjoint, roots_stand_apart,
 };

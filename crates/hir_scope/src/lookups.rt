@@ -1,4 +1,4 @@
-//! The scopes of a definition, looked up in the tables.
+//! The scopes of a definition, looked up in what holds bodies and stores, as tables do.
 ghost use Rattle.hir_base.specs.declared.defs.ExpressionStoreOwnerId.{ExpressionStoreOwnerId};
 ghost use Rattle.hir_base.specs.declared.defs.ExpressionStoreOwnerId.TheVariants as owner;
 ghost use Rattle.hir_scope.specs.Lookups.{AnswersBody, AnswersStore, AnswersOwner, body_in, store_in};
@@ -6,21 +6,20 @@ ghost use Rattle.hir_scope.specs.Lookups.{AnswersBody, AnswersStore, AnswersOwne
 use crate::expr_scopes::ExprScopes;
 use crate::fault::ScopesFault;
 use hir_base::{DefWithBodyId, ExpressionStoreOwnerId, GenericDefId, VariantId};
-use hir_defs::{StoreOf, Tables};
-use hir_items::Body;
-use hir_store_core::ExpressionStore;
+use hir_body::{Bodies, Body};
+use hir_store_core::Stores;
 use std::alloc::Global;
 
 /// Returns the scopes of an owner's store, made as for a signature.
-fn of_store(
+fn of_store<T: Stores>(
     alloc: Global,
-    tables: &Tables,
+    tables: &T,
     owner: ExpressionStoreOwnerId,
 ) -> Result<ExprScopes, ScopesFault>
-    ensures { AnswersStore (store_in tables.now owner) result }
+    ensures { AnswersStore (store_in (T.store_entry tables.now owner)) result }
 {
-    match ExpressionStore::of(tables, owner) {
-        Ok(store) => ExprScopes::new_store(alloc, store),
+    match tables.store_of(owner) {
+        Ok((store, _)) => ExprScopes::new_store(alloc, store),
         Err(_) => Err(ScopesFault::Missing),
     }
 }
@@ -29,12 +28,12 @@ impl ExprScopes {
     /// Returns the scopes of the body of a definition.
     ///
     /// Returns `Missing` exactly where the tables have no body of it, and otherwise what `new_body` returns.
-    pub fn body_expr_scopes(
+    pub fn body_expr_scopes<T: Bodies>(
         alloc: Global,
-        tables: &Tables,
+        tables: &T,
         def: DefWithBodyId,
     ) -> Result<ExprScopes, ScopesFault>
-        ensures { AnswersBody (body_in tables.now def) result }
+        ensures { AnswersBody (body_in (T.body_entry tables.now def)) result }
     {
         match Body::of(tables, def) {
             Ok(body) => ExprScopes::new_body(alloc, body),
@@ -46,12 +45,12 @@ impl ExprScopes {
     ///
     /// Returns `Missing` exactly where the tables have no signature of it, and otherwise what `new_store`
     /// returns.
-    pub fn sig_expr_scopes(
+    pub fn sig_expr_scopes<T: Stores>(
         alloc: Global,
-        tables: &Tables,
+        tables: &T,
         def: GenericDefId,
     ) -> Result<ExprScopes, ScopesFault>
-        ensures { AnswersStore (store_in tables.now (owner.Signature def)) result }
+        ensures { AnswersStore (store_in (T.store_entry tables.now (owner.Signature def))) result }
     {
         of_store(alloc, tables, ExpressionStoreOwnerId::Signature(def))
     }
@@ -60,12 +59,12 @@ impl ExprScopes {
     ///
     /// Returns `Missing` exactly where the tables have no fields of it, and otherwise what `new_store`
     /// returns.
-    pub fn variant_scopes(
+    pub fn variant_scopes<T: Stores>(
         alloc: Global,
-        tables: &Tables,
+        tables: &T,
         variant: VariantId,
     ) -> Result<ExprScopes, ScopesFault>
-        ensures { AnswersStore (store_in tables.now (owner.VariantFields variant)) result }
+        ensures { AnswersStore (store_in (T.store_entry tables.now (owner.VariantFields variant))) result }
     {
         of_store(
             alloc,
@@ -78,12 +77,13 @@ impl ExprScopes {
     ///
     /// Returns `Missing` exactly where the tables have no entry of the owner, and otherwise what `new_body`
     /// returns for a body, and `new_store` for a signature or fields.
-    pub fn of<O: Into<ExpressionStoreOwnerId>>(
+    pub fn of<T: Bodies + Stores, O: Into<ExpressionStoreOwnerId>>(
         alloc: Global,
-        tables: &Tables,
+        tables: &T,
         owner: O,
     ) -> Result<ExprScopes, ScopesFault>
-        ensures { (id : ExpressionStoreOwnerId) × O.converts owner id × AnswersOwner tables.now id result }
+        ensures { (id : ExpressionStoreOwnerId) × O.converts owner id
+            × AnswersOwner (T.body_entry tables.now) (T.store_entry tables.now) id result }
     {
         match owner.into() {
             ExpressionStoreOwnerId::Signature(def) => {

@@ -1,13 +1,14 @@
 //! Resolution of a name in a scope, where a macro may name what is bound around its definition.
 ghost use Rattle.std.specs.Prelude.{◌≡◌, ◌<◌, length, Some};
 ghost use Rattle.std.specs.Option.{option_copied};
-ghost use Rattle.hir_base.specs.Exact.{exact};
+ghost use Rattle.hir_collections.specs.Exact.{exact};
 ghost use Rattle.hir_scope.specs.Macros.{expansion_of, outward};
 
 use crate::expr_scopes::ExprScopes;
 use crate::resolve::find_entry;
 use crate::scope::{ScopeEntry, ScopeId};
-use hir_base::{ExactEq, HygieneId, MacroDefId, TryClone};
+use hir_base::{HygieneId, MacroDefId};
+use hir_collections::{ExactEq, TryClone};
 use std::collections::HashMap;
 
 /// Where the names of one hygiene come from: an expansion of a macro, in whose definition they have the

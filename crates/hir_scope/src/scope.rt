@@ -1,8 +1,9 @@
 //! The parts of a scope: its kind and its entries.
 ghost use Rattle.std.specs.Prelude.{◌≡◌, codes};
-ghost use Rattle.hir_base.specs.Exact.{exact};
+ghost use Rattle.hir_collections.specs.Exact.{exact};
 
-use hir_base::{BlockId, ExactEq, HygieneId, Idx, Kind, MacroDefId, Name, TryClone};
+use hir_base::{BlockId, HygieneId, MacroDefId, Name};
+use hir_collections::{ExactEq, Idx, Kind, TryClone};
 use hir_node::{BindingId, LabelId};
 
 /// The kind of the ids of scopes. It is a marker: no value of it exists.

@@ -13,11 +13,11 @@ use crate::fault::ScopesFault;
 use crate::order::visit_in_scope_order;
 use crate::scope::ScopeId;
 use hir_base::MacroDefId;
+use hir_collections::Stack;
 use hir_node::{
     Expr, ExprId, Item, LifetimeRefId, MatchArm, Pat, PatId, Statement, StoreVisitor,
     StoreVisitorExt, TypeRef, TypeRefId,
 };
-use hir_stack::Stack;
 
 /// The scope around what is visited next, and that around the constants in it.
 #[derive(Clone, Copy)]

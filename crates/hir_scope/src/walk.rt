@@ -1,6 +1,6 @@
 //! The walk that gives each expression its scope: one loop over what is still to do.
 ghost use Rattle.std.specs.Prelude.{◌≡◌, ◌≤◌, ◌+◌, [], length, Err, IfOk, IsTrue, OnErr};
-ghost use Rattle.hir_validate.specs.Nodes.{Nodes};
+ghost use Rattle.hir_validate.specs.declared.node_arenas.Nodes.{Nodes};
 ghost use Rattle.hir_scope.specs.ScopingForms.{InTurn, expr_form};
 ghost use Rattle.hir_scope.specs.internal.Pending.{guarded_task};
 ghost use Rattle.hir_scope.specs.internal.WalkState.{with_next, walk_state, state, future_of, scope_within, IsReady, Exceeds, EntersExpr, Step, CountedStep, WalkSteps};

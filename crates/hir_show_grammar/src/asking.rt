@@ -8,7 +8,7 @@ ghost use Rattle.hir_show_grammar.specs.Words.{number};
 use crate::line_error::{LineError, Malformed};
 use crate::question::{BodyQuestion, Question, StoreQuestion};
 use crate::words::{Line, Words, name_of};
-use hir_base::Idx;
+use hir_collections::Idx;
 use std::alloc::Global;
 
 /// Takes a line, if it asks something: its question; or is empty: none.

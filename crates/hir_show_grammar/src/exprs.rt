@@ -10,7 +10,8 @@ use crate::line_error::LineError;
 use crate::numerals::int as int_of;
 use crate::operators::op as op_of;
 use crate::words::{Line, path_of};
-use hir_base::{BlockId, Seq};
+use hir_base::BlockId;
+use hir_collections::Seq;
 use hir_node::{
     Array, CaptureBy, ClosureKind, Expr, Literal, LoopSource, Mutability, PatId, Rawness,
     TypeRefId, Unsafe,

@@ -3,7 +3,7 @@
 ghost use Rattle.std.specs.Prelude.{◌≡◌};
 ghost use Rattle.hir_show_grammar.specs.declared.line_error.LineError.TheVariants as to;
 
-use hir_base::ExactEq;
+use hir_collections::ExactEq;
 use std::alloc::AllocError;
 use thiserror::Error;
 
@@ -23,7 +23,7 @@ pub enum LineError {
 }
 
 impl ExactEq for LineError {
-    ghost use Rattle.hir_base.specs.Exact.{exact};
+    ghost use Rattle.hir_collections.specs.Exact.{exact};
 
     ghost eq_decides = { Prim.search exact };
 }

@@ -1,7 +1,8 @@
 //! What a line asks.
-ghost use Rattle.hir_base.specs.Exact.{exact};
+ghost use Rattle.hir_collections.specs.Exact.{exact};
 
-use hir_base::{ExactEq, HygieneId, Name};
+use hir_base::{HygieneId, Name};
+use hir_collections::ExactEq;
 use hir_node::ExprId;
 
 /// A question on a store alone.

@@ -10,7 +10,8 @@ ghost use Rattle.hir_show_grammar.specs.Words.{expansion, hygiene, list, list_of
 use crate::line_error::{LineError, Malformed};
 use crate::names::is_name;
 use crate::numerals::first_number;
-use hir_base::{HygieneId, Idx, Name, Seq, ShortList, SyntaxContext};
+use hir_base::{HygieneId, Name, SyntaxContext};
+use hir_collections::{Idx, Seq, ShortList};
 use hir_node::Path;
 use std::alloc::{AllocError, Global};
 use std::marker::Model;

@@ -1,7 +1,7 @@
 -- What scopes give of a body is what its answers are.
 use Rattle.std.proofs.Common.{◌≡◌, ℕ, Option, Some, None, IsSome, refl, sym, subst, option_map, true≢false}
 use Rattle.std.specs.FinMap as map
-use Rattle.hir_items.specs.Bodies.{BodyContents}
+use Rattle.hir_body.specs.Bodies.{BodyContents}
 use Rattle.hir_scope.specs.BodyScopes.{AreBodyScopes}
 use Rattle.hir_scope.specs.Paths.{chain}
 use Rattle.hir_scope.specs.Scopes.{Scopes}

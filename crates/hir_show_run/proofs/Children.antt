@@ -1,7 +1,7 @@
 -- What is known of an expression, by whether it exists; and of its root, by whether there is one.
 use Rattle.std.proofs.Common.{◌≡◌, ◌<◌, ◌≤◌, ◌++◌, ℕ, List, Option, Some, None, IsSome, length, if◌then◌else◌, refl, ap, codes, decimal, lt-ltb, le-ltb}
 use Rattle.hir_forest.specs.declared.roots.Root.{Root}
-use Rattle.hir_validate.specs.Nodes.{Nodes}
+use Rattle.hir_validate.specs.declared.node_arenas.Nodes.{Nodes}
 use Rattle.hir_store_core.specs.PatLists.{child_exprs}
 use Rattle.hir_store_core.specs.RootSearch.{root_for_expr}
 use Rattle.hir_show_run.specs.Answer.{children_text, root_text, found_text, after_spaces}

@@ -10,7 +10,7 @@ use Rattle.hir_show_io.specs.Text.{lines, IsCutShort}
 use Rattle.hir_show_io.proofs.EndLemmas.{Appends-twice, AppendsPrefix-after}
 use Rattle.hir_show_io.proofs.TextLemmas.{lines-ended}
 use Rattle.hir_show_grammar.specs.declared.question.Question.{Question}
-use Rattle.hir_items.specs.Bodies.{BodyContents}
+use Rattle.hir_body.specs.Bodies.{BodyContents}
 use Rattle.hir_show_run.specs.declared.fault.RunFault.{RunFault}
 use Rattle.hir_show_run.specs.declared.fault.RunFault.TheVariants.{BadLine, Refused, BodyRefused, InputFailed, OutputFailed, OutOfMemory}
 use Rattle.hir_show_run.specs.Faults.{fault_of_line}

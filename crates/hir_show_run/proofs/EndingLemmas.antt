@@ -4,7 +4,7 @@ use Rattle.std.specs.List.{list_all}
 use Rattle.hir_show_grammar.specs.Line.{Line, Ask, Bad, makes, asks, any_question}
 use Rattle.hir_show_grammar.specs.declared.question.Question.{Question}
 use Rattle.hir_store.specs.Building.{contents_of, finish_fault}
-use Rattle.hir_items.specs.Bodies.{body_fault}
+use Rattle.hir_body.specs.Bodies.{body_fault}
 use Rattle.hir_show_run.specs.declared.fault.RunFault.{RunFault}
 use Rattle.hir_show_run.specs.declared.fault.RunFault.TheVariants.{BadLine, Refused, BodyRefused, InputFailed, OutputFailed, OutOfMemory}
 use Rattle.hir_show_run.specs.Parts.{Parts, body_parts}

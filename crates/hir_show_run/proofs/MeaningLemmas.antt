@@ -8,8 +8,8 @@ use Rattle.hir_show_grammar.specs.declared.question.BodyQuestion.{BodyQuestion}
 use Rattle.hir_show_grammar.specs.declared.question.BodyQuestion.TheVariants as ask
 use Rattle.hir_store_core.specs.Contents.{Contents, contents_fault}
 use Rattle.hir_store.specs.Building.{Building, contents_of, finish_fault}
-use Rattle.hir_items.specs.declared.body_fault.BodyFault.{BodyFault}
-use Rattle.hir_items.specs.Bodies.{BodyContents, body_fault}
+use Rattle.hir_body.specs.declared.body_fault.BodyFault.{BodyFault}
+use Rattle.hir_body.specs.Bodies.{BodyContents, body_fault}
 use Rattle.hir_captures.specs.Captures.{AreCaptures, IsReachedClosure}
 use Rattle.hir_scope.specs.BodyScopes.{entry_nodes_of_body}
 use Rattle.hir_scope.specs.Chains.{HasChain}

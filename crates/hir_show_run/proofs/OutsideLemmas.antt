@@ -37,7 +37,7 @@ use Rattle.hir_base.specs.declared.defs.DefWithBodyId.TheVariants as body
 use Rattle.hir_base.specs.declared.defs.NamedDef.TheVariants as named_def
 use Rattle.hir_store_core.specs.declared.missing.Missing.{Missing}
 use Rattle.hir_store_core.specs.declared.missing.Missing.TheVariants as missing
-use Rattle.hir_items.specs.Bodies.{BodyContents, formals_of, last_root}
+use Rattle.hir_body.specs.Bodies.{BodyContents, formals_of, last_root}
 use Rattle.hir_pretty_nodes.specs.TableLookups.{lookups_of, found_or}
 use Rattle.hir_pretty_nodes.specs.Paths.{found_name}
 use Rattle.hir_pretty.specs.Bodies.{body_docs, formal_params, formal_self}

@@ -9,7 +9,7 @@ use Rattle.hir_base.specs.declared.defs.DefWithBodyId.TheVariants as body
 use Rattle.hir_base.specs.declared.edition.Edition.TheVariants.{Edition2021}
 use Rattle.hir_defs.specs.Lookups.{Tables}
 use Rattle.hir_store_core.specs.declared.missing.Missing.{Missing}
-use Rattle.hir_items.specs.Bodies.{BodyContents}
+use Rattle.hir_body.specs.Bodies.{BodyContents}
 use Rattle.hir_pretty_nodes.specs.declared.fault.PrintFault.{PrintFault}
 use Rattle.hir_pretty_nodes.specs.declared.fault.PrintFault.TheVariants as fault
 use Rattle.hir_pretty_nodes.specs.TableLookups.{lookups_of}

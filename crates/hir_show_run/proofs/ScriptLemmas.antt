@@ -6,7 +6,7 @@ use Rattle.hir_show_io.specs.LineState.{LineState}
 use Rattle.hir_show_grammar.specs.Line.{any_question}
 use Rattle.hir_show_grammar.specs.declared.question.Question.{Question}
 use Rattle.hir_store_core.specs.Contents.{Contents}
-use Rattle.hir_items.specs.Bodies.{BodyContents, body_of}
+use Rattle.hir_body.specs.Bodies.{BodyContents, body_of}
 use Rattle.hir_show_run.specs.declared.fault.RunFault.{RunFault}
 use Rattle.hir_show_run.specs.declared.fault.RunFault.TheVariants.{OutOfMemory}
 use Rattle.hir_show_run.specs.Answer.{NamedBody, IsStoreAnswer}

@@ -2,7 +2,7 @@
 use Rattle.hir_show_run.specs.Prelude.{ℕ, Result, Ok, Err, LineFault, FinishFault, BodyFault}
 use Rattle.hir_show_io.specs.declared.next.LineFault.TheVariants as line
 use Rattle.hir_validate.specs.declared.fault.FinishFault.TheVariants as finish
-use Rattle.hir_items.specs.declared.body_fault.BodyFault.TheVariants as body
+use Rattle.hir_body.specs.declared.body_fault.BodyFault.TheVariants as body
 use Rattle.hir_show_run.specs.declared.fault.RunFault.{RunFault}
 use Rattle.hir_show_run.specs.declared.fault.RunFault.TheVariants.{BadLine, Refused, BodyRefused, InputFailed, OutputFailed, OutOfMemory}
 

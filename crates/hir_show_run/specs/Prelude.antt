@@ -9,14 +9,14 @@ pub use Rattle.hir_base.specs.Ids.{Name}
 pub use Rattle.hir_base.specs.Keys.{named_code}
 pub use Rattle.hir_base.specs.declared.hygiene.SyntaxContext.{SyntaxContext}
 pub use Rattle.hir_base.specs.declared.hygiene.SyntaxContext.TheVariants.{Root, Expansion}
+pub use Rattle.hir_body.specs.Bodies.{BodyContents, BodyReaches, body_of}
+unfoldable pub use Rattle.hir_body.specs.Bodies.{body_fault}
+pub use Rattle.hir_body.specs.FaultTexts.{body_fault_text}
+pub use Rattle.hir_body.specs.declared.body_fault.BodyFault.{BodyFault}
+pub use Rattle.hir_body.specs.declared.formals.Param.{Param}
 pub use Rattle.hir_captures.specs.Captures.{AreCaptures, IsReachedClosure}
 pub use Rattle.hir_defs.specs.Lookups.{Tables}
 pub use Rattle.hir_defs.specs.NoTables.{no_tables}
-pub use Rattle.hir_items.specs.Bodies.{BodyContents, BodyReaches, body_of}
-unfoldable pub use Rattle.hir_items.specs.Bodies.{body_fault}
-pub use Rattle.hir_items.specs.FaultTexts.{body_fault_text}
-pub use Rattle.hir_items.specs.declared.body_fault.BodyFault.{BodyFault}
-pub use Rattle.hir_items.specs.declared.formals.Param.{Param}
 pub use Rattle.hir_node.specs.declared.expr.Expr.{Expr}
 pub use Rattle.hir_node.specs.declared.node_id.NodeId.{NodeId}
 pub use Rattle.hir_node.specs.declared.pat.Pat.{Pat}
@@ -62,5 +62,6 @@ pub use Rattle.hir_store_core.specs.PatLists.{child_exprs}
 pub use Rattle.hir_store_core.specs.RootSearch.{root_for_expr}
 pub use Rattle.hir_store_core.specs.SideTables.{no_side_tables}
 pub use Rattle.hir_store_core.specs.declared.side_tables.SideTables.{SideTables}
-pub use Rattle.hir_validate.specs.Nodes.{Nodes, no_nodes}
+pub use Rattle.hir_validate.specs.Nodes.{no_nodes}
+pub use Rattle.hir_validate.specs.declared.node_arenas.Nodes.{Nodes}
 pub use Rattle.hir_validate.specs.declared.fault.FinishFault.{FinishFault}

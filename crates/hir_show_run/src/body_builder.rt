@@ -4,8 +4,9 @@ ghost use Rattle.std.specs.Prelude.{◌≡◌};
 ghost use Rattle.hir_show_run.specs.internal.Parts.{builder_parts};
 ghost use Rattle.hir_show_run.specs.Parts.{no_parts};
 
-use hir_base::{HygieneId, Name, Seq};
-use hir_items::Param;
+use hir_base::{HygieneId, Name};
+use hir_body::Param;
+use hir_collections::Seq;
 use hir_node::{Binding, BindingId, Expr, ExprId, ExprOrPatId, Pat, PatId, TypeRef};
 use hir_show_grammar::{Builder, LineError};
 use hir_store::ExpressionStoreBuilder;

@@ -7,8 +7,8 @@ ghost use Rattle.hir_show_run.specs.internal.Output.{OutputsText, Untouched};
 
 use crate::asking::MemoryRefused;
 use crate::output::Output;
+use hir_body::Body;
 use hir_captures::{CapturesFault, captures};
-use hir_items::Body;
 use hir_node::{BindingId, ExprId};
 use hir_scope::ExprScopes;
 use hir_show_io::Sink;

@@ -3,8 +3,8 @@
 ghost use Rattle.std.specs.Prelude.{◌≡◌};
 
 use crate::asking::MemoryRefused;
-use hir_base::ExactEq;
-use hir_items::{BodyFault, RefusedBody};
+use hir_body::{BodyFault, RefusedBody};
+use hir_collections::ExactEq;
 use hir_show_io::LineFault;
 use hir_store::{FinishFault, Refused};
 use std::fmt;
@@ -47,7 +47,7 @@ impl fmt::Display for RunFault {
 }
 
 impl ExactEq for RunFault {
-    ghost use Rattle.hir_base.specs.Exact.{exact};
+    ghost use Rattle.hir_collections.specs.Exact.{exact};
 
     ghost eq_decides = { Prim.search exact };
 }

@@ -7,8 +7,8 @@ ghost use Rattle.hir_show_run.specs.Parts.{body_parts};
 ghost use Rattle.hir_show_run.specs.Printing.{body_pieces};
 ghost use Rattle.hir_show_run.specs.Program.{Outcome, IsMeaning, built_by, script};
 
+use hir_body::laws::first_body_fault_unique;
 use hir_captures::laws::captures_unique;
-use hir_items::body_laws::first_body_fault_unique;
 use hir_scope::laws::a_reached_node_has_one_chain;
 use hir_show_grammar::laws::said_is_written;
 use hir_store::laws::first_fault_unique;

@@ -9,9 +9,10 @@ ghost use Rattle.hir_show_run.specs.Printing.{tables_of, body_text, print_text};
 
 use crate::asking::MemoryRefused;
 use crate::output::Output;
-use hir_base::{DefWithBodyId, Edition, FunctionId, Name, NamedDef, Text};
+use hir_base::{DefWithBodyId, Edition, FunctionId, Name, NamedDef};
+use hir_body::Body;
+use hir_collections::Text;
 use hir_defs::Tables;
-use hir_items::Body;
 use hir_pretty::{PrintFault, print_body_hir};
 use hir_show_io::Sink;
 use std::alloc::Global;

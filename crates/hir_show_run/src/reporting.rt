@@ -6,12 +6,12 @@ ghost use Rattle.std.specs.Fmt.{decimal};
 ghost use Rattle.std.specs.Io.KnownBytes.{Appends};
 ghost use Rattle.hir_show_io.specs.Effects.{AppendsPrefix};
 ghost use Rattle.hir_show_run.specs.Faults.{status_of};
-ghost use Rattle.hir_items.specs.FaultTexts.{body_fault_text};
+ghost use Rattle.hir_body.specs.FaultTexts.{body_fault_text};
 ghost use Rattle.hir_show_run.specs.Texts.{fault_text, finish_fault_text, node_text, text_of};
 ghost use Rattle.hir_show_run.specs.internal.Texts.{WritesText};
 
 use crate::fault::RunFault;
-use hir_items::BodyFault;
+use hir_body::BodyFault;
 use hir_show_io::{EndFailed, Sink, write_all, write_decimal};
 use hir_store::{FinishFault, NodeId};
 

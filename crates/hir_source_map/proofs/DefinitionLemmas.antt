@@ -4,7 +4,7 @@ use Rattle.std.specs.Prelude.{Option, Some, OnSome}
 use Rattle.std.specs.Ordering.{eq_by_cmp}
 use Rattle.std.specs.Cmp.Lexicographic.{nat_list_cmp_total}
 use Rattle.std.specs.FinMap as map
-use Rattle.hir_base.specs.Table.{by_code, by_code-IsAntisymmetric, by_code_decides}
+use Rattle.hir_collections.specs.Table.{by_code, by_code-IsAntisymmetric, by_code_decides}
 use Rattle.hir_source_map.specs.Sources.{id_key, list_or_none, and_definition}
 
 -- what follows from a value that is present

@@ -3,7 +3,7 @@ use Rattle.std.proofs.Common.{◌≡◌, List, [], ◌∷◌, length, refl, sym,
 use Rattle.std.specs.FinMap as map
 use Rattle.std.specs.List.Sorted.{IsPermutation}
 use Rattle.std.proofs.lemmas.List.Sorted.{IsPermutation-refl}
-use Rattle.hir_base.specs.Table.{by_code}
+use Rattle.hir_collections.specs.Table.{by_code}
 
 nothing : {A : Type 0} (es : List A) → length es ≡ 0 → es ≡ []
 nothing [] e = refl

@@ -4,7 +4,7 @@ use Rattle.std.specs.Prelude.{Option, Some, None, false, unwrap_or}
 use Rattle.std.specs.FinMap as map
 use Rattle.hir_source_map.specs.declared.sources.ExprSources.{ExprSources}
 use Rattle.hir_source_map.specs.declared.source_map.ExpressionStoreSourceMap.{ExpressionStoreSourceMap}
-use Rattle.hir_base.specs.Table.{by_code}
+use Rattle.hir_collections.specs.Table.{by_code}
 use Rattle.hir_source_map.specs.Sources.{source_key, id_key, no_expr_sources, has_news, list_or_none}
 use Rattle.hir_source_map.specs.Lookups.{entry, patterns_in, expansions_in, diagnostics_in}
 use Rattle.hir_source_map.specs.internal.NoSources.{HasNoSources}

@@ -5,10 +5,10 @@ pub use Rattle.std.specs.Prelude.{◌≡◌, [], ◌∷◌, ◌++◌, Bool, ◌|
 pub use Rattle.std.specs.declared.alloc.Global.{Global}
 pub use Rattle.hir_base.specs.Ids.{MacroCallId}
 pub use Rattle.hir_base.specs.Keys.{node_code}
-pub use Rattle.hir_base.specs.Maps.{same_maps}
-pub use Rattle.hir_base.specs.Table.{by_code}
 pub use Rattle.hir_base.specs.declared.ptr.InFile.{InFile}
 pub use Rattle.hir_base.specs.declared.ptr.SyntaxNodePtr.{SyntaxNodePtr}
 pub use Rattle.hir_base.specs.declared.ptr.SyntheticSyntax.{SyntheticSyntax}
+pub use Rattle.hir_collections.specs.Maps.{same_maps}
+pub use Rattle.hir_collections.specs.Table.{by_code}
 pub use Rattle.hir_path.specs.NodeIds.{ExprId, PatId, BindingId, LabelId, TypeRefId, LifetimeRefId}
 pub use Rattle.hir_path.specs.declared.ids.ExprOrPatId.{ExprOrPatId}

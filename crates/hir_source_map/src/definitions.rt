@@ -8,7 +8,7 @@ ghost use Rattle.std.specs.Cmp.Rules.{comparing};
 ghost use Rattle.std.proofs.Common.{rules};
 ghost use Rattle.hir_source_map.specs.Sources.{id_key, and_definition};
 
-use hir_base::{ExactEq, Table};
+use hir_collections::{ExactEq, Table};
 use hir_path::{BindingId, PatId};
 use smallvec::SmallVec;
 use std::alloc::{AllocFailed, Global};

@@ -1,10 +1,10 @@
 //! The diagnostics of lowering, which it gives in addition to nodes.
-ghost use Rattle.hir_base.specs.Exact.{exact};
+ghost use Rattle.hir_collections.specs.Exact.{exact};
 
 use hir_base::{
-    AstPtr, ExactEq, ExprPtr, InFile, LifetimePtr, MacroCallPtr, ModPath, Name, PatPtr,
-    SyntaxNodePtr, Text, TryClone, ast,
+    AstPtr, ExprPtr, InFile, LifetimePtr, MacroCallPtr, ModPath, Name, PatPtr, SyntaxNodePtr, ast,
 };
+use hir_collections::{ExactEq, Text, TryClone};
 
 /// The kind of an item that has to have a body or a value.
 #[derive(Clone, Copy, PartialEq, Eq, Hash)]

@@ -2,7 +2,8 @@
 ghost use Rattle.std.specs.Prelude.{◌≡◌};
 ghost use Rattle.std.specs.Iterator.{YieldsFirst, YieldsFirstBy, item_count};
 
-use hir_base::{InFile, MacroCallId, MacroCallPtr, TableIter};
+use hir_base::{InFile, MacroCallId, MacroCallPtr};
+use hir_collections::TableIter;
 use std::iter::FusedIterator;
 use std::marker::Model;
 

@@ -3,8 +3,8 @@
 ghost use Rattle.std.specs.Prelude.{◌≡◌, ◌↔◌, IsTrue, IsSome, IfSome, Some, None};
 ghost use Rattle.std.specs.List.Sorted.{IsPermutation};
 ghost use Rattle.std.specs.FinMap as map;
-ghost use Rattle.hir_base.specs.Exact.{exact};
-ghost use Rattle.hir_base.specs.Table.{by_codes};
+ghost use Rattle.hir_collections.specs.Exact.{exact};
+ghost use Rattle.hir_collections.specs.Table.{by_codes};
 ghost use Rattle.hir_source_map.specs.Sources.{source_key};
 ghost use Rattle.hir_source_map.specs.ComparedPart.{same_exprs};
 ghost use Rattle.hir_source_map.specs.same.SameDiagnostics.{diagnostics_decide};
@@ -16,8 +16,8 @@ use hir_base::{
     AstPtr, ExprOrPatSource, ExprPtr, ExprSource, FieldSource, InFile, LabelSource, MacroCallId,
     MacroCallPtr, PatFieldSource, PatPtr, SyntheticSyntax, TypePtr, TypeSource, ast,
 };
+use hir_collections::LazyBox;
 use hir_path::{BindingId, ExprId, ExprOrPatId, LabelId, PatId, TypeRefId};
-use hir_rare::LazyBox;
 
 /// Where the nodes of a store come from. `finish` of a builder makes it.
 ///

@@ -5,7 +5,7 @@ ghost use Rattle.hir_source_map.specs.Sources.{has_news};
 
 use crate::source_map::ExpressionStoreSourceMap;
 use crate::sources::{ExprSources, TypeSources};
-use hir_rare::LazyBox;
+use hir_collections::LazyBox;
 use std::alloc::Global;
 
 /// The maps to which entries are added: the builder of a store has the calls that add them. Nothing is

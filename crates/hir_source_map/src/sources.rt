@@ -7,10 +7,10 @@ use crate::definitions::Definitions;
 use crate::diagnostics::ExpressionStoreDiagnostics;
 use hir_base::{
     ExprOrPatSource, ExprSource, FieldSource, InFile, LabelSource, LifetimeSource, MacroCallId,
-    MacroCallPtr, PatFieldSource, PatSource, Seq, Table, TypeSource,
+    MacroCallPtr, PatFieldSource, PatSource, TypeSource,
 };
+use hir_collections::{Empty, Seq, Table};
 use hir_path::{BindingId, ExprId, ExprOrPatId, LabelId, LifetimeRefId, PatId, TypeRefId};
-use hir_rare::Empty;
 use std::alloc::Global;
 
 /// Where expressions, patterns, labels and bindings come from, what macro calls expanded to, and the

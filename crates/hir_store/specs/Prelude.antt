@@ -9,6 +9,6 @@ pub use Rattle.hir_store_core.specs.Contents.{Contents, contents_fault}
 pub use Rattle.hir_store_core.specs.SideTables.{no_side_tables}
 pub use Rattle.hir_store_core.specs.declared.side_tables.SideTables.{SideTables}
 pub use Rattle.hir_validate.specs.Faults.{ends_of}
-pub use Rattle.hir_validate.specs.Nodes.{Nodes}
+pub use Rattle.hir_validate.specs.declared.node_arenas.Nodes.{Nodes}
 pub use Rattle.hir_validate.specs.declared.fault.FinishFault.{FinishFault}
 pub use Rattle.hir_validate.specs.declared.fault.FinishFault.TheVariants.{NoRoots}

@@ -11,14 +11,14 @@ ghost use Rattle.hir_forest.specs.Parents.{HasParents};
 ghost use Rattle.hir_store_core.specs.PatLinks.{HasPatLinks};
 ghost use Rattle.hir_validate.specs.Sizes.{Few};
 
-use hir_base::{Arena, ArenaFault, BlockId, HygieneId, MOST_ITEMS, Seq, Table};
+use hir_base::{BlockId, HygieneId};
+use hir_collections::{Arena, ArenaFault, LazyBox, MOST_ITEMS, Seq, Table};
 use hir_forest::Root;
 use hir_node::{
     Binding, BindingId, BindingKind, Expr, ExprId, ExprKind, ExprOrPatId, Label, LabelId,
     LabelKind, LifetimeRef, LifetimeRefId, LifetimeRefKind, Pat, PatId, PatKind, TypeRef,
     TypeRefId, TypeRefKind,
 };
-use hir_rare::LazyBox;
 use hir_source_map::{ExpressionStoreSourceMap, SourceMapBuilder};
 use hir_store_core::{ExpressionStore, KeptParts, RootList, SideTables};
 use hir_validate::{FinishFault, NodeSlices, Nodes};

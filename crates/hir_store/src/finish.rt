@@ -8,8 +8,8 @@ ghost use Rattle.hir_source_map.specs.Additions.{finish_sources};
 ghost use Rattle.hir_store.specs.Building.{nodes_of, building_of, contents_of, roots_or_none, HasRoots, has_exprs, finish_fault};
 
 use crate::builder::{ExpressionStoreBuilder, Refused};
+use hir_collections::LazyBox;
 use hir_forest::{Parents, Root};
-use hir_rare::LazyBox;
 use hir_source_map::ExpressionStoreSourceMap;
 use hir_store_core::{ExpressionStore, KeptParts, PatLinks};
 use hir_validate::{FinishFault, validated_parents};

@@ -8,7 +8,8 @@ use Rattle.hir_forest.specs.Parents.{HasParents, Parentage, IsParentageOf, share
 use Rattle.hir_forest.specs.Verdict.{first_below}
 use Rattle.hir_node.specs.declared.node_id.NodeId.{NodeId}
 use Rattle.hir_node.specs.declared.node_id.NodeId.TheVariants as node
-use Rattle.hir_validate.specs.Nodes.{Nodes, Has, graph}
+use Rattle.hir_validate.specs.Nodes.{Has, graph}
+use Rattle.hir_validate.specs.declared.node_arenas.Nodes.{Nodes}
 use Rattle.hir_validate.proofs.FaultLemmas.{graph-length}
 use Rattle.hir_store_core.specs.PatLinks.{HasPatLinks}
 

@@ -7,7 +7,7 @@ use Rattle.hir_path.specs.declared.path.Path.TheVariants as path
 use Rattle.hir_path.specs.Paths.{segments_of}
 use Rattle.hir_path.specs.Segments.{OneListEach}
 use Rattle.hir_validate.specs.Fits.{path_fits}
-use Rattle.hir_validate.specs.Nodes.{Nodes}
+use Rattle.hir_validate.specs.declared.node_arenas.Nodes.{Nodes}
 
 pub one_list_each_is : (s : Nodes) (x : Path) → IsTrue (path_fits s x) → OneListEach (segments_of x)
 one_list_each_is s (path.BarePath mod_path) h = tt

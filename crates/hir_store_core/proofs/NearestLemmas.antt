@@ -4,7 +4,7 @@ use Rattle.std.specs.Prelude.{Some, find, filter_map, ◌||◌}
 use Rattle.std.proofs.lemmas.Bool.{cases_Bool}
 use Rattle.hir_node.specs.declared.node_id.NodeId.{NodeId}
 use Rattle.hir_node.specs.declared.node_id.NodeId.TheVariants as node
-use Rattle.hir_validate.specs.Nodes.{Nodes}
+use Rattle.hir_validate.specs.declared.node_arenas.Nodes.{Nodes}
 use Rattle.hir_validate.specs.Faults.{RootedNodes, rooted_fault}
 use Rattle.hir_store_core.specs.declared.jump_roles.JumpRole.{JumpRole}
 use Rattle.hir_store_core.specs.declared.jump_roles.JumpRole.TheVariants.{Closure, Loop, Block, Other}

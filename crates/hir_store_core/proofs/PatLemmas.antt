@@ -8,7 +8,8 @@ use Rattle.hir_node.specs.ChildCalls.{Call, OnExpr, OnAnonConst, OnPat, OnType, 
 use Rattle.hir_node.specs.declared.node_id.NodeId.{NodeId}
 use Rattle.hir_node.specs.declared.node_id.NodeId.TheVariants as node
 use Rattle.hir_node.proofs.ChildPatLemmas.{none-path}
-use Rattle.hir_validate.specs.Nodes.{Nodes, calls_of}
+use Rattle.hir_validate.specs.Nodes.{calls_of}
+use Rattle.hir_validate.specs.declared.node_arenas.Nodes.{Nodes}
 use Rattle.hir_validate.specs.Recursion.{RankDecreases, AgreeOn, DependsOnChildren}
 use Rattle.hir_store_core.specs.PatLists.{child_pats_of, pats_step, pats, bindings_at, bindings_in, exprs_from, own_exprs, exprs_in_step, exprs_in}
 use Rattle.hir_validate.proofs.RecursionLemmas.{fold_down_at}

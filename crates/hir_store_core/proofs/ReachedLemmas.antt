@@ -7,7 +7,8 @@ use Rattle.std.proofs.lemmas.List.Kept.{AllPairs-cons}
 use Rattle.std.specs.List.{flat_map, AllPairs}
 use Rattle.hir_node.specs.declared.node_id.NodeId.{NodeId}
 use Rattle.hir_node.specs.declared.node_id.NodeId.TheVariants as node
-use Rattle.hir_validate.specs.Nodes.{Nodes, Has, children_of}
+use Rattle.hir_validate.specs.Nodes.{Has, children_of}
+use Rattle.hir_validate.specs.declared.node_arenas.Nodes.{Nodes}
 use Rattle.hir_validate.specs.Recursion.{rank, RankDecreases, AgreeOn, DependsOnChildren}
 use Rattle.hir_store_core.specs.Under.{Under, itself, below, AreDisjoint, IsReached, nodes_step, nodes_under, reached_nodes}
 use Rattle.hir_validate.proofs.RecursionLemmas.{parent_in_range, fold_down_at}

@@ -4,7 +4,8 @@ use Rattle.std.specs.List.{flat_map, AllByRecursion}
 use Rattle.std.proofs.lemmas.Bool.{eqb-true, eq-eqb, false_from_ne_true}
 use Rattle.std.proofs.lemmas.List.Concat.{flat_map-append}
 use Rattle.hir_node.specs.declared.node_id.NodeId.TheVariants as node
-use Rattle.hir_validate.specs.Nodes.{Nodes, calls_of}
+use Rattle.hir_validate.specs.Nodes.{calls_of}
+use Rattle.hir_validate.specs.declared.node_arenas.Nodes.{Nodes}
 use Rattle.hir_validate.specs.Recursion.{rank, RankDecreases, DependsOnChildren}
 use Rattle.hir_validate.proofs.RecursionLemmas.{fold_down_at}
 use Rattle.hir_store_core.specs.declared.pat_links.PatLink.{PatLink}

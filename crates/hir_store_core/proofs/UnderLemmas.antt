@@ -14,7 +14,8 @@ use Rattle.hir_node.specs.declared.node_id.NodeId.TheVariants as node
 use Rattle.hir_validate.specs.declared.sizes.Sizes.{Sizes}
 use Rattle.hir_validate.specs.Sizes.{HasNode, place}
 use Rattle.hir_forest.specs.Parents.{HasParent, HasParents}
-use Rattle.hir_validate.specs.Nodes.{Nodes, sizes_of, Has, children_of, graph}
+use Rattle.hir_validate.specs.Nodes.{sizes_of, Has, children_of, graph}
+use Rattle.hir_validate.specs.declared.node_arenas.Nodes.{Nodes}
 use Rattle.hir_validate.specs.Faults.{RootedNodes, rooted_fault}
 use Rattle.hir_validate.specs.Recursion.{RankDecreases}
 use Rattle.hir_store_core.specs.Under.{Under, itself, below, LiesUnderOther}

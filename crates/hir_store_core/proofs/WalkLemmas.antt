@@ -8,7 +8,8 @@ use Rattle.hir_node.specs.ChildCalls.{Call, OnExpr, OnAnonConst, OnPat, OnType, 
 use Rattle.hir_node.specs.declared.node_id.NodeId.{NodeId}
 use Rattle.hir_node.specs.declared.node_id.NodeId.TheVariants as node
 use Rattle.hir_node.proofs.ChildPatLemmas.{folds_on}
-use Rattle.hir_validate.specs.Nodes.{Nodes, Has, calls_of, children_of}
+use Rattle.hir_validate.specs.Nodes.{Has, calls_of, children_of}
+use Rattle.hir_validate.specs.declared.node_arenas.Nodes.{Nodes}
 use Rattle.hir_validate.specs.Recursion.{rank, RankDecreases}
 use Rattle.hir_store_core.specs.PatLists.{child_pats_of}
 

@@ -26,6 +26,8 @@ pub mod Tries
 pub mod PatLinks
 -- the kept parts of a store without nodes
 pub mod KeptParts
+-- the store of an owner, and what is missing where there is none
+pub mod Owners
 -- what the files here import of std and of lower crates, from one place
 pub mod Prelude
 -- what only contracts within this crate cite

@@ -3,7 +3,7 @@
 ghost use Rattle.std.specs.Prelude.{◌≡◌, Option, option_map};
 ghost use Rattle.hir_path.specs.declared.path.Path.{Path};
 ghost use Rattle.hir_path.specs.declared.bound.TraitBoundModifier.{TraitBoundModifier};
-ghost use Rattle.hir_validate.specs.Nodes.{Nodes};
+ghost use Rattle.hir_validate.specs.declared.node_arenas.Nodes.{Nodes};
 
 use crate::store::ExpressionStore;
 use hir_node::{Path, TraitBoundModifier, TypeBound};

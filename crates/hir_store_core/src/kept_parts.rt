@@ -2,9 +2,8 @@
 ghost use Rattle.std.specs.Prelude.{◌≡◌};
 
 use crate::pat_links::PatLinks;
-use hir_base::TryClone;
+use hir_collections::{Empty, TryClone};
 use hir_forest::Parents;
-use hir_rare::Empty;
 use std::alloc::{AllocError, Global};
 
 /// The parents of the nodes, by the numbers of the nodes, and the links of the patterns.

@@ -1,10 +1,11 @@
 //! The facts about a definition outside of a store that a caller asked for, and nobody provided.
-ghost use Rattle.hir_base.specs.Exact.{exact};
+ghost use Rattle.hir_collections.specs.Exact.{exact};
 
 use hir_base::{
-    BlockId, CrateId, DefWithBodyId, EnumVariantId, ExactEq, GenericDefId, LifetimeParamId,
-    NamedDef, TryClone, TypeParamId, VariantId,
+    BlockId, CrateId, DefWithBodyId, EnumVariantId, GenericDefId, LifetimeParamId, NamedDef,
+    TypeParamId, VariantId,
 };
+use hir_collections::{ExactEq, TryClone};
 use std::fmt;
 use thiserror::Error;
 

@@ -2,7 +2,7 @@
 ghost use Rattle.std.specs.Prelude.{◌≡◌, [], ◌∷◌, ◌++◌, OnOk, OnErr, IfErr};
 ghost use Rattle.std.specs.Cmp.Lexicographic.{pointwise, lists_per, lists_equiv};
 
-use hir_base::{ExactEq, TryClone};
+use hir_collections::{ExactEq, TryClone};
 use hir_forest::Root;
 use smallvec::SmallVec;
 use std::alloc::{AllocError, AllocFailed, Global};

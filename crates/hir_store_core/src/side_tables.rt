@@ -2,9 +2,9 @@
 
 ghost use Rattle.std.specs.Prelude.{◌≡◌};
 
-use hir_base::{BlockId, ExactEq, HygieneId, Seq, Table, TryClone};
+use hir_base::{BlockId, HygieneId};
+use hir_collections::{ExactEq, LazyBox, Seq, Table, TryClone};
 use hir_node::{BindingId, ExprId, ExprOrPatId};
-use hir_rare::LazyBox;
 use std::alloc::{AllocError, Global};
 
 /// Side tables: binding owners, path hygiene, blocks. `finish` doesn't check them: ids may be of nodes that

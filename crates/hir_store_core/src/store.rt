@@ -12,14 +12,13 @@ use crate::kept_parts::KeptParts;
 use crate::root_list::RootList;
 use crate::side_tables::SideTables;
 use crate::store_iter::ExprRoots;
-use hir_base::{ArenaIter, ExactEq, TryClone};
+use hir_collections::{ArenaIter, ExactEq, LazyBox, TryClone};
 use hir_forest::Root;
 use hir_node::{
     Binding, BindingId, BindingKind, Expr, ExprId, ExprKind, Label, LabelId, LifetimeRef,
     LifetimeRefId, LifetimeRefKind, Pat, PatId, PatKind, Path, PathId, TypeBound, TypeRef,
     TypeRefId, TypeRefKind,
 };
-use hir_rare::LazyBox;
 use hir_validate::{NodeSlices, Nodes, Sizes, as_path};
 use std::alloc::{AllocError, Global};
 use std::marker::Model;

@@ -2,10 +2,10 @@
 
 ghost use Rattle.std.specs.Prelude.{◌≡◌, List, slice_get};
 ghost use Rattle.std.specs.Option.{option_copied};
-ghost use Rattle.hir_validate.specs.Nodes.{Nodes};
+ghost use Rattle.hir_validate.specs.declared.node_arenas.Nodes.{Nodes};
 
 use crate::store::ExpressionStore;
-use hir_base::Idx;
+use hir_collections::Idx;
 use hir_node::{
     Binding, BindingKind, Expr, ExprKind, Label, LabelKind, LifetimeRef, LifetimeRefKind, Pat,
     PatKind, TypeRef, TypeRefKind,

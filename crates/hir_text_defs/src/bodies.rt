@@ -2,7 +2,8 @@
 
 use crate::pending::Pending;
 use crate::subject::{Finished, Subject, ask_accepted, ask_again};
-use hir_base::{DefWithBodyId, ExpressionStoreOwnerId, Idx};
+use hir_base::{DefWithBodyId, ExpressionStoreOwnerId};
+use hir_collections::Idx;
 use hir_defs::{Body, BodyFault, BodySourceMap, Param, RefusedBody, Tables, TablesOf};
 use hir_node::BindingId;
 use hir_store::ExpressionStore;

@@ -1,6 +1,6 @@
 //! The entries of the tables besides bodies and signatures, as answers have them.
 
-use hir_base::Text;
+use hir_collections::Text;
 use hir_defs::Repr;
 use hir_text_nodes::Answer;
 use std::alloc::AllocError;

@@ -1,6 +1,6 @@
 //! Fields of structs, unions and variants, and shapes, as lines have them.
 
-use hir_base::Idx;
+use hir_collections::Idx;
 use hir_defs::{FieldData, FieldsShape, RawVisibility};
 use hir_text_nodes::{Answer, TextError, Words, join_mod_path, read_mod_path};
 use std::alloc::{AllocError, Global};

@@ -2,9 +2,8 @@
 //! predicates and fields.
 
 use crate::fields::read_field;
-use hir_base::{
-    Arena, Idx, InFile, LifetimeParamKind, SelfParamPtr, Seq, TryClone, TypeOrConstParamKind,
-};
+use hir_base::{InFile, LifetimeParamKind, SelfParamPtr, TypeOrConstParamKind};
+use hir_collections::{Arena, Idx, Seq, TryClone};
 use hir_defs::{
     FieldData, GenericParams, LifetimeParamData, Param, TypeOrConstParamData, WherePredicate,
 };

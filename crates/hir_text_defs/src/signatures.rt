@@ -1,7 +1,8 @@
 //! What the lines of functions and structs say, and the parts of the signatures that they make.
 
 use crate::fields::next_shape;
-use hir_base::{ExternAbi, Id, Name, Seq};
+use hir_base::{ExternAbi, Id, Name};
+use hir_collections::Seq;
 use hir_defs::{FieldsShape, FunctionParts, GenericParams, PlainDef, StructParts};
 use hir_node::TypeRefId;
 use hir_store::ExpressionStore;

@@ -1,6 +1,7 @@
 //! The lines that add entries to the tables besides bodies and signatures.
 
-use hir_base::{CrateId, Edition, EnumId, EnumVariantId, NamedDef, Seq, StructId, Text};
+use hir_base::{CrateId, Edition, EnumId, EnumVariantId, NamedDef, StructId};
+use hir_collections::{Seq, Text};
 use hir_defs::{Repr, Tables};
 use hir_text_nodes::{TextError, Words, as_named, next_def, next_edition};
 use hir_text_store::done_or_stop;

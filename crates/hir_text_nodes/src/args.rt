@@ -2,7 +2,8 @@
 //! bindings of associated types.
 
 use crate::reading::{joined_or_none, push, three, zip_ok};
-use hir_base::{Idx, Name, Seq};
+use hir_base::Name;
+use hir_collections::{Idx, Seq};
 use hir_path::{
     AssociatedTypeBinding, ConstRef, GenericArg, GenericArgs, GenericArgsParentheses, TypeBound,
     TypeRefId,

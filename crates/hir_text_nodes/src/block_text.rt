@@ -1,7 +1,8 @@
 //! Blocks with their statements, and matches with their arms, written as their lines have them.
 
 use crate::expr_text::write_one;
-use hir_base::{BlockId, Idx};
+use hir_base::BlockId;
+use hir_collections::Idx;
 use hir_node::{ExprId, Item, LabelId, MatchArm, Statement, Unsafe};
 use hir_text_words::Answer;
 use std::alloc::AllocError;

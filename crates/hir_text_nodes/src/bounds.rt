@@ -3,7 +3,8 @@
 
 use crate::args::{lettered_id, next_letter};
 use crate::reading::{Read, joined_or_none, one_or_more, zip_ok};
-use hir_base::{Name, Seq};
+use hir_base::Name;
+use hir_collections::Seq;
 use hir_path::{PathId, TraitBoundModifier, TypeBound, UseArgRef};
 use hir_text_words::{TextError, Words};
 use std::alloc::Global;

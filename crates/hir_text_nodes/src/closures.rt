@@ -1,7 +1,7 @@
 //! Closures and coroutines.
 
 use crate::reading::{Read, one_or_more, three};
-use hir_base::{Seq, ShortList};
+use hir_collections::{Seq, ShortList};
 use hir_node::{
     CaptureBy, ClosureKind, CoroutineKind, CoroutineSource, Expr, Movability, PatId, TypeRefId,
 };

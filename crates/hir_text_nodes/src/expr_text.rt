@@ -5,10 +5,11 @@ use crate::closure_text::{ClosureText, write_closure};
 use crate::literals::write_literal;
 use crate::path_text::{join_names, write_args, write_path};
 use crate::variants::Word;
-use hir_base::{BinaryOp, Idx, Name, UnaryOp};
+use hir_base::{BinaryOp, Name, UnaryOp};
+use hir_collections::{Boxed, Idx};
 use hir_node::{
-    Array, Boxed, Expr, ExprId, GenericArgs, LabelId, LoopSource, Mutability, OffsetOf, Path,
-    Rawness, RecordLitField, RecordSpread,
+    Array, Expr, ExprId, GenericArgs, LabelId, LoopSource, Mutability, OffsetOf, Path, Rawness,
+    RecordLitField, RecordSpread,
 };
 use hir_text_words::Answer;
 use std::alloc::AllocError;

@@ -7,9 +7,10 @@ use crate::literals::{LiteralForm, read_literal};
 use crate::operators::{next_binary, next_unary};
 use crate::paths::next_path;
 use crate::reading::{Read, behind_spaces, in_box, joined_or_none, three, zip_ok};
-use hir_base::{Name, Seq};
+use hir_base::Name;
+use hir_collections::{Boxed, Seq};
 use hir_node::{
-    Array, Boxed, Expr, GenericArgs, Mutability, OffsetOf, Rawness, RecordLitField, RecordSpread,
+    Array, Expr, GenericArgs, Mutability, OffsetOf, Rawness, RecordLitField, RecordSpread,
 };
 use hir_text_words::{TextError, Words};
 use std::alloc::Global;

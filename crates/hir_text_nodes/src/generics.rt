@@ -4,12 +4,13 @@
 use crate::bounds::{next_bound, opt_binder};
 use crate::path_text::{join_names, write_bound};
 use crate::reading::{three, zip_ok};
-use hir_base::{Idx, Name};
-use hir_generics::{
+use hir_base::Name;
+use hir_collections::Idx;
+use hir_path::ConstRef;
+use hir_signature::{
     ConstParamData, LifetimeBoundType, LifetimeParamData, TypeOrConstParamData, TypeParamData,
     TypeParamProvenance, WherePredicate,
 };
-use hir_path::ConstRef;
 use hir_text_words::{Answer, TextError, Words};
 use std::alloc::{AllocError, Global};
 

@@ -1,7 +1,8 @@
 //! Literals: read after their keyword, and written as their line has them.
 
 use crate::variants::{Word, of_word};
-use hir_base::{BuiltinFloat, BuiltinInt, BuiltinUint, Text};
+use hir_base::{BuiltinFloat, BuiltinInt, BuiltinUint};
+use hir_collections::Text;
 use hir_node::{FloatTypeWrapper, Literal};
 use hir_text_words::{Answer, TextError, Words};
 use std::alloc::{AllocError, Global};

@@ -1,7 +1,7 @@
 //! Nodes of each arena, as `expr:3`.
 
 use crate::reading::zip_ok;
-use hir_base::Idx;
+use hir_collections::Idx;
 use hir_path::{BindingId, ExprId, LabelId, LifetimeRefId, PatId, TypeRefId};
 use hir_text_words::{Answer, TextError, Words};
 use std::alloc::AllocError;

@@ -4,9 +4,10 @@ use crate::args::letter_of;
 use crate::definitions::{join_def, of_lang};
 use crate::paths::{has_args, is_kind};
 use hir_base::{LangItemTarget, ModPath, Name, PathKind};
+use hir_collections::Boxed;
 use hir_path::{
-    AssociatedTypeBinding, Boxed, GenericArg, GenericArgs, GenericArgsParentheses, NormalPath,
-    Path, PathSegments, TraitBoundModifier, TypeBound, UseArgRef,
+    AssociatedTypeBinding, GenericArg, GenericArgs, GenericArgsParentheses, NormalPath, Path,
+    PathSegments, TraitBoundModifier, TypeBound, UseArgRef,
 };
 use hir_text_words::Answer;
 use std::alloc::AllocError;

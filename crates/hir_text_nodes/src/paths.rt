@@ -3,8 +3,9 @@
 use crate::args::read_args;
 use crate::definitions::{as_lang, read_def};
 use crate::reading::{in_box, push, zip_ok};
-use hir_base::{Id, ModPath, Name, PathKind, Seq};
-use hir_path::{Boxed, GenericArgs, NormalPath, Path, TypeRefId};
+use hir_base::{Id, ModPath, Name, PathKind};
+use hir_collections::{Boxed, Seq};
+use hir_path::{GenericArgs, NormalPath, Path, TypeRefId};
 use hir_text_words::{TextError, Words, value_of};
 use std::alloc::Global;
 

@@ -1,7 +1,7 @@
 //! What is read of any type: lists, and parts of which one may fail.
 
-use hir_base::{Name, Seq};
-use hir_path::Boxed;
+use hir_base::Name;
+use hir_collections::{Boxed, Seq};
 use hir_text_words::{TextError, Words};
 use std::alloc::Global;
 

@@ -4,8 +4,9 @@ use crate::bounds::{next_bounds, opt_binder};
 use crate::definitions::next_type_param;
 use crate::paths::next_path;
 use crate::reading::{Read, behind_spaces, in_box, three, zip_ok};
-use hir_base::{ExternAbi, Name, Text};
-use hir_node::{ArrayType, Boxed, ConstRef, FnType, Mutability, RefType, TypeRef, TypeRefId};
+use hir_base::{ExternAbi, Name};
+use hir_collections::{Boxed, Text};
+use hir_node::{ArrayType, ConstRef, FnType, Mutability, RefType, TypeRef, TypeRefId};
 use hir_text_words::{Answer, TextError, Words};
 use std::alloc::{AllocError, Global};
 

@@ -1,6 +1,7 @@
 //! What comes at the end of a line.
 
-use hir_base::{Idx, InFile, SyntaxNodePtr};
+use hir_base::{InFile, SyntaxNodePtr};
+use hir_collections::Idx;
 use hir_node::ExprOrPatId;
 use hir_text_nodes::{Node, TextError, Words, next_node, next_source};
 

@@ -1,7 +1,7 @@
 //! Nodes and whole arenas, written as the lines that make them.
 
 use crate::missing::answer_unknown;
-use hir_base::ArenaIter;
+use hir_collections::ArenaIter;
 use hir_node::{Binding, Expr, LabelId, LifetimeRef, Pat, TypeRef};
 use hir_store::ExpressionStore;
 use hir_text_nodes::{

@@ -2,7 +2,8 @@
 
 use crate::building::done_or_stop;
 use crate::ends::{last_either, last_number, last_source};
-use hir_base::{Id, Idx, InFile, SyntaxNodePtr};
+use hir_base::{Id, InFile, SyntaxNodePtr};
+use hir_collections::Idx;
 use hir_node::ExprOrPatId;
 use hir_store::ExpressionStoreBuilder;
 use hir_text_nodes::{TextError, Words, next_source, pointer, read_diagnostic};

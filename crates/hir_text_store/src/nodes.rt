@@ -2,7 +2,7 @@
 
 use crate::ends::last_either;
 use crate::missing::{answer_unknown, differs};
-use hir_base::TryClone;
+use hir_collections::TryClone;
 use hir_node::{BindingId, Expr, ExprId, ExprOrPatId, LabelId, Literal, PathId, TypeRefId};
 use hir_store::{ExprRoots, ExpressionStore};
 use hir_text_nodes::{

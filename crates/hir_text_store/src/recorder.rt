@@ -2,7 +2,7 @@
 #![tactic(auto, using(hir_node::proofs::RunLemmas::freely))]
 
 use crate::missing::differs;
-use hir_base::Idx;
+use hir_collections::Idx;
 use hir_node::{ExprId, LifetimeRefId, PatId, StoreVisitor, TypeRefId};
 use hir_text_nodes::Answer;
 use std::alloc::{AllocError, Global};

@@ -1,7 +1,8 @@
 //! Questions on where nodes come from, and on what lowering found wrong.
 
 use crate::ends::{last_either, last_number};
-use hir_base::{AstPtr, Idx, InFile, SyntaxNodePtr, SyntheticSyntax};
+use hir_base::{AstPtr, InFile, SyntaxNodePtr, SyntheticSyntax};
+use hir_collections::Idx;
 use hir_node::{ExprId, LabelId, PatId};
 use hir_store::{ExpressionStoreDiagnostics, ExpressionStoreSourceMap};
 use hir_text_nodes::{Answer, TextError, Words, syntax, write_diagnostic, write_source};

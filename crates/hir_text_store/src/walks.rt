@@ -3,7 +3,7 @@
 use crate::ends::last_number;
 use crate::missing::answer_unknown;
 use crate::recorder::{Recorder, write_same};
-use hir_base::Idx;
+use hir_collections::Idx;
 use hir_node::{BindingId, ExprId, PatId};
 use hir_store::ExpressionStore;
 use hir_text_nodes::{Answer, TextError, Words};

@@ -3,7 +3,7 @@
 ghost use Rattle.std.specs.Prelude.{◌≡◌, string_bytes};
 
 use crate::{names, quotes};
-use hir_base::Idx;
+use hir_collections::Idx;
 use itoa::Buffer;
 use std::alloc::{AllocError, Global};
 

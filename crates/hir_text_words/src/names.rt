@@ -4,7 +4,8 @@ use crate::parts::Part;
 use crate::quotes;
 use crate::text_error::TextError;
 use crate::words::Words;
-use hir_base::{Name, Seq, Text};
+use hir_base::Name;
+use hir_collections::{Seq, Text};
 use std::alloc::Global;
 
 /// Whether a bare name may begin with this.

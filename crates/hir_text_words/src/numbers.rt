@@ -4,7 +4,8 @@ ghost use Rattle.std.specs.Prelude.{◌≤◌};
 use crate::parts::Part;
 use crate::text_error::TextError;
 use crate::words::Words;
-use hir_base::{Id, Idx, ShortList};
+use hir_base::Id;
+use hir_collections::{Idx, ShortList};
 use std::alloc::Global;
 use std::num::TryFromIntError;
 

@@ -1,6 +1,6 @@
 //! Why a line can't be read or answered.
 
-use hir_base::ArenaFault;
+use hir_collections::ArenaFault;
 use std::alloc::{AllocError, AllocFailed};
 use std::num::TryFromIntError;
 use std::str::Utf8Error;

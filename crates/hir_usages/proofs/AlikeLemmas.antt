@@ -13,7 +13,7 @@ use Rattle.hir_node.specs.declared.{binding.Binding.Binding, expr.Expr.Expr, pat
 use Rattle.hir_node.specs.declared.expr_types.{Item.Item, MatchArm.MatchArm, Statement.Statement}
 use Rattle.hir_validate.specs.declared.sizes.Sizes.{Sizes}
 use Rattle.hir_validate.specs.Recursion.{rank, fold_down, fold_down_within}
-use Rattle.hir_validate.specs.{Nodes.Nodes, Nodes.sizes_of, Nodes.calls_of, Nodes.children_of, Nodes.graph, Sizes.place, Sizes.places, TestedParts.all_of}
+use Rattle.hir_validate.specs.{declared.node_arenas.Nodes.Nodes, Nodes.sizes_of, Nodes.calls_of, Nodes.children_of, Nodes.graph, Sizes.place, Sizes.places, TestedParts.all_of}
 use Rattle.hir_forest.specs.Height.{height}
 use Rattle.hir_store_core.specs.PatLinks.{children_at}
 use Rattle.hir_store_core.specs.PatLists.{pats_step, pats, bindings_at, bindings_in}
@@ -26,7 +26,7 @@ use Rattle.hir_scope.specs.ChildContexts.{Base, Scope, ConstScope, ChildContext,
 use Rattle.hir_scope.specs.EntryNodes.{root_frame, body_entry_nodes}
 use Rattle.hir_scope.specs.declared.scope.{ScopeEntry.ScopeEntry, ScopeKind.ScopeKind}
 use Rattle.std.specs.FinMap as finmap
-use Rattle.hir_items.specs.{Bodies.BodyContents, Bodies.formals_of, Bodies.last_root, declared.formals.Param.Param}
+use Rattle.hir_body.specs.{Bodies.BodyContents, Bodies.formals_of, Bodies.last_root, declared.formals.Param.Param}
 use Rattle.hir_scope.specs.{BodyScopes.ChainsAreFrames, BodyScopes.entry_nodes_of_body, Paths.chain, Scopes.Scopes}
 use Rattle.hir_usages.specs.Renames.{renamed_entry, renamed_chain}
 use Rattle.hir_usages.specs.Renamed.{change_at, renamed_expr, renamed_pat, renamed_binding, rename_path, rename_binding, renamed_nodes, renamed_body}

@@ -8,9 +8,9 @@ use Rattle.std.specs.Option.{option_or, option_map}
 use Rattle.std.specs.Prelude.{◌↔◌, nat_lt}
 use Rattle.hir_base.specs.declared.hygiene.SyntaxContext.{SyntaxContext}
 use Rattle.hir_node.specs.declared.{binding.Binding.Binding, node_id.NodeId.NodeId}
-use Rattle.hir_validate.specs.{Nodes.Nodes, Nodes.children_of, Recursion.RankDecreases}
+use Rattle.hir_validate.specs.{declared.node_arenas.Nodes.Nodes, Nodes.children_of, Recursion.RankDecreases}
 use Rattle.hir_store_core.specs.{Contents.Contents, SideTables.hygiene_of}
-use Rattle.hir_items.specs.{Bodies.BodyContents, Bodies.formals_of, Bodies.last_root, declared.formals.Param.Param}
+use Rattle.hir_body.specs.{Bodies.BodyContents, Bodies.formals_of, Bodies.last_root, declared.formals.Param.Param}
 use Rattle.hir_scope.specs.{BodyScopes.AreBodyScopes, BodyScopes.entry_nodes_of_body, Chains.InContext, Chains.HasChain, Frames.Chain, Frames.entry_of, PathResolution.binding_of, Resolution.matches, Resolution.find_entry, Resolution.entries_of, Scopes.Scopes}
 use Rattle.hir_scope.specs.declared.scope.ScopeEntry.{ScopeEntry}
 use Rattle.hir_usages.specs.Usages.{usages_of_body, resolves_to, is_binding}

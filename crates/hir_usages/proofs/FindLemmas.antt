@@ -3,9 +3,10 @@ use Rattle.std.proofs.Common.{◌≡◌, ℕ, List, [], ◌∷◌, ◌++◌, Opt
 use Rattle.std.specs.List.{flat_map}
 use Rattle.std.specs.Option.{option_to_list, option_map}
 use Rattle.hir_node.specs.declared.node_id.NodeId.{NodeId}
-use Rattle.hir_validate.specs.Nodes.{Nodes, Has}
+use Rattle.hir_validate.specs.Nodes.{Has}
+use Rattle.hir_validate.specs.declared.node_arenas.Nodes.{Nodes}
 use Rattle.hir_store_core.specs.Contents.{Contents}
-use Rattle.hir_items.specs.{Bodies.BodyContents, Bodies.formals_of, Bodies.last_root, Bodies.entry_nodes, declared.formals.Param.Param}
+use Rattle.hir_body.specs.{Bodies.BodyContents, Bodies.formals_of, Bodies.last_root, Bodies.entry_nodes, declared.formals.Param.Param}
 use Rattle.hir_captures.specs.Uses.{Spot}
 use Rattle.hir_usages.specs.Visits.{visits_under, visits}
 use Rattle.hir_usages.specs.Usages.{usages_in, usages_of_body, bound_in, bound_by_body}

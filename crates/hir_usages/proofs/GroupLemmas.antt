@@ -8,7 +8,7 @@ use Rattle.std.specs.Ordering.{nat_cmp, eq_by_cmp, is_eq, MatchOrdering}
 use Rattle.std.specs.{Prelude.not, Prelude.is_some, Prelude.◌||◌, declared.cmp.Ordering.Ordering}
 use Rattle.hir_captures.specs.Captures.{with_new}
 use Rattle.hir_usages.specs.Usages.{FoundUsages, resolves_to, is_binding, usages_of, unresolved_in, is_unused, unused_among, usages_of_body, bound_by_body, found_in_body}
-use Rattle.hir_items.specs.Bodies.{BodyContents}
+use Rattle.hir_body.specs.Bodies.{BodyContents}
 use Rattle.hir_scope.specs.Scopes.{Scopes}
 use Rattle.hir_usages.specs.declared.usage.Usage.{Usage}
 use Rattle.hir_usages.specs.Groups.{AreGroups, or_none}

@@ -7,9 +7,9 @@ use Rattle.hir_base.specs.declared.hygiene.SyntaxContext.{SyntaxContext}
 use Rattle.hir_path.specs.declared.ids.ExprOrPatId.{ExprOrPatId}
 use Rattle.hir_node.specs.declared.node_id.NodeId.{NodeId}
 use Rattle.hir_validate.specs.declared.sizes.Sizes.{Sizes}
-use Rattle.hir_validate.specs.{Nodes.Nodes, Nodes.Has, Nodes.children_of, Sizes.HasNode}
+use Rattle.hir_validate.specs.{declared.node_arenas.Nodes.Nodes, Nodes.Has, Nodes.children_of, Sizes.HasNode}
 use Rattle.hir_store_core.specs.{SideTables.hygiene_of, Under.Under, Under.itself, Under.below}
-use Rattle.hir_items.specs.Bodies.{BodyContents, BodyReaches}
+use Rattle.hir_body.specs.Bodies.{BodyContents, BodyReaches}
 use Rattle.hir_scope.specs.{BodyScopes.AreBodyScopes, BodyScopes.entry_nodes_of_body, Chains.HasChain, Frames.Chain, PathResolution.binding_of, Paths.chain, Resolution.resolve, Scopes.Scopes}
 use Rattle.hir_scope.specs.declared.scope.ScopeEntry.{ScopeEntry}
 use Rattle.hir_usages.specs.Usages.{usages_of_body, usages_of}

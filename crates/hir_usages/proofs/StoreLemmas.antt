@@ -9,12 +9,12 @@ use Rattle.hir_node.specs.declared.{expr.Expr.Expr, node_id.NodeId.NodeId, pat.P
 use Rattle.hir_forest.specs.declared.roots.{Ends.Ends, Root.Root}
 use Rattle.hir_forest.specs.{Faults.forest_fault, Parents.HasParents}
 use Rattle.hir_validate.specs.declared.{sizes.Sizes.Sizes}
-use Rattle.hir_validate.specs.{Nodes.Nodes, Nodes.sizes_of, Nodes.graph, TestedParts.TestedParts, TestedParts.tested_expr, TestedParts.tested_pat, TestedParts.tested_type}
+use Rattle.hir_validate.specs.{declared.node_arenas.Nodes.Nodes, Nodes.sizes_of, Nodes.graph, TestedParts.TestedParts, TestedParts.tested_expr, TestedParts.tested_pat, TestedParts.tested_type}
 use Rattle.hir_validate.specs.Faults.{ends_of, node_fault, nothing_tested, first_of, first_bad_node, graph_fault, rooted_fault}
 use Rattle.hir_store_core.specs.{Contents.Contents, Contents.IsStore, Contents.contents_fault, Contents.contents_of_parts, PatLinks.HasPatLinks, PatLinks.AreLinked, Under.LiesUnderOther}
 use Rattle.hir_store_core.specs.declared.kept_parts.KeptParts.{KeptParts}
-use Rattle.hir_items.specs.declared.formals.Param.{Param}
-use Rattle.hir_items.specs.Bodies.{BodyContents, body_of, body_fault, fault_at_root, last_root, apart_fault, AreBelow}
+use Rattle.hir_body.specs.declared.formals.Param.{Param}
+use Rattle.hir_body.specs.Bodies.{BodyContents, body_of, body_fault, fault_at_root, last_root, apart_fault, AreBelow}
 use Rattle.hir_scope.specs.Scopes.{Scopes}
 use Rattle.hir_usages.specs.Renames.{renamed_entry}
 use Rattle.hir_usages.specs.Renamed.{change_at, renamed_expr, renamed_pat, rename_path, rename_binding, renamed_nodes, renamed_body, with_nodes}

@@ -10,9 +10,9 @@ use Rattle.hir_path.specs.declared.ids.ExprOrPatId.{ExprOrPatId}
 use Rattle.hir_path.specs.declared.ids.ExprOrPatId.TheVariants.{ExprId, PatId}
 use Rattle.hir_path.specs.declared.path.Path.{Path}
 use Rattle.hir_node.specs.declared.{expr.Expr.Expr, node_id.NodeId.NodeId, pat.Pat.Pat}
-use Rattle.hir_validate.specs.{Recursion.RankDecreases, Nodes.Nodes, Nodes.children_of}
+use Rattle.hir_validate.specs.{Recursion.RankDecreases, declared.node_arenas.Nodes.Nodes, Nodes.children_of}
 use Rattle.hir_store_core.specs.{Contents.Contents, SideTables.hygiene_of, Under.Under, Under.itself, Under.below}
-use Rattle.hir_items.specs.Bodies.{BodyContents, BodyReaches, entry_nodes}
+use Rattle.hir_body.specs.Bodies.{BodyContents, BodyReaches, entry_nodes}
 use Rattle.hir_scope.specs.{PathResolution.local_name, PathResolution.binding_at, PathResolution.resolve_path, PathResolution.resolved_by_expr, PathResolution.resolved_by_pat, PathResolution.target_binding_at, Scopes.Scopes}
 use Rattle.hir_captures.specs.Uses.{Spot, if_assignment, assignment_at, of_pattern}
 use Rattle.hir_usages.specs.Visits.{children_in_order, visits}

@@ -6,7 +6,8 @@ use Rattle.std.specs.List.{flat_map, AllByRecursion}
 use Rattle.hir_node.specs.ChildCalls.{Call, OnExpr, OnAnonConst, OnPat, OnType, OnLifetime, children}
 use Rattle.hir_node.specs.declared.node_id.NodeId.{NodeId}
 use Rattle.hir_validate.specs.Recursion.{rank, RankDecreases, AgreeOn, DependsOnChildren}
-use Rattle.hir_validate.specs.Nodes.{Nodes, Has, children_of}
+use Rattle.hir_validate.specs.Nodes.{Has, children_of}
+use Rattle.hir_validate.specs.declared.node_arenas.Nodes.{Nodes}
 use Rattle.hir_validate.proofs.RecursionLemmas.{fold_down_at, parent_in_range}
 use Rattle.hir_scope.specs.{ScopingForms.form_of, Order.met_in_form}
 use Rattle.hir_scope.proofs.ChildLemmas.{met_children}

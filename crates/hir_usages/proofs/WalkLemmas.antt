@@ -5,10 +5,10 @@ use Rattle.std.proofs.lemmas.List.{Concat.flat_map-append}
 use Rattle.std.specs.List.{slice_get}
 use Rattle.hir_node.specs.{ChildCalls.Call, ChildCalls.pat_calls, ChildCalls.type_calls, Runs.Runs, Runs.no_call, Runs.a_call}
 use Rattle.hir_node.specs.declared.{expr.Expr.Expr, node_id.NodeId.NodeId, pat.Pat.Pat, type_ref.TypeRef.TypeRef}
-use Rattle.hir_validate.specs.{Recursion.RankDecreases, Nodes.Nodes}
+use Rattle.hir_validate.specs.{Recursion.RankDecreases, declared.node_arenas.Nodes.Nodes}
 use Rattle.hir_store_core.specs.Contents.{Contents}
-use Rattle.hir_stack.specs.Stacks.{Defers}
-use Rattle.hir_stack.proofs.DeferredLemmas.{defers_none, defers_two}
+use Rattle.hir_collections.specs.Stacks.{Defers}
+use Rattle.hir_collections.proofs.DeferredLemmas.{defers_none, defers_two}
 use Rattle.hir_scope.specs.ScopingForms.{form_of, form_at, expr_form, pat_form, type_form}
 use Rattle.hir_scope.specs.{Order.met_in_form, Scopes.Scopes}
 use Rattle.hir_captures.specs.Uses.{Spot, spot, if_assignment, assignment_at}

@@ -5,10 +5,10 @@ pub use Rattle.std.specs.Ordering.{nat_cmp}
 pub use Rattle.std.specs.Prelude.{◌≡◌, List, [], Option, Some, None, ◌≢◌, ℕ, ◌∷◌, ◌++◌, zero, suc, fold, map, Bool, true, false, ◌==◌, ◌&&◌, ◌||◌, not, codes, option_map, slice_get, is_some}
 pub use Rattle.hir_base.specs.Ids.{Name}
 pub use Rattle.hir_base.specs.declared.hygiene.SyntaxContext.{SyntaxContext}
+pub use Rattle.hir_body.specs.Bodies.{BodyContents, entry_nodes}
+pub use Rattle.hir_body.specs.declared.formals.Param.{Param}
 pub use Rattle.hir_captures.specs.Captures.{each_once}
 pub use Rattle.hir_captures.specs.Uses.{Spot, spot, assignment_at, of_pattern}
-pub use Rattle.hir_items.specs.Bodies.{BodyContents, entry_nodes}
-pub use Rattle.hir_items.specs.declared.formals.Param.{Param}
 pub use Rattle.hir_node.specs.ChildCalls.{children, Call, OnExpr, OnAnonConst, OnPat, OnType, OnLifetime}
 pub use Rattle.hir_node.specs.declared.binding.Binding.{Binding}
 pub use Rattle.hir_node.specs.declared.expr.Expr.{Expr}
@@ -31,5 +31,6 @@ pub use Rattle.hir_scope.specs.declared.scope.ScopeEntry.{ScopeEntry}
 pub use Rattle.hir_store_core.specs.Contents.{Contents}
 pub use Rattle.hir_store_core.specs.PatLists.{bindings_at}
 pub use Rattle.hir_store_core.specs.SideTables.{hygiene_of}
-pub use Rattle.hir_validate.specs.Nodes.{Nodes, Has}
+pub use Rattle.hir_validate.specs.Nodes.{Has}
+pub use Rattle.hir_validate.specs.declared.node_arenas.Nodes.{Nodes}
 unfoldable pub use Rattle.hir_validate.specs.Recursion.{fold_down}

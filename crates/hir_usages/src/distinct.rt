@@ -4,7 +4,7 @@
 ghost use Rattle.std.specs.Prelude.{◌≡◌, [], IfOk, OnOk};
 ghost use Rattle.hir_captures.specs.Captures.{with_new};
 
-use hir_base::ArenaMap;
+use hir_collections::ArenaMap;
 use hir_node::{BindingId, BindingKind};
 use std::alloc::{AllocError, Global};
 use std::marker::Model;

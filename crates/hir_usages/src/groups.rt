@@ -10,7 +10,7 @@ ghost use Rattle.std.specs.FinMap as map;
 
 use crate::distinct::DistinctBindings;
 use crate::usage::Usage;
-use hir_base::{ArenaMap, Seq};
+use hir_collections::{ArenaMap, Seq};
 use hir_node::{BindingId, BindingKind};
 use std::alloc::{AllocError, Global};
 

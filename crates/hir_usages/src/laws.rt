@@ -4,7 +4,7 @@ ghost use Rattle.std.specs.Prelude.{◌≡◌, ◌↔◌, ℕ, List, None, Some,
 ghost use Rattle.std.specs.List.{All};
 ghost use Rattle.hir_base.specs.declared.hygiene.SyntaxContext.{SyntaxContext};
 ghost use Rattle.hir_store_core.specs.Contents.{Contents, contents_fault};
-ghost use Rattle.hir_items.specs.Bodies.{BodyContents, body_fault};
+ghost use Rattle.hir_body.specs.Bodies.{BodyContents, body_fault};
 ghost use Rattle.hir_scope.specs.BodyScopes.{AreBodyScopes, ChainsAreFrames, entry_nodes_of_body};
 ghost use Rattle.hir_scope.specs.Chains.{HasChain};
 ghost use Rattle.hir_scope.specs.Frames.{Chain};

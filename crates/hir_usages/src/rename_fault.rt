@@ -1,7 +1,7 @@
 //! Why a binding isn't renamed.
-ghost use Rattle.hir_base.specs.Exact.{exact};
+ghost use Rattle.hir_collections.specs.Exact.{exact};
 
-use hir_base::ExactEq;
+use hir_collections::ExactEq;
 use hir_node::{BindingId, ExprOrPatId};
 use std::alloc::AllocError;
 use thiserror::Error;

@@ -11,8 +11,9 @@ ghost use Rattle.hir_usages.specs.internal.RenamedUses.{rename_use};
 use crate::rename_fault::RenameFault;
 use crate::renames::rename;
 use crate::usage::Usage;
-use hir_base::{Arena, ModPath, Name, Seq, TryClone};
-use hir_items::Body;
+use hir_base::{ModPath, Name};
+use hir_body::Body;
+use hir_collections::{Arena, Seq, TryClone};
 use hir_node::{
     Binding, BindingId, BindingKind, Expr, ExprId, ExprKind, ExprOrPatId, Pat, PatId, PatKind, Path,
 };

@@ -11,7 +11,7 @@ use crate::renaming::Renaming;
 use crate::usage::Usage;
 use crate::usages::find;
 use hir_base::{HygieneId, Name};
-use hir_items::{Body, Param};
+use hir_body::{Body, Param};
 use hir_node::{Binding, BindingId};
 use hir_scope::{ExprScopes, ScopeEntry, ScopeId};
 use std::alloc::{AllocError, Global};

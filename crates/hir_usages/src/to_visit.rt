@@ -3,14 +3,14 @@
 
 ghost use Rattle.std.specs.Prelude.{◌≡◌, [], ◌∷◌, ◌++◌, OnOk};
 ghost use Rattle.hir_node.specs.ChildCalls.{pat_calls, type_calls};
-ghost use Rattle.hir_stack.specs.Stacks.{Defers};
+ghost use Rattle.hir_collections.specs.Stacks.{Defers};
 ghost use Rattle.hir_scope.specs.ScopingForms.{expr_form};
 ghost use Rattle.hir_scope.specs.Order.{met_in_form};
 ghost use Rattle.hir_usages.specs.internal.Pending.{task_of, tasks_of};
 
+use hir_collections::Stack;
 use hir_node::{Expr, ExprId, LifetimeRefId, Pat, PatId, StoreVisitor, TypeRef, TypeRefId};
 use hir_scope::visit_in_scope_order;
-use hir_stack::Stack;
 use std::alloc::{AllocError, Global};
 
 /// A node that is still to be visited.

@@ -1,7 +1,7 @@
 //! A use of a name that may be a local variable's.
-ghost use Rattle.hir_base.specs.Exact.{exact};
+ghost use Rattle.hir_collections.specs.Exact.{exact};
 
-use hir_base::ExactEq;
+use hir_collections::ExactEq;
 use hir_node::{BindingId, ExprId, ExprOrPatId};
 
 /// A path that may name a local variable, and the binding that it resolves to.

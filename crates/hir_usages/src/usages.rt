@@ -1,7 +1,7 @@
 //! The uses of a body.
 ghost use Rattle.std.specs.Prelude.{◌≡◌, ◌++◌, [], map, option_map, IfOk, OnOk};
 ghost use Rattle.std.specs.Option.{option_to_list};
-ghost use Rattle.hir_items.specs.Bodies.{formals_of};
+ghost use Rattle.hir_body.specs.Bodies.{formals_of};
 ghost use Rattle.hir_usages.specs.Visits.{visits};
 ghost use Rattle.hir_usages.specs.internal.Pending.{AreInRange, visits_of};
 ghost use Rattle.hir_usages.specs.Usages.{bound_by_body, found_in_body, unresolved_in, usages_of, usages_of_body};
@@ -14,8 +14,8 @@ use crate::groups::Groups;
 use crate::to_visit::{Task, ToVisit};
 use crate::usage::Usage;
 use crate::walk::Walk;
-use hir_items::body_laws::entry_nodes_are_in_range;
-use hir_items::{Body, Param};
+use hir_body::laws::entry_nodes_are_in_range;
+use hir_body::{Body, Param};
 use hir_node::{BindingId, PatId};
 use hir_scope::ExprScopes;
 use std::alloc::{AllocError, Global};

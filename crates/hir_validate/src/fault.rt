@@ -1,8 +1,8 @@
 //! Why a builder is refused.
 
-ghost use Rattle.hir_base.specs.Exact.{exact};
+ghost use Rattle.hir_collections.specs.Exact.{exact};
 
-use hir_base::ExactEq;
+use hir_collections::ExactEq;
 use hir_node::NodeId;
 use std::fmt;
 use thiserror::Error;

@@ -16,7 +16,7 @@ use crate::fault::FinishFault;
 use crate::nodes::NodeSlices;
 use crate::sizes::Sizes;
 use crate::tested_node::TestedNode;
-use hir_base::{Idx, MOST_ITEMS};
+use hir_collections::{Idx, MOST_ITEMS};
 use hir_forest::{ForestFault, Parents, Root};
 use hir_node::{NodeId, TypeRef};
 use std::alloc::{AllocError, Global};

@@ -6,7 +6,7 @@ ghost use Rattle.hir_validate.specs.Nodes.{no_nodes, sizes_of};
 ghost use Rattle.hir_validate.specs.Sizes.{Few};
 
 use crate::nodes::NodeSlices;
-use hir_base::{Arena, ExactEq, TryClone};
+use hir_collections::{Arena, ExactEq, TryClone};
 use hir_node::{
     Binding, BindingKind, Expr, ExprKind, Label, LabelKind, LifetimeRef, LifetimeRefKind, Pat,
     PatKind, TypeRef, TypeRefKind,

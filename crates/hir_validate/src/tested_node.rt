@@ -11,8 +11,9 @@ ghost use Rattle.hir_validate.specs.internal.TypeParts.{type_parts_of};
 ghost use Rattle.hir_validate.specs.TestedParts.{TestedParts, tested_expr, tested_pat, tested_type, nothing, a_path, some_args, some_bounds};
 
 use crate::type_parts::TypeParts;
+use hir_collections::Boxed;
 use hir_node::{
-    BindingId, Boxed, Expr, ExprId, GenericArgs, LabelId, NodeId, Pat, PatId, Path, StoreVisitor,
+    BindingId, Expr, ExprId, GenericArgs, LabelId, NodeId, Pat, PatId, Path, StoreVisitor,
     TypeBound, TypeRef, TypeRefId,
 };
 

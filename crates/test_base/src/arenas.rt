@@ -1,6 +1,6 @@
 //! Ids, arenas and their iterators, once each on the happy path, and the theorems of ids.
 use crate::same;
-use hir_base::{Arena, ArenaFault, ArenaIter, ExactEq, Idx, MOST_ITEMS, TryClone, laws};
+use hir_collections::{Arena, ArenaFault, ArenaIter, ExactEq, Idx, MOST_ITEMS, TryClone, laws};
 use std::alloc::{AllocError, Global};
 use std::cmp::Ordering;
 use std::iter::ExactSizeIterator;

@@ -1,4 +1,4 @@
-//! Tests of hir_base through its public surface, as a user would call it.
+//! Tests of `hir_collections` and `hir_base` through their public surface, as a user would call it.
 #![tactic(auto)]
 
 #[cfg(test)]

@@ -1,6 +1,7 @@
 //! Lists, texts and names, once each on the happy path.
 use crate::same;
-use hir_base::{ExactEq, Idx, ModPath, Name, Seq, ShortList, Text, TryClone};
+use hir_base::{ModPath, Name};
+use hir_collections::{ExactEq, Idx, Seq, ShortList, Text, TryClone};
 use std::alloc::{AllocError, Global};
 use std::mem::{drop, size_of};
 use std::process::Abort;

@@ -1,5 +1,5 @@
 //! Maps by id and their iterators, once each on the happy path.
-use hir_base::{ArenaMap, ArenaMapIter, ExactEq, Idx};
+use hir_collections::{ArenaMap, ArenaMapIter, ExactEq, Idx};
 use std::alloc::{AllocError, Global};
 use std::mem::drop;
 use std::process::Abort;

@@ -1,6 +1,7 @@
 //! Tests of values of many types: that a copy is the same, that others are not, and that same values hash
 //! alike.
-use hir_base::{ExactEq, ExternAbi, ModPath, Name, PathKind, Seq, Text, TryClone};
+use hir_base::{ExternAbi, ModPath, Name, PathKind};
+use hir_collections::{ExactEq, Seq, Text, TryClone};
 use std::alloc::{AllocError, Global};
 use std::hash::{DefaultHasher, Hash, Hasher};
 use std::test::Fail;

@@ -1,12 +1,13 @@
 //! The texts of ids and of names, the same by `Display` and by `Debug`.
 use hir_base::{
     AdtId, BlockId, ConstId, ConstParamId, CrateId, DefWithBodyId, Edition, EnumId, EnumVariantId,
-    ExpressionStoreOwnerId, FunctionId, GenericDefId, HirFileId, HygieneId, Id, Idx, ImplId, Kind,
+    ExpressionStoreOwnerId, FunctionId, GenericDefId, HirFileId, HygieneId, Id, ImplId,
     LangItemTarget, LifetimeParamId, LocalLifetimeParamId, LocalTypeOrConstParamId, Macro2Id,
     MacroCallId, MacroDefId, MacroId, MacroRulesId, Name, NamedDef, ProcMacroId, StaticId,
     StructId, SyntaxContext, SyntheticSyntax, TraitId, TypeAliasId, TypeOrConstParamId,
     TypeParamId, UnionId, VariantId,
 };
+use hir_collections::{Idx, Kind};
 use std::alloc::{AllocError, Global};
 use std::fmt::{Debug, Display};
 use std::mem::drop;

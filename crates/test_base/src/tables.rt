@@ -1,9 +1,10 @@
 //! Hash tables and their keys, once each on the happy path.
 use crate::same;
 use hir_base::{
-    AstPtr, DefWithBodyId, ExactEq, ExprSource, FunctionId, HasCode, HirFileId, Idx, InFile,
-    NamedDef, StaticId, StructId, SyntaxNodePtr, Table, TextRange, UnionId, VariantId,
+    AstPtr, DefWithBodyId, ExprSource, FunctionId, HirFileId, InFile, NamedDef, StaticId, StructId,
+    SyntaxNodePtr, TextRange, UnionId, VariantId,
 };
+use hir_collections::{ExactEq, HasCode, Idx, Table};
 use std::alloc::{AllocError, Global};
 use std::mem::drop;
 use std::process::Abort;

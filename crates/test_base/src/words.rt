@@ -3,11 +3,12 @@
 use crate::same;
 use either::Either;
 use hir_base::{
-    AdtId, AstPtr, BlockId, ConstParamId, CrateId, DefWithBodyId, Edition, EnumVariantId, ExactEq,
-    ExpressionStoreOwnerId, ExternAbi, FunctionId, GenericDefId, HygieneId, Idx, LabelPtr, ModPath,
-    Name, PathKind, RawWords, Seq, StructId, SyntaxContext, SyntaxNodePtr, SyntheticSyntax, Text,
-    TextRange, TypeOrConstParamId, TypeParamId, VariantId, ast, laws,
+    AdtId, AstPtr, BlockId, ConstParamId, CrateId, DefWithBodyId, Edition, EnumVariantId,
+    ExpressionStoreOwnerId, ExternAbi, FunctionId, GenericDefId, HygieneId, LabelPtr, ModPath,
+    Name, PathKind, RawWords, StructId, SyntaxContext, SyntaxNodePtr, SyntheticSyntax, TextRange,
+    TypeOrConstParamId, TypeParamId, VariantId, ast, laws,
 };
+use hir_collections::{ExactEq, Idx, Seq, Text};
 use std::alloc::{AllocError, Global};
 use std::cmp::Ordering;
 use std::mem::{drop, size_of};

@@ -3,9 +3,10 @@
 //! large is laid out.
 use crate::memory::in_a_box;
 use hir_base::{
-    CrateId, DefWithBodyId, EnumId, EnumVariantId, FunctionId, NamedDef, StructId, Text, TraitId,
+    CrateId, DefWithBodyId, EnumId, EnumVariantId, FunctionId, NamedDef, StructId, TraitId,
     VariantId,
 };
+use hir_collections::Text;
 use hir_defs::{PlainDef, Repr, TablesOf};
 use hir_store::Missing;
 use std::alloc::{AllocError, AllocFailed, Global};

@@ -2,8 +2,8 @@
 //! store.
 use crate::memory::push;
 use crate::trees::{self, BindingOf, One, PatOf, Tree};
-use hir_base::{Idx, Seq};
-use hir_items::{Body, BodyFault, Param, RefusedBody, body_laws};
+use hir_body::{Body, BodyFault, Param, RefusedBody, laws};
+use hir_collections::{Idx, Seq};
 use hir_node::{Expr, Literal, Pat, PatId};
 use std::alloc::{AllocError, Global};
 use std::test::Fail;
@@ -217,11 +217,11 @@ fn is_answered(alloc: Global, case: &Case) -> Result<bool, Fail> {
 
 #[test]
 fn faults_and_parts(rt: HostRuntime) -> Result<(), Fail> {
-    body_laws::first_body_fault_unique();
-    body_laws::entry_nodes_are_in_range();
-    body_laws::entry_nodes_are_disjoint();
-    body_laws::nodes_of_a_body_are_in_range();
-    body_laws::what_a_body_reaches_is_listed();
+    laws::first_body_fault_unique();
+    laws::entry_nodes_are_in_range();
+    laws::entry_nodes_are_disjoint();
+    laws::nodes_of_a_body_are_in_range();
+    laws::what_a_body_reaches_is_listed();
     for (i, case) in CASES.iter().enumerate() {
         assert!(&rt; is_answered(rt.alloc(), case)?, "case {i}");
     }

@@ -1,12 +1,13 @@
 //! Generic parameters one by one: types, constants and lifetimes, owned and borrowed.
 use crate::memory::{copies, in_a_box};
 use crate::params::{constant, lifetime, type_from};
-use hir_base::{Idx, Name};
-use hir_items::{
+use hir_base::Name;
+use hir_collections::Idx;
+use hir_node::ConstRef;
+use hir_signature::{
     ConstParamData, GenericParamData, GenericParamDataRef, LifetimeBoundType, LifetimeParamData,
     TypeOrConstParamData, TypeParamData, TypeParamProvenance,
 };
-use hir_node::ConstRef;
 use std::alloc::{AllocError, Global};
 use std::test::Fail;
 

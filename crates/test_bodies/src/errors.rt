@@ -1,6 +1,7 @@
 //! Refusals that give something back, as errors of any kind: the text is that of the fault.
-use hir_base::Seq;
-use hir_items::{BodyFault, RefusedBody, RefusedSignature, SignatureFault};
+use hir_body::{BodyFault, RefusedBody};
+use hir_collections::Seq;
+use hir_signature::{RefusedSignature, SignatureFault};
 use hir_store::{ExpressionStore, ExpressionStoreBuilder, FinishFault, Refused};
 use std::alloc::Global;
 use std::error::Error;

@@ -1,8 +1,9 @@
 //! Lists of generic parameters: iterators from both ends, and lists that are compared.
 use crate::memory::{copies, in_a_box};
 use crate::params::{Entry, LifetimeOf, ParamLists, Predicate, make_params, meets_for_a};
-use hir_base::{ArenaIter, ExactEq, FunctionId, GenericDefId, Idx, Name};
-use hir_items::{BoundLifetimes, GenericParams, LifetimeParamData, generic_laws};
+use hir_base::{FunctionId, GenericDefId, Name};
+use hir_collections::{ArenaIter, ExactEq, Idx};
+use hir_signature::{BoundLifetimes, GenericParams, LifetimeParamData, generic_laws};
 use std::alloc::{AllocError, Global};
 use std::test::Fail;
 

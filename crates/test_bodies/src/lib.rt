@@ -1,4 +1,4 @@
-//! What golden cases can't ask of `hir_items`, `hir_generics`, `hir_defs` and `hir_scope`: parts that come
+//! What golden cases can't ask of `hir_body`, `hir_signature`, `hir_defs` and `hir_scope`: parts that come
 //! back, generic parameters one by one, orders from both ends, parameters that are compared, refusals as
 //! errors, bodies that are built and walked by calls, and scopes item by item. What is accepted, and why not,
 //! is in the golden cases of `hir_golden`.

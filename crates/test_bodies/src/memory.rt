@@ -1,6 +1,6 @@
 //! Calls that take memory, without what they give back where an allocation fails. What is said here of any
 //! type is proved once, and lays out no type, however large it is.
-use hir_base::{Arena, ExactEq, Seq, TryClone};
+use hir_collections::{Arena, ExactEq, Seq, TryClone};
 use std::alloc::{AllocError, AllocFailed, Global};
 use std::fmt::Debug;
 use std::test::Fail;

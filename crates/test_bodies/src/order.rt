@@ -2,7 +2,7 @@
 //! written.
 #![tactic(auto, using(hir_node::proofs::RunLemmas::freely))]
 
-use hir_base::Idx;
+use hir_collections::Idx;
 use hir_node::{Expr, ExprId, LifetimeRefId, PatId, StoreVisitor, TypeRefId};
 use hir_scope::visit_in_scope_order;
 use std::test::Fail;

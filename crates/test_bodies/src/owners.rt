@@ -1,13 +1,14 @@
 //! Scopes that are looked up in tables, by an owner of each of the three kinds as it is.
 use crate::memory::{first, in_a_box, was_taken};
 use crate::trees::{self, One, Tree};
-use hir_base::{AdtId, DefWithBodyId, FunctionId, GenericDefId, Name, Seq, StructId, VariantId};
+use hir_base::{AdtId, DefWithBodyId, FunctionId, GenericDefId, Name, StructId, VariantId};
+use hir_body::{Body, BodySourceMap};
+use hir_collections::Seq;
 use hir_defs::Tables;
-use hir_items::{
-    Body, BodySourceMap, FieldsShape, GenericParams, StructParts, StructSignature, VariantFields,
-    VariantParts,
-};
 use hir_scope::{ExprScopes, ScopesFault};
+use hir_signature::{
+    FieldsShape, GenericParams, StructParts, StructSignature, VariantFields, VariantParts,
+};
 use hir_store::{ExpressionStoreBuilder, ExpressionStoreSourceMap};
 use std::alloc::Global;
 use std::test::Fail;

@@ -1,11 +1,12 @@
 //! Generic parameters for the tests, written as what each of their three lists has.
 use crate::memory::{NodeForm, arena, in_a_box, list, push};
-use hir_base::{Idx, Name, Seq};
-use hir_items::{
+use hir_base::Name;
+use hir_collections::{Idx, Seq};
+use hir_node::{ConstRef, PathId, TraitBoundModifier, TypeBound};
+use hir_signature::{
     ConstParamData, GenericParams, LifetimeBoundType, LifetimeParamData, TypeOrConstParamData,
     TypeParamData, TypeParamProvenance, WherePredicate,
 };
-use hir_node::{ConstRef, PathId, TraitBoundModifier, TypeBound};
 use std::alloc::{AllocError, Global};
 use std::test::Fail;
 

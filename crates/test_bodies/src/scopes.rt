@@ -2,9 +2,9 @@
 //! and after it.
 #![tactic(auto)]
 
-use hir_base::Idx;
+use hir_body::Body;
+use hir_collections::Idx;
 use hir_error::HirError;
-use hir_items::Body;
 use hir_make::{bind, body, closure, local};
 use hir_scope::{ExprScopes, ScopeId, ScopesFault};
 use hir_store::ExpressionStoreBuilder;

@@ -1,13 +1,14 @@
 //! What errors say: a sentence for each fault, and which id a node names that doesn't exist.
-use hir_base::{ArenaFault, Seq};
+use hir_body::BodyFault;
+use hir_collections::{ArenaFault, Seq};
 use hir_error::HirError;
-use hir_items::{BodyFault, SignatureFault};
 use hir_make::{bind, break_, call, local, tuple};
 use hir_node::{
     BindingId, Expr, ExprId, LabelId, LifetimeRefId, NodeId, Pat, PatId, TypeBound, TypeRef,
     TypeRefId,
 };
 use hir_scope::ScopesFault;
+use hir_signature::SignatureFault;
 use hir_store::{ExpressionStore, ExpressionStoreBuilder, FinishFault};
 use std::alloc::Global;
 use std::test::Fail;

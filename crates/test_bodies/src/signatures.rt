@@ -4,13 +4,14 @@
 use crate::memory::{in_a_box, push};
 use crate::params::{self, Entry, ParamLists, Predicate};
 use crate::trees::{self, BARE, Never};
-use hir_base::{ExternAbi, Idx, Name, Seq};
-use hir_items::{
+use hir_base::{ExternAbi, Name};
+use hir_collections::{Idx, Seq};
+use hir_node::{TypeRef, TypeRefId};
+use hir_signature::{
     FieldData, FieldsShape, FunctionParts, FunctionSignature, PlainParts, PlainSignature,
     RawVisibility, RefusedSignature, SignatureFault, StructParts, StructSignature, VariantFields,
     VariantParts,
 };
-use hir_node::{TypeRef, TypeRefId};
 use std::alloc::{AllocError, Global};
 use std::test::Fail;
 

@@ -1,7 +1,8 @@
 //! Stores for the tests. A tree is written as its nodes of each kind, so that each arena is lent to one small
 //! function, and few are lent the builder.
 use crate::memory::{NodeForm, add_all, first, in_a_box, was_taken};
-use hir_base::{HygieneId, Idx, Name, RangeOp};
+use hir_base::{HygieneId, Name, RangeOp};
+use hir_collections::Idx;
 use hir_node::{Binding, BindingAnnotation, Expr, Literal, Pat, TypeRef};
 use hir_store::{ExpressionStore, ExpressionStoreBuilder};
 use std::alloc::{AllocError, Global};

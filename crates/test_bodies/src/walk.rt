@@ -3,8 +3,8 @@
 //! between.
 #![tactic(auto, using(hir_store_core::proofs::GivenLemmas::id_is_in_range, hir_node::proofs::RunLemmas::freely))]
 
+use hir_body::Body;
 use hir_error::HirError;
-use hir_items::Body;
 use hir_make::{bind, block, body, let_, local};
 use hir_node::{Expr, ExprId, LifetimeRefId, Mutability, PatId, Rawness, TypeRefId};
 use hir_store::{ExpressionStore, ExpressionStoreBuilder, StoreVisitor};

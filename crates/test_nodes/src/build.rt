@@ -1,9 +1,10 @@
 //! Lists, paths and generic arguments for the tests. What takes parts that may have been refused is said of
 //! any type, or opens them once: each `?` beside which something is owned is dear to prove.
-use hir_base::{Idx, ModPath, Name, PathKind, Seq};
+use hir_base::{ModPath, Name, PathKind};
+use hir_collections::{Boxed, Idx, Seq};
 use hir_node::{
-    AssociatedTypeBinding, Boxed, GenericArg, GenericArgs, GenericArgsParentheses, NormalPath,
-    Path, TypeBound, TypeRefId,
+    AssociatedTypeBinding, GenericArg, GenericArgs, GenericArgsParentheses, NormalPath, Path,
+    TypeBound, TypeRefId,
 };
 use std::alloc::{AllocError, Global};
 

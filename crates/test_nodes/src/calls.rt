@@ -8,7 +8,7 @@ ghost use Rattle.hir_node.specs.Runs.{MayRun};
 
 use crate::build;
 use crate::wanted_calls::{Call, CallList};
-use hir_base::{Idx, Seq};
+use hir_collections::{Idx, Seq};
 use hir_node::{
     ConstRef, Expr, GenericArg, GenericArgs, GenericArgsParentheses, Path, StoreVisitor,
     StoreVisitorExt, laws, visit_generic_args,

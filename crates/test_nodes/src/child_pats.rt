@@ -1,6 +1,6 @@
 //! The iterator over child patterns, and its copy.
 use crate::build;
-use hir_base::{Idx, ShortList};
+use hir_collections::{Idx, ShortList};
 use hir_node::{ChildPats, Pat};
 use std::alloc::{AllocError, Global};
 use std::mem::drop;

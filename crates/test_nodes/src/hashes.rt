@@ -1,9 +1,8 @@
 //! Hashes of nodes that have each kind of part that owns memory, sizes of nodes, and the copy that no golden
 //! case asks for.
 use crate::build;
-use hir_base::{
-    ExactEq, ExternAbi, FunctionId, Idx, LangItemTarget, Name, Seq, ShortList, Text, TryClone,
-};
+use hir_base::{ExternAbi, FunctionId, LangItemTarget, Name};
+use hir_collections::{ExactEq, Idx, Seq, ShortList, Text, TryClone};
 use hir_node::{
     Binding, Expr, FnType, LifetimeRef, Literal, LiteralOrConst, Mutability, Pat, Path, PathId,
     RefType, TypeBound, TypeRef, TypeRefId, UseArgRef,

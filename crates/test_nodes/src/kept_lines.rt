@@ -1,7 +1,8 @@
 //! A builder that keeps what lines make, as it came, but for types, which golden cases see. Lines are
 //! compared by functions: a derived comparison is dear to prove, since it proves its theorems.
 
-use hir_base::{HygieneId, Name, Seq};
+use hir_base::{HygieneId, Name};
+use hir_collections::Seq;
 use hir_node::{Binding, BindingId, Expr, ExprId, ExprOrPatId, Pat, PatId, TypeRef};
 use hir_show_grammar::{Builder, LineError, ask, make};
 use std::alloc::Global;

@@ -4,7 +4,8 @@
 
 use crate::kept_lines::{Line, Maker};
 use crate::says::{id, list, makes, says};
-use hir_base::{BlockId, HygieneId, MacroDefId, Name, Seq, ShortList, SyntaxContext};
+use hir_base::{BlockId, HygieneId, MacroDefId, Name, SyntaxContext};
+use hir_collections::{Seq, ShortList};
 use hir_node::{
     Array, Binding, BindingAnnotation, Expr, ExprOrPatId, Item, LoopSource, Pat, Statement, Unsafe,
 };

@@ -2,7 +2,7 @@
 //! A line is dropped whole before its answer is weighed, since one that goes out of scope is dear to prove.
 
 use crate::kept_lines::{Line, Maker, are_same, say_line};
-use hir_base::{Idx, Seq};
+use hir_collections::{Idx, Seq};
 use hir_show_grammar::LineError;
 use std::alloc::{AllocError, Global};
 use std::mem::drop;

@@ -1,10 +1,11 @@
 //! The small calls: ids, words before bindings and pointers, boxes, texts of floats and nodes, and function
 //! types.
 use crate::build;
-use hir_base::{ExternAbi, Idx, ShortList, Text};
+use hir_base::ExternAbi;
+use hir_collections::{Boxed, Idx, ShortList, Text};
 use hir_node::{
-    BindingAnnotation, Boxed, Expr, ExprId, ExprOrPatId, FloatTypeWrapper, FnType, Mutability,
-    NodeId, PatId, PathId, Rawness,
+    BindingAnnotation, Expr, ExprId, ExprOrPatId, FloatTypeWrapper, FnType, Mutability, NodeId,
+    PatId, PathId, Rawness,
 };
 use std::alloc::{AllocError, Global};
 use std::fmt::{Debug, Display};

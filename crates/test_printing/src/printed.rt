@@ -2,7 +2,8 @@
 use crate::cases::Asked;
 use crate::layout::laid_out;
 use crate::list::PieceList;
-use hir_base::{DefWithBodyId, Edition, ExpressionStoreOwnerId, FunctionId, Idx};
+use hir_base::{DefWithBodyId, Edition, ExpressionStoreOwnerId, FunctionId};
+use hir_collections::Idx;
 use hir_defs::Tables;
 use hir_node::{ExprId, PatId, Path};
 use hir_pretty::{PrintFault, print_expr_hir, print_pat_hir, print_path};

@@ -3,7 +3,8 @@
 use crate::list::PieceList;
 use crate::printed::{EDITION, Printed, are_text, list_of_added};
 use crate::stores::store_of;
-use hir_base::{ExternAbi, FunctionId, Idx, Name, Seq};
+use hir_base::{ExternAbi, FunctionId, Name};
+use hir_collections::{Idx, Seq};
 use hir_defs::{FunctionParts, FunctionSignature, GenericParams, Tables};
 use hir_node::TypeRefId;
 use hir_pretty::print_function;

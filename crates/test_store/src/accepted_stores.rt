@@ -3,7 +3,7 @@ use crate::build::{BuildFault, NEVER, PATH, Step, WILD};
 use crate::entries::Entry;
 use crate::nodes::ExprStep;
 use crate::outcomes;
-use hir_base::Idx;
+use hir_collections::Idx;
 use hir_store::ExprRoots;
 use std::alloc::Global;
 use std::test::Fail;

@@ -2,7 +2,7 @@
 use crate::build::{PATH, Step, WILD};
 use crate::nodes::ExprStep;
 use crate::outcomes;
-use hir_base::Idx;
+use hir_collections::Idx;
 use hir_node::ExprId;
 use hir_store::NodeId;
 use std::test::Fail;

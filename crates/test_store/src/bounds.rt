@@ -2,7 +2,7 @@
 use crate::build::{NEVER, Step};
 use crate::nodes::TypeStep;
 use crate::outcomes;
-use hir_base::Idx;
+use hir_collections::Idx;
 use hir_node::{PathId, TraitBoundModifier, TypeBound};
 use hir_store::ExpressionStore;
 use std::test::Fail;

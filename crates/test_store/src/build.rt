@@ -3,7 +3,7 @@
 //! as it was; it is made again then.
 use crate::entries::{ENTRIES, Entry, add_entry};
 use crate::nodes::{self, ExprStep, PatStep, TypeStep, Written};
-use hir_base::{Arena, ArenaFault, Idx};
+use hir_collections::{Arena, ArenaFault, Idx};
 use hir_node::{Expr, LifetimeRef};
 use hir_store::ExpressionStoreBuilder;
 use std::alloc::{AllocError, AllocFailed, Global};

@@ -2,9 +2,10 @@
 //! number in file 0, and the ids in it are those of that number.
 use crate::build::{BuildFault, taken};
 use hir_base::{
-    AstPtr, BlockId, HirFileId, HygieneId, Idx, InFile, MacroCallId, SyntaxContext, SyntaxNodePtr,
+    AstPtr, BlockId, HirFileId, HygieneId, InFile, MacroCallId, SyntaxContext, SyntaxNodePtr,
     TextRange,
 };
+use hir_collections::Idx;
 use hir_node::ExprOrPatId;
 use hir_store::{ExpressionStoreBuilder, ExpressionStoreDiagnostics, MissingBodyItemKind};
 

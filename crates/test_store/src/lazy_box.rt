@@ -1,7 +1,6 @@
 //! Values that take no memory until they are written to, and what that leaves of the sizes of builders and
 //! stores.
-use hir_base::{ExactEq, Seq, TryClone};
-use hir_rare::LazyBox;
+use hir_collections::{ExactEq, LazyBox, Seq, TryClone};
 use hir_source_map::SourceMapBuilder;
 use hir_store::{ExpressionStore, ExpressionStoreBuilder, ExpressionStoreSourceMap};
 use std::alloc::{AllocError, Global};

@@ -1,7 +1,7 @@
 //! Items by their ids, in each of the six arenas, and the qualifier of a path that a store has.
 use crate::build::{NEVER, PATH, Step, WILD};
 use crate::outcomes;
-use hir_base::Idx;
+use hir_collections::Idx;
 use hir_node::{BindingId, Expr, ExprId, LabelId, LifetimeRefId, PatId, TypeRefId};
 use hir_store::{ExpressionStore, laws};
 use std::alloc::{AllocError, Global};

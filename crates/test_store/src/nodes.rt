@@ -1,13 +1,12 @@
 //! The nodes of the tests, each made of what a step says of it. No builder is lent to what is here. Nodes are
 //! named by their numbers: the first expression is 0, and so is the first pattern.
 use crate::build::BuildFault;
-use hir_base::{
-    BinaryOp, ExternAbi, HygieneId, Idx, LogicOp, ModPath, Name, PathKind, Seq, ShortList,
-};
+use hir_base::{BinaryOp, ExternAbi, HygieneId, LogicOp, ModPath, Name, PathKind};
+use hir_collections::{Boxed, Idx, Seq, ShortList};
 use hir_node::{
-    AssociatedTypeBinding, Binding, BindingAnnotation, Boxed, Expr, FnType, GenericArg,
-    GenericArgs, GenericArgsParentheses, Label, Literal, Mutability, NormalPath, Pat, Path, PathId,
-    Rawness, Statement, TraitBoundModifier, TypeBound, TypeRef, Unsafe,
+    AssociatedTypeBinding, Binding, BindingAnnotation, Expr, FnType, GenericArg, GenericArgs,
+    GenericArgsParentheses, Label, Literal, Mutability, NormalPath, Pat, Path, PathId, Rawness,
+    Statement, TraitBoundModifier, TypeBound, TypeRef, Unsafe,
 };
 use std::alloc::{AllocError, Global};
 

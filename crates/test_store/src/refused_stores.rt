@@ -4,7 +4,7 @@
 use crate::build::{NEVER, PATH, Step, push_entries};
 use crate::nodes::{ExprStep, TypeStep, Written};
 use crate::outcomes;
-use hir_base::Idx;
+use hir_collections::Idx;
 use hir_store::{FinishFault, NodeId};
 use std::alloc::{AllocError, Global};
 use std::test::Fail;

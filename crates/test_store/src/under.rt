@@ -5,7 +5,7 @@ ghost use Rattle.hir_validate.specs.Nodes.{sizes_of};
 use crate::build::{PATH, Step, WILD};
 use crate::nodes::ExprStep;
 use crate::outcomes;
-use hir_base::Idx;
+use hir_collections::Idx;
 use hir_node::{ExprId, PatId};
 use hir_store::{ExpressionStore, NodeSet};
 use std::alloc::{AllocError, Global};

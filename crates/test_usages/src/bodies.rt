@@ -1,8 +1,9 @@
 //! Bodies of functions, each with its source text. Bindings, expressions and patterns have the numbers of
 //! their order here.
-use hir_base::{HygieneId, ModPath, Name, Seq, ShortList, SyntaxContext};
+use hir_base::{HygieneId, ModPath, Name, SyntaxContext};
+use hir_body::Body;
+use hir_collections::{Seq, ShortList};
 use hir_error::HirError;
-use hir_items::Body;
 use hir_make::{
     assign, bind, block, body, closure, if_, int, let_, let_else, local, tuple, tuple_pat,
 };

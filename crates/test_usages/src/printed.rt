@@ -1,9 +1,9 @@
 //! Renamed bodies, as they are printed.
 use crate::bodies;
 use hir_base::{DefWithBodyId, Edition, ExpressionStoreOwnerId, FunctionId, Name};
+use hir_body::Body;
 use hir_defs::Tables;
 use hir_error::HirError;
-use hir_items::Body;
 use hir_node::{BindingId, ExprId, PatId};
 use hir_pretty::{print_expr_hir, print_pat_hir};
 use hir_scope::ExprScopes;

@@ -1,8 +1,8 @@
 //! Which renames are accepted, and the first conflict of those that aren't.
 use crate::bodies;
 use hir_base::Name;
+use hir_body::Body;
 use hir_error::HirError;
-use hir_items::Body;
 use hir_node::{BindingId, ExprId, ExprOrPatId};
 use hir_scope::ExprScopes;
 use hir_usages::{RenameFault, rename};

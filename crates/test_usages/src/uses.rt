@@ -1,7 +1,7 @@
 //! Which uses a body has, what each resolves to, and which bindings nothing uses.
 use crate::bodies;
+use hir_body::Body;
 use hir_error::HirError;
-use hir_items::Body;
 use hir_node::{BindingId, ExprId, ExprOrPatId};
 use hir_scope::ExprScopes;
 use hir_usages::{Usage, Usages, visible_names};

@@ -1,8 +1,8 @@
 -- That `==` of errors decides whether they are the same, variant by variant.
 use Rattle.std.specs.Prelude.{◌≡◌}
 use Rattle.std.specs.Bool.{Decides}
-use Rattle.hir_base.specs.Exact.{exact}
-use Rattle.hir_base.specs.Variants.{values_decide, then, last}
+use Rattle.hir_collections.specs.Exact.{exact}
+use Rattle.hir_collections.specs.Variants.{values_decide, then, last}
 use Rattle.hir_store_core.specs.declared.missing.Missing.{Missing}
 use Rattle.hir_store_core.specs.contracts.missing.Missing as definitions
 use Rattle.hir_store_core.specs.contracts.missing.MissingPartialEq.TheImpl as definition

@@ -3,7 +3,7 @@ use Rattle.std.specs.Prelude.{◌≡◌, ℕ, List, Option}
 use Rattle.std.specs.Bool.{Decides}
 use Rattle.std.specs.Option.{option_eq}
 use Rattle.std.specs.Cmp.Lexicographic.{pointwise, pointwise_decides}
-use Rattle.hir_base.specs.Exact.{options_decide}
+use Rattle.hir_collections.specs.Exact.{options_decide}
 use Rattle.hir_base.specs.contracts.name.NamePartialEq.TheImpl as names
 use Rattle.hir_path.specs.same.Leaves.{names_decide}
 use Rattle.hir_path.specs.same.Leaves as paths

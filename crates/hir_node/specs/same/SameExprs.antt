@@ -3,8 +3,8 @@ use Rattle.std.specs.Prelude.{◌≡◌}
 use Rattle.std.specs.Bool.{Decides}
 use Rattle.std.specs.Cmp.{unsigned_Decides}
 use Rattle.std.specs.Cmp.Lexicographic.{bytes_decides as bytes_decide}
-use Rattle.hir_base.specs.Exact.{optional_numbers_decide, optional_number_lists_decide}
-use Rattle.hir_base.specs.Variants.{values_decide, then, also, last}
+use Rattle.hir_collections.specs.Exact.{optional_numbers_decide, optional_number_lists_decide}
+use Rattle.hir_collections.specs.Variants.{values_decide, then, also, last}
 use Rattle.hir_node.specs.same.SmallTypes.{small_types, paths_decide, fields_decide, spreads_decide, closure_kinds_decide, captures_decide}
 use Rattle.hir_node.specs.declared.expr.Expr.{Expr}
 use Rattle.hir_node.specs.contracts.expr.Expr.{enum}

@@ -1,7 +1,7 @@
 -- That `==` of literals decides whether they are the same, variant by variant.
 use Rattle.std.specs.Prelude.{◌≡◌}
 use Rattle.std.specs.Bool.{Decides}
-use Rattle.hir_base.specs.Variants.{values_decide, then, last}
+use Rattle.hir_collections.specs.Variants.{values_decide, then, last}
 use Rattle.hir_node.specs.same.Leaves.{leaves}
 use Rattle.hir_node.specs.declared.literal.Literal.{Literal}
 use Rattle.hir_node.specs.contracts.literal.Literal.{enum}
@@ -9,7 +9,7 @@ use Rattle.hir_node.specs.contracts.literal.LiteralPartialEq.TheImpl as node
 use Rattle.hir_node.specs.declared.literal.LiteralOrConst.{LiteralOrConst}
 use Rattle.hir_node.specs.contracts.literal.LiteralOrConst.{enum as end_enum}
 use Rattle.hir_node.specs.contracts.literal.LiteralOrConstPartialEq.TheImpl as end
-use Rattle.hir_base.specs.Exact.{exact}
+use Rattle.hir_collections.specs.Exact.{exact}
 
 pub literals_decide : (x y : Literal) → Decides (node.ghosts.eq x y) (x ≡ y)
 literals_decide x y = values_decide enum x y (

@@ -2,8 +2,8 @@
 use Rattle.std.specs.Prelude.{◌≡◌}
 use Rattle.std.specs.Bool.{Decides}
 use Rattle.std.specs.Cmp.Lexicographic.{bytes_decides as bytes_decide}
-use Rattle.hir_base.specs.Exact.{optional_numbers_decide}
-use Rattle.hir_base.specs.Variants.{values_decide, then, also, last}
+use Rattle.hir_collections.specs.Exact.{optional_numbers_decide}
+use Rattle.hir_collections.specs.Variants.{values_decide, then, also, last}
 use Rattle.hir_node.specs.same.SmallTypes.{small_types, paths_decide, field_pats_decide}
 use Rattle.hir_node.specs.same.SameStructs.{flags_decide}
 use Rattle.hir_node.specs.declared.pat.Pat.{Pat}

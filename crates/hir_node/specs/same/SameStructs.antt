@@ -5,7 +5,7 @@ use Rattle.std.specs.Option.{option_eq}
 use Rattle.std.specs.Cmp.{unsigned_Decides}
 use Rattle.std.specs.Cmp.Lexicographic.{pointwise_decides}
 use Rattle.std.specs.contracts.prelude.BoolPartialEq.TheImpl as flag
-use Rattle.hir_base.specs.Exact.{exact}
+use Rattle.hir_collections.specs.Exact.{exact}
 use Rattle.hir_base.specs.contracts.name.NamePartialEq.TheImpl as name
 use Rattle.hir_path.specs.same.Fields.{and_decides, both}
 use Rattle.hir_path.specs.same.Leaves.{names_decide, optional_names_decide}

@@ -1,7 +1,7 @@
 -- That `==` of types decides whether they are the same, variant by variant.
 use Rattle.std.specs.Prelude.{◌≡◌}
 use Rattle.std.specs.Bool.{Decides}
-use Rattle.hir_base.specs.Variants.{values_decide, then}
+use Rattle.hir_collections.specs.Variants.{values_decide, then}
 use Rattle.hir_node.specs.same.SmallTypes.{small_types}
 use Rattle.hir_node.specs.declared.type_ref.TypeRef.{TypeRef}
 use Rattle.hir_node.specs.contracts.type_ref.TypeRef.{enum}

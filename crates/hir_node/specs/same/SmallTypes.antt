@@ -3,7 +3,7 @@ use Rattle.std.specs.Prelude.{◌≡◌, List, Option}
 use Rattle.std.specs.Bool.{Decides}
 use Rattle.std.specs.Option.{option_eq}
 use Rattle.std.specs.Cmp.Lexicographic.{pointwise, pointwise_decides}
-use Rattle.hir_base.specs.Exact.{exact, options_decide}
+use Rattle.hir_collections.specs.Exact.{exact, options_decide}
 use Rattle.hir_base.specs.declared.params.TypeOrConstParamId.{TypeOrConstParamId}
 use Rattle.hir_path.specs.declared.path.Path.{Path}
 use Rattle.hir_path.specs.contracts.path.PathPartialEq.TheImpl as paths

@@ -3,7 +3,7 @@ use Rattle.std.specs.Prelude.{◌≡◌, ℕ, List, Option}
 use Rattle.std.specs.Bool.{Decides}
 use Rattle.std.specs.Option.{option_eq}
 use Rattle.std.specs.Cmp.Lexicographic.{pointwise, pointwise_decides}
-use Rattle.hir_base.specs.Exact.{exact, options_decide}
+use Rattle.hir_collections.specs.Exact.{exact, options_decide}
 use Rattle.hir_base.specs.ModPath.{ModPath}
 use Rattle.hir_base.specs.declared.defs.LangItemTarget.{LangItemTarget}
 use Rattle.hir_path.specs.declared.path.GenericArgs.{GenericArgs}

@@ -7,7 +7,7 @@ use Rattle.hir_path.specs.same.Fields.{and_decides}
 use Rattle.std.specs.Option.{option_eq}
 use Rattle.hir_path.specs.declared.path.AssociatedTypeBinding.TheShapes.{former-AssociatedTypeBinding-args}
 use Rattle.std.specs.Cmp.Lexicographic.{pointwise, pointwise_decides, bytes_decides}
-use Rattle.hir_base.specs.Exact.{exact}
+use Rattle.hir_collections.specs.Exact.{exact}
 use Rattle.hir_path.specs.declared.path.GenericArg.{GenericArg}
 use Rattle.hir_path.specs.declared.bound.TypeBound.{TypeBound}
 use Rattle.hir_path.specs.declared.path.GenericArgsParentheses.{GenericArgsParentheses}

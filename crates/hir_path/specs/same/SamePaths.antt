@@ -2,7 +2,7 @@
 use Rattle.std.specs.Prelude.{◌≡◌}
 use Rattle.std.proofs.Common.{ap}
 use Rattle.std.specs.Bool.{Decides}
-use Rattle.hir_base.specs.Exact.{optional_numbers_decide}
+use Rattle.hir_collections.specs.Exact.{optional_numbers_decide}
 use Rattle.hir_path.specs.same.Fields.{and_decides, both}
 use Rattle.hir_path.specs.same.Leaves.{mod_paths_decide, targets_decide, given_lists_decide, optional_names_decide}
 use Rattle.hir_path.specs.declared.path.NormalPath.{NormalPath}

@@ -1,7 +1,7 @@
 -- The descendants of a node in its context, as a list.
 use Rattle.std.specs.{List.flat_map, List.filter, Prelude.List, Prelude.[], Prelude.◌∷◌}
 use Rattle.hir_node.specs.declared.node_id.NodeId.{NodeId}
-use Rattle.hir_validate.specs.{Recursion.fold_down, Nodes.Nodes}
+use Rattle.hir_validate.specs.{Recursion.fold_down, declared.node_arenas.Nodes.Nodes}
 use Rattle.hir_scope.specs.{BodyScopes.is_expr, Chains.InContext, Chains.children_in_context, Frames.Chain}
 
 abbrev pub in_context : NodeId → Chain → Chain → InContext

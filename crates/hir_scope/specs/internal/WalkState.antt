@@ -4,7 +4,7 @@ use Rattle.std.specs.{List.All, List.flat_map, List.sum_by, Ordering.nat_cmp}
 use Rattle.std.specs.Prelude.{◌≡◌, ℕ, ◌+◌, ◌<◌, List, [], ◌∷◌, ◌++◌, map, length, ◌⊎◌, Some, ⊤}
 use Rattle.hir_path.specs.NodeIds.{ExprId}
 use Rattle.hir_node.specs.declared.node_id.NodeId.{NodeId}
-use Rattle.hir_validate.specs.{Recursion.fold_down, Nodes.Nodes, Nodes.Has, Nodes.children_of}
+use Rattle.hir_validate.specs.{Recursion.fold_down, declared.node_arenas.Nodes.Nodes, Nodes.Has, Nodes.children_of}
 use Rattle.hir_scope.specs.Chains.{InContext, within_own}
 use Rattle.hir_scope.specs.{ScopingForms.ScopingForm, ScopingForms.form_of, Frames.Frame, Frames.Chain, Paths.chain}
 use Rattle.hir_scope.specs.ScopingForms as form

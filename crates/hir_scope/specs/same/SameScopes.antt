@@ -5,7 +5,7 @@ use Rattle.std.specs.Cmp.{IsEquivalence, IsPartialEquivalence, decided, partial_
 use Rattle.std.specs.{Cmp.Lexicographic.pointwise, Cmp.Lexicographic.pointwise_decides, Option.option_eq}
 use Rattle.std.specs.FinMap as map
 use Rattle.std.specs.{Ordering.nat_cmp, Prelude.◌≡◌, Prelude.Bool, Prelude.◌&&◌, Prelude.eqb}
-use Rattle.hir_base.specs.{Exact.optional_numbers_decide, Maps.same_maps, Maps.same_maps_decides}
+use Rattle.hir_collections.specs.{Exact.optional_numbers_decide, Maps.same_maps, Maps.same_maps_decides}
 use Rattle.hir_path.specs.same.Fields.{and_decides, both}
 use Rattle.hir_scope.specs.Scopes.{Scope, Scopes}
 use Rattle.hir_scope.specs.contracts.scope.ScopeEntryExactEq.TheImpl.Laws as entry_law

@@ -2,8 +2,8 @@
 use Rattle.std.specs.Prelude.{◌≡◌}
 use Rattle.std.specs.Bool.{Decides}
 use Rattle.std.specs.Cmp.{unsigned_Decides}
-use Rattle.hir_base.specs.Exact.{exact}
-use Rattle.hir_base.specs.Variants.{values_decide, then, also, last}
+use Rattle.hir_collections.specs.Exact.{exact}
+use Rattle.hir_collections.specs.Variants.{values_decide, then, also, last}
 use Rattle.hir_path.specs.same.Leaves.{names_decide}
 use Rattle.hir_node.specs.same.Leaves.{hygienes_decide}
 use Rattle.hir_show_grammar.specs.declared.question.BodyQuestion.{BodyQuestion}

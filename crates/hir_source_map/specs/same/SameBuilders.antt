@@ -4,9 +4,9 @@ use Rattle.std.specs.Bool.{Decides}
 use Rattle.std.specs.FinMap as map
 use Rattle.std.specs.Cmp.Lexicographic.{nat_list_cmp_total, pointwise_decides, bytes_decides}
 use Rattle.std.proofs.Common.{refl}
-use Rattle.hir_base.specs.Exact.{exact}
-use Rattle.hir_base.specs.Maps.{same_maps, same_maps_decides}
-use Rattle.hir_base.specs.Table.{by_code, by_code-IsAntisymmetric}
+use Rattle.hir_collections.specs.Exact.{exact}
+use Rattle.hir_collections.specs.Maps.{same_maps, same_maps_decides}
+use Rattle.hir_collections.specs.Table.{by_code, by_code-IsAntisymmetric}
 use Rattle.hir_path.specs.same.Fields.{and_decides, both}
 use Rattle.hir_source_map.specs.declared.sources.ExprSources.{ExprSources}
 use Rattle.hir_source_map.specs.declared.sources.TypeSources.{TypeSources}

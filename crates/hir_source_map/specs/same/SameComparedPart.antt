@@ -5,8 +5,8 @@ use Rattle.std.specs.Option.{option_eq, option_map}
 use Rattle.std.specs.Cmp.{IsEquivalence, IsPartialEquivalence, partial_equiv_from_equiv, first_so, second_so}
 use Rattle.std.specs.Cmp.Lexicographic.{nat_list_cmp_total, pointwise_decides}
 use Rattle.std.proofs.Common.{sym, ◌∙◌, refl}
-use Rattle.hir_base.specs.Maps.{same_maps_decides}
-use Rattle.hir_base.specs.Table.{by_code-IsAntisymmetric}
+use Rattle.hir_collections.specs.Maps.{same_maps_decides}
+use Rattle.hir_collections.specs.Table.{by_code-IsAntisymmetric}
 use Rattle.hir_source_map.specs.declared.diagnostics.ExpressionStoreDiagnostics.{ExpressionStoreDiagnostics}
 use Rattle.hir_source_map.specs.declared.sources.ExprSources.{ExprSources}
 use Rattle.hir_source_map.specs.declared.source_map.ExpressionStoreSourceMap.{ExpressionStoreSourceMap}

@@ -1,7 +1,7 @@
 -- That `==` of source maps decides whether their compared parts are the same.
 use Rattle.std.specs.Prelude.{◌≡◌}
 use Rattle.std.specs.Bool.{Decides}
-use Rattle.hir_base.specs.Exact.{exact}
+use Rattle.hir_collections.specs.Exact.{exact}
 use Rattle.hir_source_map.specs.declared.source_map.ExpressionStoreSourceMap.{ExpressionStoreSourceMap}
 use Rattle.hir_source_map.specs.contracts.source_map.ExpressionStoreSourceMapPartialEq.TheImpl as maps
 use Rattle.hir_source_map.specs.ComparedPart.{compared_part}

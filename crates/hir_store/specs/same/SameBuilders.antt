@@ -3,9 +3,9 @@ use Rattle.std.specs.Prelude.{◌≡◌, true}
 use Rattle.std.specs.Bool.{Decides}
 use Rattle.std.specs.Cmp.Lexicographic.{nat_list_cmp_total, pointwise_decides}
 use Rattle.std.proofs.Common.{refl}
-use Rattle.hir_base.specs.Exact.{exact, options_decide}
-use Rattle.hir_base.specs.Maps.{same_maps_decides}
-use Rattle.hir_base.specs.Table.{by_code-IsAntisymmetric}
+use Rattle.hir_collections.specs.Exact.{exact, options_decide}
+use Rattle.hir_collections.specs.Maps.{same_maps_decides}
+use Rattle.hir_collections.specs.Table.{by_code-IsAntisymmetric}
 use Rattle.hir_path.specs.same.Fields.{and_decides, both}
 use Rattle.hir_node.specs.same.SameExprs.{exprs_decide}
 use Rattle.hir_node.specs.same.SamePats.{pats_decide}

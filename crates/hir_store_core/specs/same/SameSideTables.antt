@@ -2,9 +2,9 @@
 use Rattle.std.specs.Prelude.{◌≡◌}
 use Rattle.std.specs.Bool.{Decides}
 use Rattle.std.specs.Cmp.Lexicographic.{nat_list_cmp_total, pointwise_decides}
-use Rattle.hir_base.specs.Exact.{exact}
-use Rattle.hir_base.specs.Maps.{same_maps_decides}
-use Rattle.hir_base.specs.Table.{by_code-IsAntisymmetric}
+use Rattle.hir_collections.specs.Exact.{exact}
+use Rattle.hir_collections.specs.Maps.{same_maps_decides}
+use Rattle.hir_collections.specs.Table.{by_code-IsAntisymmetric}
 use Rattle.hir_path.specs.same.Fields.{and_decides, both}
 use Rattle.hir_store_core.specs.declared.side_tables.SideTables.{SideTables}
 use Rattle.hir_store_core.specs.contracts.side_tables.SideTablesPartialEq.TheImpl as side_tables

@@ -1,5 +1,5 @@
 use Rattle.std.proofs.Common.{sym, ap, ◌∙◌, List, ℕ}
-use Rattle.hir_items.specs.Bodies.{entry_nodes}
+use Rattle.hir_body.specs.Bodies.{entry_nodes}
 use Rattle.hir_scope.specs.BodyScopes.{entry_nodes_of_body}
 use Rattle.hir_captures.specs.Captures.{each_once}
 use Rattle.hir_captures.proofs.CodeLemmas.{one_list}

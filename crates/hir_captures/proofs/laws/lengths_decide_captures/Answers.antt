@@ -1,5 +1,5 @@
 use Rattle.std.proofs.Common.{ap, ◌∙◌, List, ℕ}
-use Rattle.hir_items.specs.Bodies.{entry_nodes}
+use Rattle.hir_body.specs.Bodies.{entry_nodes}
 use Rattle.hir_scope.specs.BodyScopes.{entry_nodes_of_body}
 use Rattle.hir_captures.specs.Captures.{each_once, captured_binding}
 use Rattle.hir_captures.proofs.CodeLemmas.{all_by_length, one_list}

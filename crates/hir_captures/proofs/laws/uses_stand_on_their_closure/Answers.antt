@@ -1,5 +1,5 @@
 use Rattle.std.proofs.lemmas.List.Elements.{All-from_recursion}
-use Rattle.hir_items.specs.Bodies.{entry_nodes}
+use Rattle.hir_body.specs.Bodies.{entry_nodes}
 use Rattle.hir_scope.specs.BodyScopes.{entry_nodes_of_body}
 use Rattle.hir_captures.specs.{Captures.IsOn, Uses.Use, Uses.uses_in}
 use Rattle.hir_captures.proofs.CodeLemmas.{uses_stand_on}

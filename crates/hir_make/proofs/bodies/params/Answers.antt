@@ -1,6 +1,6 @@
 use Rattle.std.proofs.Common.{List, ◌++◌, ◌∷◌, [], ℕ, ap, ◌∙◌}
 use Rattle.std.proofs.lemmas.List.{take_all, map_more}
-use Rattle.hir_items.specs.declared.formals.Param.{Param}
+use Rattle.hir_body.specs.declared.formals.Param.{Param}
 use Rattle.hir_make.proofs.bodies.params.Goals as goal
 
 pub loop-pat-init : goal.loop-pat-init

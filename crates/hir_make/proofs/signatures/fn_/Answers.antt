@@ -1,5 +1,5 @@
 use Rattle.std.proofs.lemmas.Result.{err_from_is_err_and}
-use Rattle.hir_items.specs.Signatures.{function_fault}
+use Rattle.hir_signature.specs.Signatures.{function_fault}
 use Rattle.hir_make.specs.Parts.{function_of}
 use Rattle.hir_make.proofs.RefusalLemmas.{signature_refused}
 use Rattle.hir_make.proofs.signatures.fn_.Goals as goal

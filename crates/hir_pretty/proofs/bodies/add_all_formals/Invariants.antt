@@ -1,5 +1,5 @@
 use Rattle.hir_pretty_nodes.proofs.Common.{map, drop, codes, p, text, comma_joined, printing_of, following, AddsRest}
-use Rattle.hir_items.specs.Bodies.{formals_of}
+use Rattle.hir_body.specs.Bodies.{formals_of}
 use Rattle.hir_pretty.specs.Bodies.{formal_params}
 use Rattle.hir_pretty.proofs.bodies.add_all_formals.Given as goal
 

@@ -1,5 +1,5 @@
 use Rattle.hir_pretty_nodes.proofs.Common.{refl, enumerate_from, on_ok_weaker, name_docs, adds, adds_more, adds_then, adds_as}
-use Rattle.hir_generics.specs.declared.data.LifetimeParamData.{LifetimeParamData}
+use Rattle.hir_signature.specs.declared.param_data.LifetimeParamData.{LifetimeParamData}
 use Rattle.hir_pretty.specs.Signatures.{each_lifetime, each_type_or_const}
 use Rattle.hir_pretty.proofs.ListLemmas.{angles, is_longer}
 use Rattle.hir_pretty.proofs.generics.add_in_angles.Goals as goal

@@ -1,6 +1,6 @@
 use Rattle.hir_pretty_nodes.proofs.Common.{ℕ, ap, codes, false, map, sym, text, name_docs, following, adds_more, left_begins, left_goes_on, left_ends}
 use Rattle.std.proofs.lemmas.Map.Iter.{rest_more, rest_all}
-use Rattle.hir_generics.specs.declared.data.LifetimeParamData.{LifetimeParamData}
+use Rattle.hir_signature.specs.declared.param_data.LifetimeParamData.{LifetimeParamData}
 use Rattle.hir_pretty.proofs.ListLemmas.{map_second}
 use Rattle.hir_pretty.proofs.generics.add_lifetimes.Goals as goal
 

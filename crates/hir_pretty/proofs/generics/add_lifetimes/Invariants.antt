@@ -1,5 +1,5 @@
 use Rattle.hir_pretty_nodes.proofs.Common.{codes, false, map, ℕ, text, name_docs, printing_of, following, AddsRest}
-use Rattle.hir_generics.specs.declared.data.LifetimeParamData.{LifetimeParamData}
+use Rattle.hir_signature.specs.declared.param_data.LifetimeParamData.{LifetimeParamData}
 use Rattle.hir_pretty.specs.Signatures.{each_lifetime}
 use Rattle.hir_pretty.proofs.generics.add_lifetimes.Given as goal
 

@@ -1,6 +1,6 @@
 use Rattle.std.proofs.Common.{◌≡◌, ◌++◌, take}
 use Rattle.std.specs.List.{flat_map}
-use Rattle.hir_items.specs.Bodies.{formals_of}
+use Rattle.hir_body.specs.Bodies.{formals_of}
 use Rattle.hir_scope.specs.Frames.{binds}
 use Rattle.hir_scope.proofs.constructors.add_formals.Given as goal
 

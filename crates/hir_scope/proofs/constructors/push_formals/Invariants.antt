@@ -1,5 +1,5 @@
 use Rattle.std.proofs.Common.{◌≡◌, ◌≤◌, ◌++◌, drop, length}
-use Rattle.hir_items.specs.Bodies.{formals_of}
+use Rattle.hir_body.specs.Bodies.{formals_of}
 use Rattle.hir_scope.specs.internal.Begins.{formal_tasks}
 use Rattle.hir_scope.proofs.constructors.push_formals.Given as goal
 

@@ -1,6 +1,7 @@
 use Rattle.std.proofs.Common.{sym, subst}
 use Rattle.hir_store_core.specs.Under.{AreDisjoint}
-use Rattle.hir_items.specs.{Bodies.entry_nodes, Signatures.root_entry_nodes}
+use Rattle.hir_body.specs.{Bodies.entry_nodes}
+use Rattle.hir_signature.specs.{Signatures.root_entry_nodes}
 use Rattle.hir_scope.specs.BodyScopes.{entry_nodes_of_body, entry_nodes_of_signature}
 use Rattle.hir_scope.proofs.BeginLemmas.{body_same, signature_same, roots_in_range}
 use Rattle.hir_scope.proofs.{UnderLemmas.contexts_in_range, UniqueLemmas.one_chain}

@@ -1,7 +1,7 @@
 use Rattle.std.proofs.Common.{Option, Some, Ok, Err, subst, sym, ap, ◌∙◌, true≢false}
 use Rattle.std.proofs.lemmas.Result.{err_from_is_err_and}
 use Rattle.hir_store_core.specs.Contents.{Contents}
-use Rattle.hir_items.specs.Bodies.{body_of}
+use Rattle.hir_body.specs.Bodies.{body_of}
 use Rattle.hir_show_grammar.specs.declared.question.Question.{Question}
 use Rattle.hir_show_run.specs.internal.Output.{Output, output_of}
 use Rattle.hir_show_run.specs.internal.Parts.{builder_parts}

@@ -1,8 +1,8 @@
 use Rattle.std.proofs.Common.{◌≡◌, ◌⊎◌, inl, inr, Err, Some, refl}
 use Rattle.std.proofs.lemmas.Result.{err_from_is_err_and}
-use Rattle.hir_items.specs.declared.body_fault.BodyFault.{BodyFault}
-use Rattle.hir_items.specs.declared.body_fault.BodyFault.TheVariants as body
-use Rattle.hir_items.specs.Bodies.{BodyContents, body_of, body_fault}
+use Rattle.hir_body.specs.declared.body_fault.BodyFault.{BodyFault}
+use Rattle.hir_body.specs.declared.body_fault.BodyFault.TheVariants as body
+use Rattle.hir_body.specs.Bodies.{BodyContents, body_of, body_fault}
 use Rattle.hir_show_run.specs.Faults.{fault_of_body}
 use Rattle.hir_show_run.specs.internal.Stages.{IsBodyOf}
 use Rattle.hir_show_run.proofs.program.body_of_parts.Goals as goal

@@ -1,6 +1,6 @@
 use Rattle.std.specs.Prelude.{codes}
 use Rattle.std.proofs.lemmas.Result.{err_from_is_err_and}
-use Rattle.hir_items.specs.FaultTexts.{body_fault_text}
+use Rattle.hir_body.specs.FaultTexts.{body_fault_text}
 use Rattle.hir_show_run.proofs.Texts.{text_failed}
 use Rattle.hir_show_run.proofs.reporting.write_body_refusal.Goals as goal
 

@@ -1,4 +1,4 @@
-use Rattle.hir_base.specs.Exact.{exact}
+use Rattle.hir_collections.specs.Exact.{exact}
 use Rattle.hir_source_map.specs.same.SameComparedPart.{compared_equiv}
 use Rattle.hir_source_map.specs.same.SameDiagnostics.{diagnostics_decide}
 use Rattle.hir_source_map.specs.same.SameMaps.{maps_decide}

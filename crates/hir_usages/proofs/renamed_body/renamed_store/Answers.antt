@@ -1,5 +1,5 @@
 use Rattle.std.proofs.Common.{ap, ◌∙◌}
-use Rattle.hir_validate.specs.Nodes.{Nodes}
+use Rattle.hir_validate.specs.declared.node_arenas.Nodes.{Nodes}
 use Rattle.hir_store_core.specs.Contents.{Contents, contents_of_parts}
 use Rattle.hir_usages.specs.Renamed.{rename_binding, renamed_nodes, with_nodes}
 use Rattle.hir_usages.proofs.{ChangeLemmas.uses_are_paths, StoreLemmas.renamed_is_store}

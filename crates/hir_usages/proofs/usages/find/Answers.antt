@@ -1,7 +1,7 @@
 use Rattle.std.proofs.Common.{◌∙◌, ap, sym, subst, ℕ, Option}
 use Rattle.std.specs.Option.{option_to_list, option_map}
 use Rattle.hir_store_core.specs.Contents.{Contents}
-use Rattle.hir_items.specs.declared.formals.Param.{Param}
+use Rattle.hir_body.specs.declared.formals.Param.{Param}
 use Rattle.hir_usages.specs.declared.walk.Walk.{Walk}
 use Rattle.hir_usages.specs.internal.Pending.{AreInRange}
 use Rattle.hir_usages.specs.internal.Reading.{lists_of}

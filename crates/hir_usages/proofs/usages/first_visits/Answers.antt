@@ -1,6 +1,6 @@
 use Rattle.std.proofs.Common.{◌≡◌, ◌∙◌, ◌++◌, ◌∷◌, ap, sym, subst, List, None, map}
 use Rattle.hir_store_core.specs.Contents.{Contents, contents_fault}
-use Rattle.hir_items.specs.Bodies.{formals_of}
+use Rattle.hir_body.specs.Bodies.{formals_of}
 use Rattle.hir_usages.specs.declared.to_visit.Task.{Task}
 use Rattle.hir_usages.specs.internal.Pending.{AreInRange, visits_of}
 use Rattle.hir_usages.proofs.FindLemmas.{first_tasks, first_in_range, first_visits}

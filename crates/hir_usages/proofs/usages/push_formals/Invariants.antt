@@ -1,5 +1,5 @@
 use Rattle.std.proofs.Common.{◌≡◌, ◌≤◌, ◌++◌, drop, length, map}
-use Rattle.hir_items.specs.Bodies.{formals_of}
+use Rattle.hir_body.specs.Bodies.{formals_of}
 use Rattle.hir_usages.specs.declared.to_visit.Task.{Task}
 use Rattle.hir_usages.proofs.usages.push_formals.Given as goal
 

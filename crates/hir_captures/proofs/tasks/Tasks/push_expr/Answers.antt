@@ -1,5 +1,5 @@
 use Rattle.std.proofs.Common.{sym, ap}
-use Rattle.hir_stack.specs.Stacks.{StackItems}
+use Rattle.hir_collections.specs.Stacks.{StackItems}
 use Rattle.hir_captures.specs.declared.tasks.Task.{Task}
 use Rattle.hir_captures.proofs.ReadLemmas.{defers_all}
 use Rattle.hir_captures.proofs.tasks.Tasks.push_expr.Goals as goal

@@ -1,5 +1,5 @@
 use Rattle.std.proofs.Common.{rules, ◌+◌, ◌<◌, ◌≤◌, [], length, refl, arith}
-use Rattle.hir_items.specs.Bodies.{body_nodes}
+use Rattle.hir_body.specs.Bodies.{body_nodes}
 use Rattle.hir_scope.specs.BodyScopes.{expr_count, limit}
 use Rattle.hir_scope.specs.internal.Begins.{root_entries}
 use Rattle.hir_scope.specs.internal.WalkState.{walk_state, state, Exceeds}

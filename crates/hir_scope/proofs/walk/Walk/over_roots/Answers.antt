@@ -1,6 +1,6 @@
 use Rattle.std.proofs.Common.{rules, ◌⊎◌, ◌+◌, ◌<◌, ℕ, List, [], ◌∷◌, ◌++◌, length, refl, ap, ◌∙◌, arith, append_assoc, length-append}
 use Rattle.std.proofs.lemmas.List.{length-map}
-use Rattle.hir_base.specs.declared.arena.TheConstants.{MOST_ITEMS}
+use Rattle.hir_collections.specs.declared.arena.TheConstants.{MOST_ITEMS}
 use Rattle.hir_scope.specs.Scopes.{entry_count}
 use Rattle.hir_scope.specs.declared.tasks.Task.{Task}
 use Rattle.hir_scope.specs.internal.WalkState.{walk_state}

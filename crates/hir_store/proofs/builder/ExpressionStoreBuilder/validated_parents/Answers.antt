@@ -2,7 +2,8 @@ use Rattle.std.proofs.Common.{Some, None, inl, inr, ⊎_elim, subst, sym, ◌∙
 use Rattle.std.proofs.lemmas.Bool.{false≢true}
 use Rattle.std.proofs.lemmas.Result.{IfOk-weaker, IfErr-weaker}
 use Rattle.hir_forest.specs.Parents.{HasParents}
-use Rattle.hir_validate.specs.Nodes.{Nodes, graph}
+use Rattle.hir_validate.specs.Nodes.{graph}
+use Rattle.hir_validate.specs.declared.node_arenas.Nodes.{Nodes}
 use Rattle.hir_store.specs.Building.{building_of}
 use Rattle.hir_store.proofs.BuildingLemmas.{no_roots, has_roots}
 use Rattle.hir_store.proofs.builder.ExpressionStoreBuilder.validated_parents.Goals as goal

@@ -1,5 +1,5 @@
 use Rattle.std.proofs.Common.{sym, ap}
-use Rattle.hir_stack.specs.Stacks.{StackItems}
+use Rattle.hir_collections.specs.Stacks.{StackItems}
 use Rattle.hir_usages.specs.declared.to_visit.Task.{Task}
 use Rattle.hir_usages.proofs.WalkLemmas.{defers_all}
 use Rattle.hir_usages.proofs.to_visit.ToVisit.push_type.Goals as goal

@@ -1,4 +1,0 @@
--- the parts of a generic parameter
-pub mod Params
--- proofs alone, of equality
-pub mod same

@@ -1,4 +1,0 @@
--- Proofs alone, that each `==` of this crate decides whether two values are the same. A reader may pass over
--- this folder.
-pub mod SameData
-pub mod SameParams

@@ -1,5 +1,0 @@
-mod BodyLemmas
-mod BodySound
-mod FirstOfName
-mod GenericLists
-mod SignatureLemmas

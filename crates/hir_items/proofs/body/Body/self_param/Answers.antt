@@ -1,8 +1,0 @@
-use Rattle.hir_items.specs.Bodies.{body_of}
-use Rattle.hir_items.proofs.BodySound.{self_in_range}
-use Rattle.hir_items.proofs.body.Body.self_param.Goals as goal
-
-pub returns-clause-in_range : goal.returns-clause-in_range
-returns-clause-in_range c =
-    let b = body_of c.self.inside.store c.self.inside.params c.self.inside.self_param in
-    self_in_range b c.self.invariant c.args.self.now c.self.view_is

@@ -1,5 +1,0 @@
-use Rattle.hir_items.proofs.BodyLemmas.{body_fault-one}
-use Rattle.hir_items.proofs.body_laws.first_body_fault_unique.Goals as goal
-
-pub returns : goal.returns
-returns c = body_fault-one

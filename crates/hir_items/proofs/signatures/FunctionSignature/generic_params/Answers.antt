@@ -1,6 +1,0 @@
-use Rattle.std.proofs.Common.{refl}
-use Rattle.hir_items.proofs.SignatureLemmas.{function_generics_fit}
-use Rattle.hir_items.proofs.signatures.FunctionSignature.generic_params.Goals as goal
-
-pub returns-clause-in_range : goal.returns-clause-in_range
-returns-clause-in_range c = function_generics_fit c.self.inside.function c.self.invariant c.args.self.now c.self.view_is c.self.inside.function.generic_params refl

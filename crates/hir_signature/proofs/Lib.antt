@@ -1,0 +1,3 @@
+mod FirstOfName
+mod GenericLists
+mod SignatureLemmas

@@ -1,2 +1,0 @@
--- the model of a stack
-pub mod Stacks
