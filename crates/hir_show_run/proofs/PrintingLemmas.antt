@@ -1,5 +1,9 @@
 -- What the printer returns of a body, over the tables that have the name of function 0.
-use Rattle.std.proofs.Common.{◌≡◌, ℕ, List, Option, Some, None, Result, Ok, Err, false, sym, subst, ◌∙◌, IfOk, String, string_bytes}
+use Rattle.std.proofs.Common.{◌≡◌, ℕ, List, Option, Some, None, Result, Ok, Err, false, sym, ap, subst, ◌∙◌, IfOk, String, string_bytes, unwrap_or}
+use Rattle.std.specs.Cmp.Lexicographic.{nat_list_cmp_total}
+use Rattle.std.specs.FinMap as map
+use Rattle.hir_base.specs.Keys.{named_code}
+use Rattle.hir_base.specs.declared.defs.NamedDef.TheVariants as named
 use Rattle.hir_base.specs.RawWords.{words_of}
 use Rattle.hir_base.specs.declared.defs.DefWithBodyId.TheVariants as body
 use Rattle.hir_base.specs.declared.edition.Edition.TheVariants.{Edition2021}
@@ -16,8 +20,15 @@ use Rattle.hir_pretty_nodes.specs.DocPieces.{doc_list_pieces}
 use Rattle.hir_pretty.specs.Bodies.{body_docs}
 use Rattle.hir_pretty.specs.FoundParts.{parents}
 use Rattle.hir_show_run.specs.internal.OfLines.{AreOfLines}
+use Rattle.hir_show_run.specs.internal.Printing.{name_of}
 use Rattle.hir_show_run.specs.Printing.{tables_of, printed_from, body_pieces, body_text}
 use Rattle.hir_show_run.proofs.OutsideLemmas.{nothing_missing}
+
+-- the name that tables were made with
+pub name_is : (t : Tables) (name : Option (List ℕ)) → t ≡ tables_of name → name_of t ≡ name
+name_is t name e =
+    let key = named_code (named.FunctionId 0) in
+    ap name_of e ∙ ap (λ o. unwrap_or o None) (map.get-insert nat_list_cmp_total map.empty key name key)
 
 -- what printing the body of a function returns over some tables
 abbrev Printing : {Z : Type 0} → BodyContents → Tables → ℕ → Result (String Z) PrintFault → Type 0

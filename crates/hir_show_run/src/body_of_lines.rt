@@ -1,10 +1,9 @@
-//! A body that lines made, and the answers to questions on it. Its scopes are made where the first question
-//! comes that needs them.
+//! A body that lines made, and the answers to questions on it. Its scopes, and the tables that it is printed
+//! from, are made where the first question comes that needs them, and lent to each.
 
-ghost use Rattle.std.specs.Prelude.{◌≡◌, List, ℕ, IfOk, IfSome, OnOk, OnErr};
+ghost use Rattle.std.specs.Prelude.{◌≡◌, List, ℕ, Some, IsSome, IfSome, OnOk, OnErr};
 ghost use Rattle.hir_scope.specs.BodyScopes.{AreBodyScopes};
 ghost use Rattle.hir_show_run.specs.Answer.{IsBodyAnswer};
-ghost use Rattle.hir_show_run.specs.Printing.{print_text};
 ghost use Rattle.hir_show_run.specs.internal.OfLines.{AreOfLines};
 ghost use Rattle.hir_show_run.specs.internal.Output.{OutputsText, Untouched};
 
@@ -12,10 +11,11 @@ use crate::answer::answer_store;
 use crate::asking::{Answers, MemoryRefused};
 use crate::captures::answer_captures;
 use crate::output::Output;
-use crate::printing::answer_print;
+use crate::printing::{answer_print, make_tables};
 use crate::scope_answers::{answer_chain, answer_resolve};
 use hir_base::Name;
 use hir_body::Body;
+use hir_defs::Tables;
 use hir_scope::{ExprScopes, ScopesFault};
 use hir_show_grammar::{BodyQuestion, Question};
 use hir_show_io::Sink;
@@ -23,19 +23,21 @@ use std::alloc::Global;
 use std::marker::Model;
 
 /// A body whose nodes are those of lines, with the name of the function that it is printed as. Its model
-/// leaves the scopes out.
+/// leaves out what is made for questions.
 #[derive(Drop)]
 pub(crate) struct BodyOfLines {
     body: Body,
     name: Option<Name>,
+    tables: Option<Tables>,
     scopes: Option<ExprScopes>,
 }
 
 impl Model for BodyOfLines {
-    ghost use Rattle.std.specs.Prelude.{IfSome};
+    ghost use Rattle.std.specs.Prelude.{◌≡◌, IfSome};
     ghost use Rattle.hir_scope.specs.BodyScopes.{AreBodyScopes};
     ghost use Rattle.hir_show_run.specs.Answer.{NamedBody};
     ghost use Rattle.hir_show_run.specs.internal.OfLines.{AreOfLines};
+    ghost use Rattle.hir_show_run.specs.Printing.{tables_of};
 
     ghost Value = { NamedBody };
 
@@ -46,27 +48,43 @@ impl Model for BodyOfLines {
 
     ghost view = { λ b. record { body = b.body; name = b.name } };
 
-    ghost invariant = { λ b. AreOfLines b.body.store.nodes × IfSome b.scopes (AreBodyScopes b.body) };
+    ghost invariant = { λ b. AreOfLines b.body.store.nodes × IfSome b.tables (λ t. t ≡ tables_of b.name)
+        × IfSome b.scopes (AreBodyScopes b.body) };
 }
 
-/// The scopes of a body: those that were kept, or new ones.
+/// Makes the scopes of a body, unless they are made.
 ///
 /// Returns `MemoryRefused` where an allocation fails, or where the body needs more scopes than there may be.
-fn scopes_of(
+fn make_scopes(
     alloc: Global,
     body: &Body,
-    kept: Option<ExprScopes>,
-) -> Result<ExprScopes, MemoryRefused>
-    requires { IfSome kept (AreBodyScopes body.now) }
-    ensures { IfOk result (AreBodyScopes body.now) }
+    scopes: &mut Option<ExprScopes>,
+) -> Result<(), MemoryRefused>
+    requires { IfSome scopes.old (AreBodyScopes body.now) }
+    ensures are { IfSome scopes.new (AreBodyScopes body.now) }
+    ensures made { OnOk result (IsSome scopes.new) }
 {
-    if let Some(scopes) = kept {
-        return Ok(scopes);
+    if scopes.is_some() {
+        return Ok(());
     }
     match ExprScopes::new_body(alloc, body) {
-        Ok(scopes) => Ok(scopes),
+        Ok(made) => {
+            *scopes = Some(made);
+            Ok(())
+        }
         Err(ScopesFault::Missing) => unreachable!(),
         Err(ScopesFault::Full | ScopesFault::Memory) => Err(MemoryRefused),
+    }
+}
+
+/// Lends what was made.
+fn made<T>(value: &Option<T>) -> &T
+    requires { IsSome value.now }
+    ensures { value.now ≡ Some result.now }
+{
+    match value {
+        Some(value) => value,
+        None => unreachable!(),
     }
 }
 
@@ -79,41 +97,9 @@ impl BodyOfLines {
         BodyOfLines {
             body,
             name,
+            tables: None,
             scopes: None,
         }
-    }
-
-    /// The body.
-    fn body(&self) -> &Body
-        ensures { result.now ≡ self.now.body }
-    {
-        &self.body
-    }
-
-    /// Takes the scopes out, or makes them where none were kept.
-    fn take_scopes(&mut self, alloc: Global) -> Result<ExprScopes, MemoryRefused>
-        ensures same { self.new ≡ self.old }
-        ensures scopes { IfOk result (AreBodyScopes self.new.body) }
-    {
-        let kept = self.scopes.take();
-        scopes_of(alloc, &self.body, kept)
-    }
-
-    /// Keeps scopes for the questions to come.
-    fn keep_scopes(&mut self, scopes: ExprScopes)
-        requires { AreBodyScopes self.old.body scopes }
-        ensures { self.new ≡ self.old }
-    {
-        self.scopes = Some(scopes);
-    }
-
-    /// Answers `print` by the body's text.
-    fn print<W: Sink>(&self, alloc: Global, output: &mut Output<'_, W>) -> Result<(), MemoryRefused>
-        ensures ok { OnOk result (OutputsText W.Sink output.old output.new
-            (print_text self.now.name self.now.body)) }
-        ensures memory { OnErr result (Untouched W.Sink output.old output.new) }
-    {
-        answer_print(alloc, &self.body, self.name.as_ref(), output)
     }
 
     /// Writes the answer to a question on a body by one line, or by the body's text.
@@ -132,23 +118,22 @@ impl BodyOfLines {
     {
         match question {
             BodyQuestion::Chain(id) => {
-                let scopes = self.take_scopes(alloc)?;
-                answer_chain(&scopes, id, output);
-                self.keep_scopes(scopes);
+                make_scopes(alloc, &self.body, &mut self.scopes)?;
+                answer_chain(made(&self.scopes), id, output);
                 Ok(())
             }
             BodyQuestion::Resolve(id, name, hygiene) => {
-                let scopes = self.take_scopes(alloc)?;
-                answer_resolve(&scopes, id, &name, hygiene, output);
-                self.keep_scopes(scopes);
+                make_scopes(alloc, &self.body, &mut self.scopes)?;
+                answer_resolve(made(&self.scopes), id, &name, hygiene, output);
                 Ok(())
             }
-            BodyQuestion::Print => self.print(alloc, output),
+            BodyQuestion::Print => {
+                make_tables(alloc, &self.name, &mut self.tables)?;
+                answer_print(alloc, &self.body, made(&self.tables), output)
+            }
             BodyQuestion::Captures(id) => {
-                let scopes = self.take_scopes(alloc)?;
-                let answered = answer_captures(alloc, self.body(), &scopes, id, output);
-                self.keep_scopes(scopes);
-                answered
+                make_scopes(alloc, &self.body, &mut self.scopes)?;
+                answer_captures(alloc, &self.body, made(&self.scopes), id, output)
             }
         }
     }
@@ -170,7 +155,7 @@ impl Answers for BodyOfLines {
         output: &mut Output<'_, W>,
     ) -> Result<Option<Question>, MemoryRefused> {
         match question {
-            Question::OfStore(asked) => answer_store(self.body().store(), asked, output),
+            Question::OfStore(asked) => answer_store(self.body.store(), asked, output),
             Question::OfBody(asked) => self.answer_body(alloc, asked, output)?,
         }
         Ok(None)

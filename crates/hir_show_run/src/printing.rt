@@ -1,9 +1,10 @@
 //! The body of the lines as text.
 
-ghost use Rattle.std.specs.Prelude.{◌≡◌, IfOk, OnOk, OnErr, string_bytes};
+ghost use Rattle.std.specs.Prelude.{◌≡◌, IfOk, IfSome, IsSome, OnOk, OnErr, string_bytes};
 ghost use Rattle.std.specs.Option.{option_copied};
 ghost use Rattle.hir_show_run.specs.internal.OfLines.{AreOfLines};
 ghost use Rattle.hir_show_run.specs.internal.Output.{OutputsText, Untouched};
+ghost use Rattle.hir_show_run.specs.internal.Printing.{name_of};
 ghost use Rattle.hir_show_run.specs.Printing.{tables_of, body_text, print_text};
 
 use crate::asking::MemoryRefused;
@@ -41,37 +42,57 @@ fn tables_of(alloc: Global, name: Option<&Name>) -> Result<Tables, MemoryRefused
     }
 }
 
-/// The text of a body of lines, as that of function 0 with this name.
+/// Makes the tables that a body of a function of this name is printed from, unless they are made.
 ///
 /// Returns `MemoryRefused` where an allocation fails.
-fn print_body(alloc: Global, body: &Body, name: Option<&Name>) -> Result<String, MemoryRefused>
-    requires { AreOfLines body.now.store.nodes }
-    ensures { IfOk result (λ text. string_bytes text ≡ body_text (option_copied name.entry) body.now) }
+pub(crate) fn make_tables(
+    alloc: Global,
+    name: &Option<Name>,
+    tables: &mut Option<Tables>,
+) -> Result<(), MemoryRefused>
+    requires { IfSome tables.old (λ t. t ≡ tables_of name.now) }
+    ensures are { IfSome tables.new (λ t. t ≡ tables_of name.now) }
+    ensures made { OnOk result (IsSome tables.new) }
 {
-    let tables = tables_of(alloc, name)?;
+    if tables.is_some() {
+        return Ok(());
+    }
+    *tables = Some(tables_of(alloc, name.as_ref())?);
+    Ok(())
+}
+
+/// The text of a body of lines, as that of function 0 of these tables.
+///
+/// Returns `MemoryRefused` where an allocation fails.
+fn print_body(alloc: Global, body: &Body, tables: &Tables) -> Result<String, MemoryRefused>
+    requires of_lines { AreOfLines body.now.store.nodes }
+    requires name_alone { tables.now ≡ tables_of (name_of tables.now) }
+    ensures { IfOk result (λ text. string_bytes text ≡ body_text (name_of tables.now) body.now) }
+{
     let function = DefWithBodyId::FunctionId(FunctionId::from_raw(0));
-    match print_body_hir(alloc, &tables, body, function, Edition::Edition2021) {
+    match print_body_hir(alloc, tables, body, function, Edition::Edition2021) {
         Ok(text) => Ok(text),
         Err(PrintFault::Missing(_)) => unreachable!(),
         Err(PrintFault::Memory) => Err(MemoryRefused),
     }
 }
 
-/// Puts the text of a body of lines, printed as that of function 0 with this name, and a line end.
+/// Puts the text of a body of lines, printed as that of function 0 of these tables, and a line end.
 ///
 /// Returns `MemoryRefused` where an allocation fails; nothing is put then.
 pub(crate) fn answer_print<W: Sink>(
     alloc: Global,
     body: &Body,
-    name: Option<&Name>,
+    tables: &Tables,
     output: &mut Output<'_, W>,
 ) -> Result<(), MemoryRefused>
-    requires { AreOfLines body.now.store.nodes }
+    requires of_lines { AreOfLines body.now.store.nodes }
+    requires name_alone { tables.now ≡ tables_of (name_of tables.now) }
     ensures ok { OnOk result (OutputsText W.Sink output.old output.new
-        (print_text (option_copied name.entry) body.now)) }
+        (print_text (name_of tables.now) body.now)) }
     ensures memory { OnErr result (Untouched W.Sink output.old output.new) }
 {
-    let text = print_body(alloc, body, name)?;
+    let text = print_body(alloc, body, tables)?;
     output.put(text.as_str().as_bytes());
     output.put(b"\n");
     Ok(())

@@ -2,8 +2,8 @@
 
 ghost use Rattle.std.specs.Prelude.{◌<◌, ◌∷◌, Some, length};
 ghost use Rattle.hir_scope.specs.Paths.{chain, frame_at};
-ghost use Rattle.hir_scope.specs.Resolution.{resolve, entries_of};
-ghost use Rattle.hir_show_run.specs.Answer.{asked_text, chain_answer, chain_text, expansion_text, names_text, resolve_answer, resolve_text, resolved_text};
+ghost use Rattle.hir_scope.specs.Resolution.{entries_of};
+ghost use Rattle.hir_show_run.specs.Answer.{asked_text, chain_answer, chain_text, expansion_text, names_text, resolve_answer, resolve_text};
 ghost use Rattle.hir_show_run.specs.internal.Answer.{chain_by};
 ghost use Rattle.hir_show_run.specs.internal.Output.{OutputsText};
 
@@ -68,27 +68,6 @@ fn put_asked_name<W: Sink>(name: &Name, hygiene: HygieneId, output: &mut Output<
     put_expansion(hygiene, output);
 }
 
-/// Puts the binding that a name resolves to in a scope, or that there is none.
-fn put_resolved<W: Sink>(
-    scopes: &ExprScopes,
-    scope: ScopeId,
-    name: &Name,
-    hygiene: HygieneId,
-    output: &mut Output<'_, W>,
-)
-    requires { scope < length scopes.now.scopes }
-    ensures { OutputsText W.Sink output.old output.new
-        (resolved_text (resolve (chain scopes.now.scopes (Some scope)) name.now hygiene)) }
-{
-    match scopes.resolve_name_in_scope(scope, name, hygiene) {
-        Some(entry) => {
-            output.put(b" = ");
-            output.put_number(entry.binding().into_raw());
-        }
-        None => output.put(b" none"),
-    }
-}
-
 /// Puts what is known of an expression: the names of its chain, or that it isn't reached.
 fn put_known<W: Sink>(scopes: &ExprScopes, id: ExprId, output: &mut Output<'_, W>)
     ensures { OutputsText W.Sink output.old output.new (chain_text (chain_by scopes.now id)) }
@@ -101,8 +80,9 @@ fn put_known<W: Sink>(scopes: &ExprScopes, id: ExprId, output: &mut Output<'_, W
     put_chain(scopes, scope, output);
 }
 
-/// Puts the binding that a name resolves to at an expression, or that the expression isn't reached.
-fn put_meaning<W: Sink>(
+/// Puts the binding that a name resolves to at an expression, or that there is none, or that the expression
+/// isn't reached.
+fn put_resolved<W: Sink>(
     scopes: &ExprScopes,
     id: ExprId,
     name: &Name,
@@ -113,7 +93,13 @@ fn put_meaning<W: Sink>(
         (resolve_text (chain_by scopes.now id) name.now hygiene) }
 {
     match scopes.scope_for(id) {
-        Some(scope) => put_resolved(scopes, scope, name, hygiene, output),
+        Some(scope) => match scopes.resolve_name_in_scope(scope, name, hygiene) {
+            Some(entry) => {
+                output.put(b" = ");
+                output.put_number(entry.binding().into_raw());
+            }
+            None => output.put(b" none"),
+        },
         None => output.put(b" unreached"),
     }
 }
@@ -140,6 +126,6 @@ pub(crate) fn answer_resolve<W: Sink>(
 {
     output.put_asked(b"resolve ", id);
     put_asked_name(name, hygiene, output);
-    put_meaning(scopes, id, name, hygiene, output);
+    put_resolved(scopes, id, name, hygiene, output);
     output.put(b"\n");
 }
