@@ -62,6 +62,7 @@ fn name_of(expr: &Expr) -> Option<&str>
 
 impl<'a> Walk<'a> {
     /// Returns whether a use that asks for this name is searched for.
+    // Inlined with `add`, which calls it for each use.
     #[inline(always)]
     fn wants(&self, usage: &Usage, name: &str) -> bool
         ensures { result ≡ is_wanted self.now.wanted (Some name.now) usage.now }
