@@ -3,7 +3,7 @@ use Rattle.hir_show_run.specs.Prelude.{◌≡◌, ℕ, List, [], ◌∷◌, ◌+
 use Rattle.std.specs.Prelude.{if◌then◌else◌}
 use Rattle.hir_node.specs.declared.node_id.NodeId.TheVariants as node
 use Rattle.hir_show_grammar.specs.declared.question.BodyQuestion.TheVariants as ask
-use Rattle.hir_forest.specs.declared.roots.{Root as forest}
+use Rattle.hir_forest.specs.declared.roots.Root as forest
 use Rattle.hir_show_run.specs.Printing.{print_text}
 
 -- an answer: the question's word, the expression, what is known of it, and a line end

@@ -1,7 +1,7 @@
 -- What the output of a run is modelled as, and what becomes of text that is put after what waits there.
 use Rattle.hir_show_run.specs.Prelude.{◌≡◌, ℕ, List, [], ◌++◌, Option, Bool, true, false, GName, AppendsPrefix, IsWrittenUpTo}
 use Rattle.hir_show_io.specs.declared.ends.Sink.{Ghosts}
-use Rattle.hir_show_run.specs.declared.output.{Output as code}
+use Rattle.hir_show_run.specs.declared.output.Output as code
 
 -- which sink it has, what the sink shows, whether a write has failed, and what waits to be written
 pub record Output : Type 0 where

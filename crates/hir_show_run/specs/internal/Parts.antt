@@ -3,7 +3,7 @@ use Rattle.hir_show_run.specs.Prelude.{[], ◌∷◌, ◌++◌, Bool, Some, is_s
 use Rattle.std.specs.FinMap as map
 use Rattle.hir_show_grammar.specs.Makers as make
 use Rattle.hir_show_grammar.specs.LineEffects.{is_second as is_second_of}
-use Rattle.hir_show_run.specs.declared.body_builder.{BodyBuilder as code}
+use Rattle.hir_show_run.specs.declared.body_builder.BodyBuilder as code
 use Rattle.hir_show_run.specs.Parts.{Parts, as_written, with_line}
 
 -- the model of the code's `BodyBuilder`
