@@ -1,5 +1,6 @@
 -- The model of a body, and the first fault of its parts.
-use Rattle.hir_body.specs.Prelude.{◌≡◌, ◌⊎◌, ◌<◌, ℕ, List, [], ◌∷◌, ◌++◌, Option, Some, None, IfSome, option_map, length, map, take, slice_index, Contains, option_to_list, ExprId, PatId, BindingId, ◌unless◌, ◌before◌, first_below, root_nodes, last_of, NodeId, Nodes, Contents, LiesUnderOther, IsReached, reached_nodes}
+use Rattle.std.specs.Prelude.{◌≡◌, ◌⊎◌, ◌<◌, ◌∷◌, ◌++◌}
+use Rattle.hir_body.specs.Prelude.{ℕ, List, [], Option, Some, None, IfSome, option_map, length, map, take, slice_index, Contains, option_to_list, ExprId, PatId, BindingId, ◌unless◌, ◌before◌, first_below, root_nodes, last_of, NodeId, Nodes, Contents, LiesUnderOther, IsReached, reached_nodes}
 use Rattle.hir_node.specs.declared.node_id.NodeId.TheVariants as node
 use Rattle.hir_body.specs.declared.formals.Param.{Param}
 use Rattle.hir_body.specs.declared.body_fault.BodyFault.{BodyFault}

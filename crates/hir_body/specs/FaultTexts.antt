@@ -1,5 +1,6 @@
 -- The texts of the faults of bodies: the name, and after a space the index of a parameter.
-use Rattle.hir_body.specs.Prelude.{ℕ, List, ◌++◌, codes, decimal}
+use Rattle.std.specs.Prelude.{◌++◌}
+use Rattle.hir_body.specs.Prelude.{ℕ, List, codes, decimal}
 use Rattle.hir_body.specs.declared.body_fault.BodyFault.{BodyFault}
 use Rattle.hir_body.specs.declared.body_fault.BodyFault.TheVariants as body
 

@@ -1,7 +1,7 @@
 -- The captures of a closure: the bindings from outside that its code uses, in the order of their first use,
 -- each once.
-use Rattle.hir_captures.specs.Prelude.{list_any, AllByRecursion, option_map, ◌≡◌, ℕ, ◌-◌, ⊤, List, [], ◌∷◌, ◌++◌, Option, Some, None, fold, take, length, filter_map, slice_get, ◌==◌, Name, SyntaxContext, ExprId, BindingId, Expr, NodeId, Contents, BodyContents, BodyReaches, entry_nodes_of_body, HasChain, Chain, resolve, ScopeEntry}
-use Rattle.std.specs.Prelude.{if◌then◌else◌}
+use Rattle.hir_captures.specs.Prelude.{list_any, AllByRecursion, option_map, ℕ, ⊤, List, [], Option, Some, None, fold, take, length, filter_map, slice_get, Name, SyntaxContext, ExprId, BindingId, Expr, NodeId, Contents, BodyContents, BodyReaches, entry_nodes_of_body, HasChain, Chain, resolve, ScopeEntry}
+use Rattle.std.specs.Prelude.{◌≡◌, ◌-◌, ◌∷◌, ◌++◌, ◌==◌, if◌then◌else◌}
 use Rattle.hir_captures.specs.Uses.{Use, uses_in}
 
 -- the binding of an entry that was found, unless one further in was found too

@@ -1,6 +1,7 @@
 -- The uses of variables in a closure's code: the paths of one name in it and in no constant, in the order in
 -- which they are visited.
-use Rattle.hir_captures.specs.Prelude.{flat_map, List, [], ◌∷◌, Option, Some, None, slice_get, Name, SyntaxContext, ExprId, Expr, NodeId, Pat, fold_down, Nodes, Contents, hygiene_of, local_name, Base, Scope, ConstScope, ChildContext, child_contexts}
+use Rattle.std.specs.Prelude.{◌∷◌}
+use Rattle.hir_captures.specs.Prelude.{flat_map, List, [], Option, Some, None, slice_get, Name, SyntaxContext, ExprId, Expr, NodeId, Pat, fold_down, Nodes, Contents, hygiene_of, local_name, Base, Scope, ConstScope, ChildContext, child_contexts}
 use Rattle.hir_path.specs.declared.ids.ExprOrPatId.TheVariants as either
 
 -- 1. The code of a closure

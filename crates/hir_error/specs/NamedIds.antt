@@ -1,6 +1,7 @@
 -- Defines the ids that a node names, of all arenas, and the first of them that doesn't exist. In
 -- `ExprId(1) names ExprId(99), which doesn't exist` the first is the node, and the second is this id.
-use Rattle.hir_error.specs.Prelude.{Bool, not, nat_lt, List, ◌++◌, map, find, slice_get, Option, codes, decimal, ℕ, Expr, Pat, TypeRef, NodeId, Call, OnExpr, OnAnonConst, OnPat, OnType, OnLifetime, expr_calls, pat_calls, type_calls, expr_labels, pat_bindings, Sizes, Nodes, sizes_of, all_of}
+use Rattle.std.specs.Prelude.{◌++◌}
+use Rattle.hir_error.specs.Prelude.{Bool, not, nat_lt, List, map, find, slice_get, Option, codes, decimal, ℕ, Expr, Pat, TypeRef, NodeId, Call, OnExpr, OnAnonConst, OnPat, OnType, OnLifetime, expr_calls, pat_calls, type_calls, expr_labels, pat_bindings, Sizes, Nodes, sizes_of, all_of}
 use Rattle.hir_node.specs.declared.node_id.NodeId.TheVariants as node
 use Rattle.hir_error.specs.declared.named_id.NamedId.{NamedId}
 use Rattle.hir_error.specs.declared.named_id.NamedId.TheVariants as named

@@ -1,5 +1,6 @@
 -- The texts of errors: a sentence for each refusal.
-use Rattle.hir_error.specs.Prelude.{List, ℕ, ◌++◌, codes, decimal, id_text, generic_text, body_text, fields_text, named_text, type_or_const_param_text, lifetime_param_text, ArenaFault, ExprOrPatId, NodeId, node_text, Missing, Name, Variant, Crate, Signature, Body, Fields, TypeParam, LifetimeParam, DefMap, FinishFault, BodyFault, SignatureFault, ScopesFault, CapturesFault, RenameFault}
+use Rattle.std.specs.Prelude.{◌++◌}
+use Rattle.hir_error.specs.Prelude.{List, ℕ, codes, decimal, id_text, generic_text, body_text, fields_text, named_text, type_or_const_param_text, lifetime_param_text, ArenaFault, ExprOrPatId, NodeId, node_text, Missing, Name, Variant, Crate, Signature, Body, Fields, TypeParam, LifetimeParam, DefMap, FinishFault, BodyFault, SignatureFault, ScopesFault, CapturesFault, RenameFault}
 use Rattle.hir_collections.specs.declared.arena.ArenaFault.TheVariants as arena
 use Rattle.hir_path.specs.declared.ids.ExprOrPatId.TheVariants as either
 use Rattle.hir_node.specs.declared.node_id.NodeId.TheVariants as node

@@ -1,6 +1,7 @@
 -- What a helper leaves in a builder: one node more, which comes last in its arena and whose id is the number
 -- of those before it; and why it is refused.
-use Rattle.hir_make.specs.Prelude.{◌≡◌, ◌⊎◌, ℕ, List, [], ◌∷◌, ◌++◌, length, Option, Some, None, MOST_ITEMS, Full, Memory, ExprId, PatId, TypeRefId, LabelId, GenericArgs, Expr, Pat, Binding, Label, TypeRef, NodeId, FinishFault, BodyContents, body_fault, SignatureFault, building_of, nodes_of, finish_fault, ExpressionStoreBuilder, NamedId, missing_id, store_error, HirError}
+use Rattle.std.specs.Prelude.{◌≡◌, ◌⊎◌, ◌∷◌, ◌++◌}
+use Rattle.hir_make.specs.Prelude.{ℕ, List, [], length, Option, Some, None, MOST_ITEMS, Full, Memory, ExprId, PatId, TypeRefId, LabelId, GenericArgs, Expr, Pat, Binding, Label, TypeRef, NodeId, FinishFault, BodyContents, body_fault, SignatureFault, building_of, nodes_of, finish_fault, ExpressionStoreBuilder, NamedId, missing_id, store_error, HirError}
 use Rattle.hir_node.specs.declared.expr.Expr.TheVariants as expr
 use Rattle.hir_validate.specs.declared.fault.FinishFault.TheVariants as finish
 use Rattle.hir_body.specs.declared.body_fault.BodyFault.TheVariants as body

@@ -1,5 +1,6 @@
 -- What bodies are printed as.
-use Rattle.hir_pretty.specs.Prelude.{List, [], ◌∷◌, ◌++◌, map, Option, Result, Ok, Err, codes, option_map, option_to_list, EnumId, EnumVariantId, DefWithBodyId, PatId, BindingId, Missing, PrintEnv, Doc, MissingDoc, text, e, p, opt, comma_joined, binding_docs, found_name, Param, BodyContents, formals_of, last_root}
+use Rattle.std.specs.Prelude.{◌∷◌, ◌++◌}
+use Rattle.hir_pretty.specs.Prelude.{List, [], map, Option, Result, Ok, Err, codes, option_map, option_to_list, EnumId, EnumVariantId, DefWithBodyId, PatId, BindingId, Missing, PrintEnv, Doc, MissingDoc, text, e, p, opt, comma_joined, binding_docs, found_name, Param, BodyContents, formals_of, last_root}
 use Rattle.hir_base.specs.declared.defs.DefWithBodyId.TheVariants as body
 use Rattle.hir_base.specs.declared.defs.NamedDef.TheVariants as named
 

@@ -1,6 +1,7 @@
 -- What the tables have that heads of definitions ask for: the enum of a variant, the fields of a variant,
 -- signatures.
-use Rattle.hir_pretty.specs.Prelude.{[], ◌∷◌, Option, Result, option_map, EnumId, EnumVariantId, FunctionId, StructId, fields_code, VariantId, Missing, found_or, FunctionParts, StructParts, VariantParts, Tables}
+use Rattle.std.specs.Prelude.{◌∷◌}
+use Rattle.hir_pretty.specs.Prelude.{[], Option, Result, option_map, EnumId, EnumVariantId, FunctionId, StructId, fields_code, VariantId, Missing, found_or, FunctionParts, StructParts, VariantParts, Tables}
 use Rattle.std.specs.FinMap as map
 use Rattle.hir_store_core.specs.declared.missing.Missing.TheVariants as missing
 

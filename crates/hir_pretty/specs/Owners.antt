@@ -1,5 +1,6 @@
 -- What printing the signature of any definition returns.
-use Rattle.hir_pretty.specs.Prelude.{◌≡◌, ℕ, false, List, [], ◌∷◌, Option, Some, None, Result, Err, codes, String, FunctionId, StructId, AdtId, GenericDefId, FunctionParts, StructParts, Tables, PrintFault, PrintEnv, print_env, lookups_of, PrintsPieces, doc_list_pieces}
+use Rattle.std.specs.Prelude.{◌≡◌, ◌∷◌}
+use Rattle.hir_pretty.specs.Prelude.{ℕ, false, List, [], Option, Some, None, Result, Err, codes, String, FunctionId, StructId, AdtId, GenericDefId, FunctionParts, StructParts, Tables, PrintFault, PrintEnv, print_env, lookups_of, PrintsPieces, doc_list_pieces}
 use Rattle.std.specs.FinMap as map
 use Rattle.hir_base.specs.declared.defs.AdtId.TheVariants as adt
 use Rattle.hir_base.specs.declared.defs.GenericDefId.TheVariants as generic

@@ -1,5 +1,6 @@
 -- What the signatures of functions and structs are printed as.
-use Rattle.hir_pretty.specs.Prelude.{ℕ, Bool, false, ◌==◌, List, [], ◌∷◌, ◌++◌, map, Option, Some, None, codes, decimal, enumerate_from, list_any, Name, abi_text, ExternAbi, TypeRefId, LifetimeParamData, TypeOrConstParamData, WherePredicate, Generics, FieldsShape, FunctionParts, StructParts, Repr, PrintEnv, Doc, text, br, into, out, e, t, opt, when, join, comma_joined, with_number, name_docs, l, bound_docs, for_names}
+use Rattle.std.specs.Prelude.{◌==◌, ◌∷◌, ◌++◌}
+use Rattle.hir_pretty.specs.Prelude.{ℕ, Bool, false, List, [], map, Option, Some, None, codes, decimal, enumerate_from, list_any, Name, abi_text, ExternAbi, TypeRefId, LifetimeParamData, TypeOrConstParamData, WherePredicate, Generics, FieldsShape, FunctionParts, StructParts, Repr, PrintEnv, Doc, text, br, into, out, e, t, opt, when, join, comma_joined, with_number, name_docs, l, bound_docs, for_names}
 use Rattle.hir_base.specs.declared.abi.ExternAbi.TheVariants as abi
 use Rattle.hir_signature.specs.declared.any_param.TypeOrConstParamData.TheVariants as param
 use Rattle.hir_signature.specs.declared.predicate.WherePredicate.TheVariants as predicate

@@ -1,6 +1,7 @@
 -- The scopes of a body or a signature: which expressions have one, the frames along its chain, and how many
 -- scopes and entries exist.
-use Rattle.hir_scope.specs.Prelude.{filter, option_map, ◌≡◌, ◌↔◌, ◌<◌, ◌⊎◌, ℕ, Bool, true, false, List, Some, IsSome, length, ExprId, NodeId, root_nodes, Nodes, Contents, BodyContents, BodyReaches, body_nodes, formals_of, last_root, SignatureReaches, signature_nodes}
+use Rattle.std.specs.Prelude.{◌≡◌, ◌↔◌, ◌<◌, ◌⊎◌}
+use Rattle.hir_scope.specs.Prelude.{filter, option_map, ℕ, Bool, true, false, List, Some, IsSome, length, ExprId, NodeId, root_nodes, Nodes, Contents, BodyContents, BodyReaches, body_nodes, formals_of, last_root, SignatureReaches, signature_nodes}
 use Rattle.std.specs.FinMap as map
 use Rattle.hir_scope.specs.Chains.{InContext, HasChain}
 use Rattle.hir_scope.specs.Counts.{body_scope_count, body_entry_count, signature_scope_count, signature_entry_count}

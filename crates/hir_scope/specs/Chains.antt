@@ -7,7 +7,8 @@
 --     of 0, the `x` in the closure: C B R             of 4, the `y` of the condition: I Y B R
 --     of 8, the `x` of `then`: T X I Y B R            of 10, the `x` of `else`: E Y B R
 -- So `x` resolves to binding 0 at 0 and 10, and to binding 3 at 8.
-use Rattle.hir_scope.specs.Prelude.{◌≡◌, List, ◌∷◌, ◌++◌, map, Contains, ExprId, NodeId, Nodes}
+use Rattle.std.specs.Prelude.{◌≡◌, ◌∷◌, ◌++◌}
+use Rattle.hir_scope.specs.Prelude.{List, map, Contains, ExprId, NodeId, Nodes}
 use Rattle.hir_scope.specs.ScopingForms.{ScopingForm, form_of}
 use Rattle.hir_scope.specs.Frames.{Chain}
 use Rattle.hir_scope.specs.ScopingForms as form

@@ -1,7 +1,8 @@
 -- The contexts of a node's children: for each child the frames that are put on a chain, and on which one.
 -- Children come in the order in which scopes are made: an expression before the pattern that it is matched
 -- with, a guard before the body, arguments before the body, a target before the value.
-use Rattle.hir_scope.specs.Prelude.{flat_map, List, [], ◌∷◌, ◌++◌, Option, Some, None, BlockId, ExprId, LabelId, Call, OnExpr, OnAnonConst, OnPat, OnType, OnLifetime, e, p, t, opt, Item, MatchArm, Statement, NodeId, Nodes}
+use Rattle.std.specs.Prelude.{◌∷◌, ◌++◌}
+use Rattle.hir_scope.specs.Prelude.{flat_map, List, [], Option, Some, None, BlockId, ExprId, LabelId, Call, OnExpr, OnAnonConst, OnPat, OnType, OnLifetime, e, p, t, opt, Item, MatchArm, Statement, NodeId, Nodes}
 use Rattle.hir_scope.specs.ScopingForms.{ScopingForm, form_of}
 use Rattle.hir_scope.specs.ScopingForms as form
 use Rattle.hir_scope.specs.Frames.{Frame, Chain, frame, of_kind, empty}

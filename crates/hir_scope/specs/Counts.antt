@@ -1,5 +1,6 @@
 -- The counts of scopes and entries: sums over the nodes that a body or a signature reaches.
-use Rattle.hir_scope.specs.Prelude.{sum_by, ℕ, ◌+◌, List, Option, Some, None, length, Item, Statement, NodeId, Nodes, bindings_at}
+use Rattle.std.specs.Prelude.{◌+◌}
+use Rattle.hir_scope.specs.Prelude.{sum_by, ℕ, List, Option, Some, None, length, Item, Statement, NodeId, Nodes, bindings_at}
 use Rattle.hir_scope.specs.ScopingForms.{ScopingForm, form_of}
 use Rattle.hir_scope.specs.ScopingForms as form
 

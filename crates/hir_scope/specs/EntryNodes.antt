@@ -1,6 +1,7 @@
 -- The entry nodes of a body or a signature in their contexts: its nodes are reached from these, with the
 -- frames around each.
-use Rattle.hir_scope.specs.Prelude.{flat_map, List, [], ◌∷◌, ◌++◌, Option, map, ExprId, PatId, BindingId, e, p, opt, NodeId, Nodes, all_of}
+use Rattle.std.specs.Prelude.{◌∷◌, ◌++◌}
+use Rattle.hir_scope.specs.Prelude.{flat_map, List, [], Option, map, ExprId, PatId, BindingId, e, p, opt, NodeId, Nodes, all_of}
 use Rattle.hir_scope.specs.Chains.{InContext, child_in_context}
 use Rattle.hir_scope.specs.Frames.{Frame, entry_at, binds, plain, empty}
 use Rattle.hir_scope.specs.ChildContexts.{in_turn}

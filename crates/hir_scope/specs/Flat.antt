@@ -1,6 +1,7 @@
 -- The lists in which scopes are kept: the entries of all in one list, of which each scope has a range, one
 -- range after the other.
-use Rattle.hir_scope.specs.Prelude.{nat_cmp, ◌≡◌, ℕ, ◌-◌, ◌<◌, ◌≤◌, List, [], ◌∷◌, Some, length, map, take, drop, slice_get, ExprId}
+use Rattle.std.specs.Prelude.{◌≡◌, ◌-◌, ◌<◌, ◌≤◌, ◌∷◌}
+use Rattle.hir_scope.specs.Prelude.{nat_cmp, ℕ, List, [], Some, length, map, take, drop, slice_get, ExprId}
 use Rattle.std.specs.FinMap as finmap
 use Rattle.hir_scope.specs.Scopes.{Scope, ScopeId, IsBelow}
 use Rattle.hir_scope.specs.declared.expr_scopes.ScopeData.{ScopeData}

@@ -1,5 +1,6 @@
 -- A lexical frame: a kind, and the bindings that it binds, all at once.
-use Rattle.hir_scope.specs.Prelude.{flat_map, List, [], ◌∷◌, slice_get, PatId, BindingId, Binding, Nodes, all_of, bindings_in}
+use Rattle.std.specs.Prelude.{◌∷◌}
+use Rattle.hir_scope.specs.Prelude.{flat_map, List, [], slice_get, PatId, BindingId, Binding, Nodes, all_of, bindings_in}
 use Rattle.hir_scope.specs.declared.scope.ScopeEntry.{ScopeEntry}
 use Rattle.hir_scope.specs.declared.scope.ScopeKind.{ScopeKind}
 

@@ -1,5 +1,6 @@
 -- The scopes of what tables have of a definition: they are missing only where the tables have no entry of it.
-use Rattle.hir_scope.specs.Prelude.{option_map, ◌≡◌, Option, None, Some, Result, Err, IfOk, DefWithBodyId, ExpressionStoreOwnerId, Contents, StoreAndSources, BodyContents, BodyAndSources}
+use Rattle.std.specs.Prelude.{◌≡◌}
+use Rattle.hir_scope.specs.Prelude.{option_map, Option, None, Some, Result, Err, IfOk, DefWithBodyId, ExpressionStoreOwnerId, Contents, StoreAndSources, BodyContents, BodyAndSources}
 use Rattle.hir_scope.specs.BodyScopes.{AreBodyScopes, BodyIsTooLarge, AreSignatureScopes, SignatureIsTooLarge}
 use Rattle.hir_scope.specs.Scopes.{Scopes}
 use Rattle.hir_scope.specs.declared.fault.ScopesFault.{ScopesFault}

@@ -1,5 +1,6 @@
 -- The frames that a node leaves open: they outlive it, and are around what is visited after it.
-use Rattle.hir_scope.specs.Prelude.{List, [], ◌∷◌, ◌++◌, Call, OnExpr, OnAnonConst, OnPat, OnType, OnLifetime, e, opt, NodeId, fold_down, Nodes}
+use Rattle.std.specs.Prelude.{◌∷◌, ◌++◌}
+use Rattle.hir_scope.specs.Prelude.{List, [], Call, OnExpr, OnAnonConst, OnPat, OnType, OnLifetime, e, opt, NodeId, fold_down, Nodes}
 use Rattle.hir_scope.specs.ScopingForms.{ScopingForm, form_of}
 use Rattle.hir_scope.specs.Frames.{Chain, frame}
 use Rattle.hir_scope.specs.ScopingForms as form

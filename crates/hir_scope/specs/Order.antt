@@ -1,7 +1,8 @@
 -- The order in which scopes are made: a node's child calls, where a type and what is matched come before the
 -- pattern, a guard before the body of its arm, the types of a closure before its arguments and these before
 -- its body.
-use Rattle.hir_scope.specs.Prelude.{flat_map, List, [], ◌++◌, Option, ExprId, PatId, TypeRefId, Call, e, p, t, opt, MatchArm, Statement}
+use Rattle.std.specs.Prelude.{◌++◌}
+use Rattle.hir_scope.specs.Prelude.{flat_map, List, [], Option, ExprId, PatId, TypeRefId, Call, e, p, t, opt, MatchArm, Statement}
 use Rattle.hir_scope.specs.ScopingForms.{ScopingForm}
 use Rattle.hir_scope.specs.ScopingForms as form
 

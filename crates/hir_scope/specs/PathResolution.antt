@@ -1,7 +1,7 @@
 -- The binding of the store that a path resolves to, by the name that it asks for.
-use Rattle.hir_scope.specs.Prelude.{zero, List, [], ◌∷◌, Option, Some, None, codes, length, nat_lt, slice_get, Name, SyntaxContext, PathKind, Plain, Super, ExprId, PatId, BindingId, Path, Expr, Pat, Contents, hygiene_of}
+use Rattle.hir_scope.specs.Prelude.{zero, List, [], Option, Some, None, codes, length, nat_lt, slice_get, Name, SyntaxContext, PathKind, Plain, Super, ExprId, PatId, BindingId, Path, Expr, Pat, Contents, hygiene_of}
 use Rattle.std.specs.FinMap as map
-use Rattle.std.specs.Prelude.{if◌then◌else◌}
+use Rattle.std.specs.Prelude.{◌∷◌, if◌then◌else◌}
 use Rattle.hir_path.specs.declared.ids.ExprOrPatId.TheVariants as either
 use Rattle.hir_scope.specs.Paths.{chain}
 use Rattle.hir_scope.specs.Resolution.{resolve}

@@ -1,6 +1,7 @@
 -- The path of a scope: its id and those of the scopes around it, innermost first. Along it are the frames of
 -- the scope's chain.
-use Rattle.hir_scope.specs.Prelude.{flat_map, List, [], ◌∷◌, ◌++◌, Option, Some, None, fold, length, slice_get, slice_index_or, all_of}
+use Rattle.std.specs.Prelude.{◌∷◌, ◌++◌}
+use Rattle.hir_scope.specs.Prelude.{flat_map, List, [], Option, Some, None, fold, length, slice_get, slice_index_or, all_of}
 use Rattle.hir_scope.specs.Frames.{Frame, Chain}
 use Rattle.hir_scope.specs.Scopes.{Scope, ScopeId, frame_of}
 

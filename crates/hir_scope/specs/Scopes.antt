@@ -1,5 +1,6 @@
 -- The model of scopes: a list of scopes, each with its parent, and the scope of each expression.
-use Rattle.hir_scope.specs.Prelude.{sum_by, nat_cmp, ◌≡◌, ℕ, ◌<◌, List, Option, Some, None, length, slice_get, ⊤, BlockId, MacroDefId, LabelId}
+use Rattle.std.specs.Prelude.{◌≡◌, ◌<◌}
+use Rattle.hir_scope.specs.Prelude.{sum_by, nat_cmp, ℕ, List, Option, Some, None, length, slice_get, ⊤, BlockId, MacroDefId, LabelId}
 use Rattle.std.specs.FinMap as map
 use Rattle.hir_scope.specs.Frames.{Frame}
 use Rattle.hir_scope.specs.declared.scope.ScopeEntry.{ScopeEntry}

@@ -1,5 +1,6 @@
 -- The arms of a match and the statements of a block. Each is one word, whose parts are separated by colons.
-use Rattle.hir_show_grammar.specs.Prelude.{ℕ, Bool, true, false, List, [], ◌∷◌, Option, codes, MatchArm, Statement, Let, MacroDef, Other}
+use Rattle.std.specs.Prelude.{◌∷◌}
+use Rattle.hir_show_grammar.specs.Prelude.{ℕ, Bool, true, false, List, [], Option, codes, MatchArm, Statement, Let, MacroDef, Other}
 use Rattle.hir_node.specs.declared.expr_types.Statement.TheVariants.{Expr as ExprStatement, Item as ItemStatement}
 use Rattle.hir_show_grammar.specs.Readings.{Reading, ◌>>=◌, gives, whole, split_parts, colon}
 use Rattle.hir_show_grammar.specs.Words.{number, optional, one_of}

@@ -1,5 +1,6 @@
 -- The words after `expr`, for each expression that a line makes.
-use Rattle.hir_show_grammar.specs.Prelude.{ℕ, ℤ, List, [], ◌∷◌, map, Option, None, Some, codes, BinaryOp, BlockId, ExprId, PatId, Expr, Missing, Path, Const, If, Block, Loop, Call, Match, Assignment, Tuple, Int, MatchArm, Statement, ElementList, Repeat, Closure, Shared}
+use Rattle.std.specs.Prelude.{◌∷◌}
+use Rattle.hir_show_grammar.specs.Prelude.{ℕ, ℤ, List, [], map, Option, None, Some, codes, BinaryOp, BlockId, ExprId, PatId, Expr, Missing, Path, Const, If, Block, Loop, Call, Match, Assignment, Tuple, Int, MatchArm, Statement, ElementList, Repeat, Closure, Shared}
 use Rattle.hir_node.specs.declared.expr.Expr.TheVariants.{Literal as LiteralExpr, Array as ArrayExpr, Let, Ref as RefExpr, BinaryOp as BinaryExpr, Closure as ClosureExpr}
 use Rattle.hir_node.specs.declared.expr_types.CaptureBy.TheVariants.{Ref as ByRef}
 use Rattle.hir_node.specs.declared.expr_types.LoopSource.TheVariants.{Loop as PlainLoop}

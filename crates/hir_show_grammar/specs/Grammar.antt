@@ -1,5 +1,6 @@
 -- The lines as they are written.
-use Rattle.hir_show_grammar.specs.Prelude.{◌≡◌, ℕ, List, [], ◌∷◌, codes, ⊤, Expansion, ExprId, PatId, BindingId, Expr, Pat, TypeRef}
+use Rattle.std.specs.Prelude.{◌≡◌, ◌∷◌}
+use Rattle.hir_show_grammar.specs.Prelude.{ℕ, List, [], codes, ⊤, Expansion, ExprId, PatId, BindingId, Expr, Pat, TypeRef}
 use Rattle.hir_path.specs.declared.ids.ExprOrPatId.TheVariants as any_id
 use Rattle.hir_show_grammar.specs.Line.{Line, Blank, Make, Ask, Bad, plain_binding}
 use Rattle.hir_show_grammar.specs.Makers.{Maker, Binding, Pat as MakePat, TypeRef as MakeType, Expr as MakeExpr, Hygiene, SelfParam, Param, FnName, Roots, Root}

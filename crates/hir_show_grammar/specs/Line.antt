@@ -1,5 +1,6 @@
 -- What a line may say, and what it says by its words.
-use Rattle.hir_show_grammar.specs.Prelude.{ℕ, Bool, true, false, List, [], ◌∷◌, Option, None, Some, codes, SyntaxContext, Binding, Unannotated}
+use Rattle.std.specs.Prelude.{◌∷◌}
+use Rattle.hir_show_grammar.specs.Prelude.{ℕ, Bool, true, false, List, [], Option, None, Some, codes, SyntaxContext, Binding, Unannotated}
 use Rattle.hir_path.specs.declared.ids.ExprOrPatId.TheVariants.{ExprId, PatId}
 use Rattle.hir_show_grammar.specs.Makers.{Maker, Binding as MakeBinding, Pat as MakePat, TypeRef as MakeType, Expr as MakeExpr, Hygiene, SelfParam, Param, FnName, Roots, Root}
 use Rattle.hir_show_grammar.specs.declared.question.Question.{Question}

@@ -1,5 +1,6 @@
 -- The texts of operators between two expressions.
-use Rattle.hir_show_grammar.specs.Prelude.{ℕ, true, false, List, [], ◌∷◌, ◌++◌, Option, None, Some, codes, ArithOp, Add, Sub, Mul, Div, Rem, Shl, Shr, BitXor, BitOr, BitAnd, And, Less, Greater, Eq, Ord, BinaryOp}
+use Rattle.std.specs.Prelude.{◌∷◌, ◌++◌}
+use Rattle.hir_show_grammar.specs.Prelude.{ℕ, true, false, List, [], Option, None, Some, codes, ArithOp, Add, Sub, Mul, Div, Rem, Shl, Shr, BitXor, BitOr, BitAnd, And, Less, Greater, Eq, Ord, BinaryOp}
 use Rattle.hir_base.specs.declared.operators.LogicOp.TheVariants.{Or}
 use Rattle.hir_base.specs.declared.operators.BinaryOp.TheVariants.{LogicOp as Logic, ArithOp as Arith, CmpOp as Cmp, Assignment}
 use Rattle.hir_show_grammar.specs.Readings.{look_up}

@@ -1,5 +1,6 @@
 -- The words after `pat`, for each pattern that a line makes.
-use Rattle.hir_show_grammar.specs.Prelude.{ℕ, List, [], ◌∷◌, Option, None, codes, Inclusive, ExprId, PatId, BindingId, Pat, Rest, Wild, Or, Range, Lit, Bind, TupleStruct}
+use Rattle.std.specs.Prelude.{◌∷◌}
+use Rattle.hir_show_grammar.specs.Prelude.{ℕ, List, [], Option, None, codes, Inclusive, ExprId, PatId, BindingId, Pat, Rest, Wild, Or, Range, Lit, Bind, TupleStruct}
 use Rattle.hir_node.specs.declared.pat.Pat.TheVariants.{Missing, Tuple, Expr}
 use Rattle.hir_show_grammar.specs.Words.{plain}
 use Rattle.hir_show_grammar.specs.Tokens.{Token, Word, Name, Number, Optional, Numbers}

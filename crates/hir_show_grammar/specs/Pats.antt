@@ -1,5 +1,6 @@
 -- What the words after `pat` say.
-use Rattle.hir_show_grammar.specs.Prelude.{ℕ, List, [], ◌∷◌, None, codes, Inclusive, Pat, Rest, Wild, Or, Range, Lit, Bind, TupleStruct}
+use Rattle.std.specs.Prelude.{◌∷◌}
+use Rattle.hir_show_grammar.specs.Prelude.{ℕ, List, [], None, codes, Inclusive, Pat, Rest, Wild, Or, Range, Lit, Bind, TupleStruct}
 use Rattle.hir_node.specs.declared.pat.Pat.TheVariants.{Missing, Tuple, Expr}
 use Rattle.hir_show_grammar.specs.Readings.{Reading, ◌>>=◌, gives}
 use Rattle.hir_show_grammar.specs.Words.{number, optional, list, path, one_of}

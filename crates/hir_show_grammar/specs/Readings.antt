@@ -1,7 +1,7 @@
 -- Reading words from the first on. A reading gives what the first words say and the words after them, or
 -- nothing where they don't fit.
-use Rattle.hir_show_grammar.specs.Prelude.{ℕ, Bool, eqb, List, [], ◌∷◌, Option, None, Some, slice_split, option_map, option_and_then, bytes_eq}
-use Rattle.std.specs.Prelude.{if◌then◌else◌}
+use Rattle.hir_show_grammar.specs.Prelude.{ℕ, Bool, eqb, List, [], Option, None, Some, slice_split, option_map, option_and_then, bytes_eq}
+use Rattle.std.specs.Prelude.{◌∷◌, if◌then◌else◌}
 
 -- the separators of the words of a line, the parts of an arm or a statement, and the numbers of a list
 abbrev pub space : ℕ

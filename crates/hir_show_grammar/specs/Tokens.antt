@@ -1,5 +1,6 @@
 -- The words of a line by what they say, and how each is written.
-use Rattle.hir_show_grammar.specs.Prelude.{◌≡◌, ℕ, ◌<◌, ◌^◌, ℤ, pos, true, false, ◌⊎◌, List, [], ◌∷◌, Option, None, Some, FitsSigned, codes, decimal, signed_decimal, w128, AllZip, join_with_byte, BinaryOp, MatchArm, Statement, Let, Item, MacroDef, Other}
+use Rattle.std.specs.Prelude.{◌≡◌, ◌<◌, ◌^◌, ◌⊎◌, ◌∷◌}
+use Rattle.hir_show_grammar.specs.Prelude.{ℕ, ℤ, pos, true, false, List, [], Option, None, Some, FitsSigned, codes, decimal, signed_decimal, w128, AllZip, join_with_byte, BinaryOp, MatchArm, Statement, Let, Item, MacroDef, Other}
 use Rattle.hir_node.specs.declared.expr_types.Statement.TheVariants.{Expr}
 use Rattle.hir_show_grammar.specs.Names.{is_name}
 use Rattle.hir_show_grammar.specs.Operators.{op_text}

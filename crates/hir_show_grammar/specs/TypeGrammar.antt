@@ -1,5 +1,6 @@
 -- The words after `type`, for each type that a line makes.
-use Rattle.hir_show_grammar.specs.Prelude.{ℕ, List, [], ◌∷◌, codes, ExprId, PatId, TypeRefId, TypeRef, Never, Array, PatternType}
+use Rattle.std.specs.Prelude.{◌∷◌}
+use Rattle.hir_show_grammar.specs.Prelude.{ℕ, List, [], codes, ExprId, PatId, TypeRefId, TypeRef, Never, Array, PatternType}
 use Rattle.hir_node.specs.declared.type_ref.TypeRef.TheVariants.{Tuple, Path}
 use Rattle.hir_show_grammar.specs.Words.{plain}
 use Rattle.hir_show_grammar.specs.Types.{array_of}

@@ -1,5 +1,6 @@
 -- What the words after `type` say.
-use Rattle.hir_show_grammar.specs.Prelude.{ℕ, List, [], ◌∷◌, codes, ExprId, TypeRefId, ArrayType, TypeRef, Never, Array, PatternType}
+use Rattle.std.specs.Prelude.{◌∷◌}
+use Rattle.hir_show_grammar.specs.Prelude.{ℕ, List, [], codes, ExprId, TypeRefId, ArrayType, TypeRef, Never, Array, PatternType}
 use Rattle.hir_node.specs.declared.type_ref.TypeRef.TheVariants.{Tuple, Path}
 use Rattle.hir_show_grammar.specs.Readings.{Reading, ◌>>=◌, gives}
 use Rattle.hir_show_grammar.specs.Words.{number, list, path, one_of}

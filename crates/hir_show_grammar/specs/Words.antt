@@ -1,6 +1,6 @@
 -- What single words say, and reading them.
-use Rattle.hir_show_grammar.specs.Prelude.{ℕ, ℤ, List, [], ◌∷◌, Option, None, Some, codes, option_map, bytes_eq, Edition2015, SyntaxContext, Expansion, BinaryOp, Plain, BarePath}
-use Rattle.std.specs.Prelude.{if◌then◌else◌}
+use Rattle.hir_show_grammar.specs.Prelude.{ℕ, ℤ, List, [], Option, None, Some, codes, option_map, bytes_eq, Edition2015, SyntaxContext, Expansion, BinaryOp, Plain, BarePath}
+use Rattle.std.specs.Prelude.{◌∷◌, if◌then◌else◌}
 use Rattle.hir_base.specs.declared.hygiene.SyntaxContext.TheVariants.{Root as OfSource}
 use Rattle.hir_path.specs.declared.path.Path.{Path}
 use Rattle.hir_show_grammar.specs.Numerals.{number_of, int_of}

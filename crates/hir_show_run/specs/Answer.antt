@@ -1,6 +1,6 @@
 -- The answers to questions.
-use Rattle.hir_show_run.specs.Prelude.{◌≡◌, ℕ, List, [], ◌∷◌, ◌++◌, Option, None, Some, codes, length, nat_lt, flat_map, decimal, Name, SyntaxContext, Root, Expansion, ExprId, BindingId, Question, OfStore, OfBody, StoreQuestion, Children, RootOf, BodyQuestion, Nodes, root_for_expr, Contents, child_exprs, BodyContents, BodyReaches, ScopeEntry, entry_nodes_of_body, HasChain, Chain, resolve, entries_of, AreCaptures, IsReachedClosure}
-use Rattle.std.specs.Prelude.{if◌then◌else◌}
+use Rattle.hir_show_run.specs.Prelude.{ℕ, List, [], Option, None, Some, codes, length, nat_lt, flat_map, decimal, Name, SyntaxContext, Root, Expansion, ExprId, BindingId, Question, OfStore, OfBody, StoreQuestion, Children, RootOf, BodyQuestion, Nodes, root_for_expr, Contents, child_exprs, BodyContents, BodyReaches, ScopeEntry, entry_nodes_of_body, HasChain, Chain, resolve, entries_of, AreCaptures, IsReachedClosure}
+use Rattle.std.specs.Prelude.{◌≡◌, ◌∷◌, ◌++◌, if◌then◌else◌}
 use Rattle.hir_node.specs.declared.node_id.NodeId.TheVariants as node
 use Rattle.hir_show_grammar.specs.declared.question.BodyQuestion.TheVariants as ask
 use Rattle.hir_forest.specs.declared.roots.Root as forest

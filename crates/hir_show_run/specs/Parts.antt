@@ -1,6 +1,7 @@
 -- The parts of a body that lines have made so far: what is built, the parameters and the name of the
 -- function.
-use Rattle.hir_show_run.specs.Prelude.{ℕ, List, [], ◌∷◌, ◌++◌, Option, None, Some, Name, SyntaxContext, ExprOrPatId, expr_or_pat_code, PatId, BindingId, Maker, Nodes, no_nodes, Building, contents_of, and_root, some_roots, Param, BodyContents, body_of, SideTables, no_side_tables}
+use Rattle.std.specs.Prelude.{◌∷◌, ◌++◌}
+use Rattle.hir_show_run.specs.Prelude.{ℕ, List, [], Option, None, Some, Name, SyntaxContext, ExprOrPatId, expr_or_pat_code, PatId, BindingId, Maker, Nodes, no_nodes, Building, contents_of, and_root, some_roots, Param, BodyContents, body_of, SideTables, no_side_tables}
 use Rattle.std.specs.FinMap as map
 use Rattle.hir_show_grammar.specs.Makers as make
 

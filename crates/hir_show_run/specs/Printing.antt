@@ -1,5 +1,6 @@
 -- What `print` writes: the body as that of function 0.
-use Rattle.hir_show_run.specs.Prelude.{ℕ, false, List, [], ◌++◌, Option, codes, named_code, Tables, no_tables, BodyContents, lookups_of, DocPiece, text_of, PrintEnv, print_env, doc_list_pieces, body_docs, parents}
+use Rattle.std.specs.Prelude.{◌++◌}
+use Rattle.hir_show_run.specs.Prelude.{ℕ, false, List, [], Option, codes, named_code, Tables, no_tables, BodyContents, lookups_of, DocPiece, text_of, PrintEnv, print_env, doc_list_pieces, body_docs, parents}
 use Rattle.std.specs.FinMap as map
 use Rattle.hir_base.specs.declared.defs.DefWithBodyId.TheVariants as body
 use Rattle.hir_base.specs.declared.defs.NamedDef.TheVariants as named

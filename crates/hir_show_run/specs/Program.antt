@@ -1,6 +1,6 @@
 -- What the program writes and how it ends, for the lines that it is given.
-use Rattle.hir_show_run.specs.Prelude.{◌≡◌, ℕ, ◌+◌, Bool, true, false, ◌&&◌, ◌||◌, List, [], ◌∷◌, ◌++◌, length, Option, None, Some, Result, Ok, Err, filter_map, fold, map, codes, list_all, list_any, lines, Line, Blank, Make, Ask, Bad, any_question, asks, line_of, makes, may_ask, Maker, is_second, Question, OfStore, OfBody, body_fault, contents_of, finish_fault}
-use Rattle.std.specs.Prelude.{if◌then◌else◌}
+use Rattle.hir_show_run.specs.Prelude.{ℕ, Bool, true, false, List, [], length, Option, None, Some, Result, Ok, Err, filter_map, fold, map, codes, list_all, list_any, lines, Line, Blank, Make, Ask, Bad, any_question, asks, line_of, makes, may_ask, Maker, is_second, Question, OfStore, OfBody, body_fault, contents_of, finish_fault}
+use Rattle.std.specs.Prelude.{◌≡◌, ◌+◌, ◌&&◌, ◌||◌, ◌∷◌, ◌++◌, if◌then◌else◌}
 use Rattle.hir_show_run.specs.declared.fault.RunFault.{RunFault}
 use Rattle.hir_show_run.specs.declared.fault.RunFault.TheVariants.{BadLine, Refused, BodyRefused}
 use Rattle.hir_show_run.specs.Parts.{Parts, no_parts, with_line, body_parts}

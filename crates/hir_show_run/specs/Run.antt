@@ -1,5 +1,6 @@
 -- How a run of the program ends, with the bytes that it leaves unread and those that it has written.
-use Rattle.hir_show_run.specs.Prelude.{◌≡◌, ◌⊎◌, ℕ, ◌+◌, true, false, List, [], ◌∷◌, ◌++◌, length, Option, Ok, Err, IfSome, Appends, AppendsPrefix, LineState, lines, IsCutShort}
+use Rattle.std.specs.Prelude.{◌≡◌, ◌⊎◌, ◌+◌, ◌∷◌, ◌++◌}
+use Rattle.hir_show_run.specs.Prelude.{ℕ, true, false, List, [], length, Option, Ok, Err, IfSome, Appends, AppendsPrefix, LineState, lines, IsCutShort}
 use Rattle.hir_show_io.specs.declared.ends.Source as source
 use Rattle.hir_show_io.specs.declared.ends.Sink as sink
 use Rattle.hir_show_run.specs.declared.fault.RunFault.TheVariants.{BadLine}

@@ -1,5 +1,6 @@
 -- What is written about the end of a run: the text of each fault.
-use Rattle.hir_show_run.specs.Prelude.{ℕ, List, [], ◌∷◌, ◌++◌, Option, Some, Result, Ok, Err, codes, decimal, option_append, NodeId, FinishFault, body_fault_text}
+use Rattle.std.specs.Prelude.{◌∷◌, ◌++◌}
+use Rattle.hir_show_run.specs.Prelude.{ℕ, List, [], Option, Some, Result, Ok, Err, codes, decimal, option_append, NodeId, FinishFault, body_fault_text}
 use Rattle.hir_node.specs.declared.node_id.NodeId.TheVariants as node
 use Rattle.hir_validate.specs.declared.fault.FinishFault.TheVariants as finish
 use Rattle.hir_validate.specs.contracts.fault.FinishFaultDisplay.TheImpl as finish_fault

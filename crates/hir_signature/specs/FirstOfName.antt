@@ -1,5 +1,6 @@
 -- The first type, constant or lifetime of a name.
-use Rattle.hir_signature.specs.Prelude.{◌≡◌, ℕ, List, ◌∷◌, ◌++◌, length, Option, Some, MatchOption, Name}
+use Rattle.std.specs.Prelude.{◌≡◌, ◌∷◌, ◌++◌}
+use Rattle.hir_signature.specs.Prelude.{ℕ, List, length, Option, Some, MatchOption, Name}
 use Rattle.std.specs.List.{All}
 use Rattle.hir_signature.specs.declared.param_data.LifetimeParamData.{LifetimeParamData}
 use Rattle.hir_signature.specs.declared.any_param.TypeOrConstParamData.{TypeOrConstParamData}

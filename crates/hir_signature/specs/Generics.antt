@@ -1,5 +1,6 @@
 -- The model of generic parameters, as lists; the first of a name, and the index of a lifetime.
-use Rattle.hir_signature.specs.Prelude.{ℕ, nat_eq, List, [], ◌∷◌, length, take, slice_get, Bool, false, cond, Option, Some, None, filter, enumerate_from, position, option_map, pointwise, Name, GenericDefId, TypeOrConstParamId, LifetimeParamId}
+use Rattle.std.specs.Prelude.{◌∷◌}
+use Rattle.hir_signature.specs.Prelude.{ℕ, nat_eq, List, [], length, take, slice_get, Bool, false, cond, Option, Some, None, filter, enumerate_from, position, option_map, pointwise, Name, GenericDefId, TypeOrConstParamId, LifetimeParamId}
 use Rattle.hir_signature.specs.Params.{is_bound, is_trait_self}
 use Rattle.hir_signature.specs.declared.param_data.LifetimeParamData.{LifetimeParamData}
 use Rattle.hir_signature.specs.declared.param_data.LifetimeBoundType.{LifetimeBoundType}

@@ -1,5 +1,6 @@
 -- The ids that a signature names, when they fit its store, and the first fault of its parts.
-use Rattle.hir_signature.specs.Prelude.{◌<◌, Bool, ◌&&◌, true, List, [], ◌∷◌, ◌++◌, All, Option, Some, None, IfSome, IsTrue, length, map, nat_lt, list_all, TypeRefId, root_nodes, ◌unless◌, ◌before◌, Call, a, t, l, opt, bound_calls, NodeId, is_in_range, is_path_at, bound_paths, bound_fits, Nodes, sizes_of, Contents, IsReached, reached_nodes}
+use Rattle.std.specs.Prelude.{◌<◌, ◌&&◌, ◌∷◌, ◌++◌}
+use Rattle.hir_signature.specs.Prelude.{Bool, true, List, [], All, Option, Some, None, IfSome, IsTrue, length, map, nat_lt, list_all, TypeRefId, root_nodes, ◌unless◌, ◌before◌, Call, a, t, l, opt, bound_calls, NodeId, is_in_range, is_path_at, bound_paths, bound_fits, Nodes, sizes_of, Contents, IsReached, reached_nodes}
 use Rattle.hir_node.specs.declared.node_id.NodeId.TheVariants as node
 use Rattle.hir_signature.specs.declared.any_param.TypeOrConstParamData.{TypeOrConstParamData}
 use Rattle.hir_signature.specs.declared.any_param.TypeOrConstParamData.TheVariants as either

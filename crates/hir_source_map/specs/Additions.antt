@@ -1,6 +1,7 @@
 -- Defines how each call of a builder of source maps changes it: one map has one entry more, or another value
 -- at its key, and nothing else changes.
-use Rattle.hir_source_map.specs.Prelude.{◌≡◌, [], ◌∷◌, ◌++◌, Bool, ◌||◌, cond, Some, None, Global, MacroCallId, ExprId, PatId, BindingId, LabelId, TypeRefId, LifetimeRefId, ExprOrPatId}
+use Rattle.std.specs.Prelude.{◌≡◌, ◌∷◌, ◌++◌, ◌||◌}
+use Rattle.hir_source_map.specs.Prelude.{[], Bool, cond, Some, None, Global, MacroCallId, ExprId, PatId, BindingId, LabelId, TypeRefId, LifetimeRefId, ExprOrPatId}
 use Rattle.std.specs.FinMap as map
 use Rattle.hir_source_map.specs.declared.diagnostics.ExpressionStoreDiagnostics.{ExpressionStoreDiagnostics}
 use Rattle.hir_source_map.specs.declared.source_map_builder.SourceMapBuilder.{SourceMapBuilder}

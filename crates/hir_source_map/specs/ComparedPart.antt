@@ -1,6 +1,7 @@
 -- Defines the compared part of source maps, which `==` compares: it is without the maps from sources to
 -- nodes.
-use Rattle.hir_source_map.specs.Prelude.{List, Bool, ◌&&◌, Option, option_eq, option_map, pointwise, MacroCallId, same_maps, by_code}
+use Rattle.std.specs.Prelude.{◌&&◌}
+use Rattle.hir_source_map.specs.Prelude.{List, Bool, Option, option_eq, option_map, pointwise, MacroCallId, same_maps, by_code}
 use Rattle.std.specs.FinMap as map
 use Rattle.hir_source_map.specs.declared.diagnostics.ExpressionStoreDiagnostics.{ExpressionStoreDiagnostics}
 use Rattle.hir_source_map.specs.declared.sources.ExprSources.{ExprSources}

@@ -1,6 +1,7 @@
 -- Defines the keys of the maps of a source map, its two parts without entries, that of expressions and that
 -- of types, and when the first is kept.
-use Rattle.hir_source_map.specs.Prelude.{ℕ, List, [], ◌∷◌, ◌++◌, length, Bool, not, ◌||◌, Option, Some, None, ◌==◌, nat_eq, PatId, BindingId, by_code, node_code, InFile, SyntaxNodePtr}
+use Rattle.std.specs.Prelude.{◌∷◌, ◌++◌, ◌||◌, ◌==◌}
+use Rattle.hir_source_map.specs.Prelude.{ℕ, List, [], length, Bool, not, Option, Some, None, nat_eq, PatId, BindingId, by_code, node_code, InFile, SyntaxNodePtr}
 use Rattle.std.specs.FinMap as map
 use Rattle.hir_source_map.specs.declared.sources.ExprSources.{ExprSources}
 use Rattle.hir_source_map.specs.declared.sources.TypeSources.{TypeSources}

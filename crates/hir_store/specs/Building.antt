@@ -1,5 +1,6 @@
 -- The model of a builder: what it holds, what its store holds, and its first fault.
-use Rattle.hir_store.specs.Prelude.{◌≡◌, ◌⊎◌, List, [], ◌∷◌, ◌++◌, Bool, not, ◌||◌, cond, nat_eq, length, Option, Some, None, IsSome, Global, ExprId, Root, ◌unless◌, ◌before◌, FinishFault, NoRoots, Nodes, ends_of, SideTables, no_side_tables, Contents, contents_fault, HasSameMaps, no_sources}
+use Rattle.std.specs.Prelude.{◌≡◌, ◌⊎◌, ◌∷◌, ◌++◌, ◌||◌}
+use Rattle.hir_store.specs.Prelude.{List, [], Bool, not, cond, nat_eq, length, Option, Some, None, IsSome, Global, ExprId, Root, ◌unless◌, ◌before◌, FinishFault, NoRoots, Nodes, ends_of, SideTables, no_side_tables, Contents, contents_fault, HasSameMaps, no_sources}
 use Rattle.std.specs.FinMap as map
 use Rattle.hir_store.specs.declared.builder.ExpressionStoreBuilder.{ExpressionStoreBuilder}
 

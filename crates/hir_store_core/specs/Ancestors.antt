@@ -1,5 +1,6 @@
 -- The parent of a node, and its ancestors: its parent, the parent of that one, and so on.
-use Rattle.hir_store_core.specs.Prelude.{ℕ, zero, suc, ◌+◌, ◌==◌, Bool, false, List, [], ◌∷◌, ◌++◌, Option, Some, None, map, find, length, list_any, enumerate_from, NodeId, Nodes, children_of}
+use Rattle.std.specs.Prelude.{◌+◌, ◌==◌, ◌∷◌, ◌++◌}
+use Rattle.hir_store_core.specs.Prelude.{ℕ, zero, suc, Bool, false, List, [], Option, Some, None, map, find, length, list_any, enumerate_from, NodeId, Nodes, children_of}
 use Rattle.hir_node.specs.declared.node_id.NodeId.TheVariants as node
 
 -- two ids are of the same node

@@ -1,7 +1,7 @@
 -- What encloses an expression, and where a jump goes: the nearest ancestor of a kind, never beyond an
 -- anonymous constant.
-use Rattle.hir_store_core.specs.Prelude.{◌==◌, ◌||◌, Bool, true, false, List, [], ◌∷◌, Option, Some, None, find, filter_map, slice_get, list_any, ExprId, LabelId, Expr, NodeId, Call, OnExpr, OnAnonConst, OnPat, OnType, OnLifetime, Nodes, calls_of}
-use Rattle.std.specs.Prelude.{if◌then◌else◌}
+use Rattle.hir_store_core.specs.Prelude.{Bool, true, false, List, [], Option, Some, None, find, filter_map, slice_get, list_any, ExprId, LabelId, Expr, NodeId, Call, OnExpr, OnAnonConst, OnPat, OnType, OnLifetime, Nodes, calls_of}
+use Rattle.std.specs.Prelude.{◌==◌, ◌||◌, ◌∷◌, if◌then◌else◌}
 use Rattle.hir_node.specs.declared.expr.Expr.TheVariants as expr
 use Rattle.hir_node.specs.declared.node_id.NodeId.TheVariants as node
 use Rattle.hir_store_core.specs.declared.jump_roles.JumpRole.{JumpRole}

@@ -1,5 +1,6 @@
 -- The text that `Debug` writes of a missing fact: its kind, and the definition's id.
-use Rattle.hir_store_core.specs.Prelude.{List, ℕ, ◌++◌, codes, id_text, generic_text, body_text, fields_text, named_text, type_or_const_param_text, lifetime_param_text}
+use Rattle.std.specs.Prelude.{◌++◌}
+use Rattle.hir_store_core.specs.Prelude.{List, ℕ, codes, id_text, generic_text, body_text, fields_text, named_text, type_or_const_param_text, lifetime_param_text}
 use Rattle.hir_store_core.specs.declared.missing.Missing.{Missing}
 use Rattle.hir_store_core.specs.declared.missing.Missing.TheVariants.{Name, Variant, Crate, Signature, Body, Fields, TypeParam, LifetimeParam, DefMap}
 

@@ -1,5 +1,6 @@
 -- Sets of nodes of a store, kept as a mark for each node.
-use Rattle.hir_store_core.specs.Prelude.{◌≡◌, ◌⊎◌, ◌↔◌, Bool, List, Contains, Marks, NodeId, Sizes, HasNode, place, Nodes, Has, children_of}
+use Rattle.std.specs.Prelude.{◌≡◌, ◌⊎◌, ◌↔◌}
+use Rattle.hir_store_core.specs.Prelude.{Bool, List, Contains, Marks, NodeId, Sizes, HasNode, place, Nodes, Has, children_of}
 
 -- the number of nodes, and a mark for each, in the order of their numbers
 pub record MarkedNodes : Type 0 where

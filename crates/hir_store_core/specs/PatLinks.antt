@@ -1,6 +1,7 @@
 -- The links of patterns: from each child of a pattern to the next one, and from the last one back to the
 -- pattern.
-use Rattle.hir_store_core.specs.Prelude.{◌≡◌, ◌<◌, List, [], ◌∷◌, ⊤, length, slice_index_or, Contains, flat_map, PatId, Pat, pat_of_call, pat_calls, calls_at}
+use Rattle.std.specs.Prelude.{◌≡◌, ◌<◌, ◌∷◌}
+use Rattle.hir_store_core.specs.Prelude.{List, [], ⊤, length, slice_index_or, Contains, flat_map, PatId, Pat, pat_of_call, pat_calls, calls_at}
 use Rattle.hir_store_core.specs.declared.pat_links.PatLink.{PatLink}
 use Rattle.hir_store_core.specs.declared.pat_links.PatLink.TheVariants.{Next, Last, Alone}
 

@@ -1,5 +1,6 @@
 -- The patterns, bindings and expressions of a pattern, and the child expressions of an expression.
-use Rattle.hir_store_core.specs.Prelude.{List, [], ◌∷◌, slice_get, flat_map, ExprId, PatId, BindingId, Call, OnExpr, OnAnonConst, OnPat, OnType, OnLifetime, pat_of_call, NodeId, pat_bindings, all_of, Nodes, calls_of, fold_down}
+use Rattle.std.specs.Prelude.{◌∷◌}
+use Rattle.hir_store_core.specs.Prelude.{List, [], slice_get, flat_map, ExprId, PatId, BindingId, Call, OnExpr, OnAnonConst, OnPat, OnType, OnLifetime, pat_of_call, NodeId, pat_bindings, all_of, Nodes, calls_of, fold_down}
 use Rattle.hir_node.specs.declared.node_id.NodeId.TheVariants as node
 
 -- the patterns among the calls of a pattern

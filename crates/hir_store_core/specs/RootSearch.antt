@@ -1,5 +1,6 @@
 -- Root search: the first root whose end exceeds an id, and how many ends are read until it is found.
-use Rattle.hir_store_core.specs.Prelude.{ℕ, Bool, ◌<◌, ◌≤◌, ◌^◌, nat_lt, List, Option, option_map, ExprId, PatId, BindingId, Ends, Root}
+use Rattle.std.specs.Prelude.{◌<◌, ◌≤◌, ◌^◌}
+use Rattle.hir_store_core.specs.Prelude.{ℕ, Bool, nat_lt, List, Option, option_map, ExprId, PatId, BindingId, Ends, Root}
 use Rattle.std.specs.List.{find}
 use Rattle.hir_store_core.specs.declared.root_search.EndOf.{EndOf}
 use Rattle.hir_store_core.specs.declared.root_search.EndOf.TheVariants as ends

@@ -1,5 +1,6 @@
 -- A walk that can stop: items are tried one after the other, up to the first that is refused.
-use Rattle.hir_store_core.specs.Prelude.{◌≡◌, List, ◌∷◌, ◌++◌, Result, Ok, Err, OnOk, IfErr, FoldsTo}
+use Rattle.std.specs.Prelude.{◌≡◌, ◌∷◌, ◌++◌}
+use Rattle.hir_store_core.specs.Prelude.{List, Result, Ok, Err, OnOk, IfErr, FoldsTo}
 
 -- the items of a prefix were accepted, and the one after them was refused with this; none after that one was
 -- tried

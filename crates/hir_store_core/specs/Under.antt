@@ -1,6 +1,7 @@
 -- The descendants of a node, defined from a node to its children, and the nodes that are reached from some
 -- nodes.
-use Rattle.hir_store_core.specs.Prelude.{◌≡◌, ◌<◌, ℕ, List, [], ◌∷◌, Some, slice_get, Contains, flat_map, NodeId, Nodes, Has, children_of, fold_down}
+use Rattle.std.specs.Prelude.{◌≡◌, ◌<◌, ◌∷◌}
+use Rattle.hir_store_core.specs.Prelude.{ℕ, List, [], Some, slice_get, Contains, flat_map, NodeId, Nodes, Has, children_of, fold_down}
 
 -- a node is a descendant of itself, and a descendant of a child of a node is a descendant of the node
 pub data Under (s : Nodes) (n : NodeId) : NodeId → Type 0 where

@@ -1,5 +1,6 @@
 -- Uses in groups: those of each binding, and those that resolve to none.
-use Rattle.hir_usages.specs.Prelude.{nat_cmp, ◌≡◌, List, [], Option, Some, None, BindingId}
+use Rattle.std.specs.Prelude.{◌≡◌}
+use Rattle.hir_usages.specs.Prelude.{nat_cmp, List, [], Option, Some, None, BindingId}
 use Rattle.std.specs.FinMap as map
 use Rattle.hir_usages.specs.Usages.{usages_of, unresolved_in}
 use Rattle.hir_usages.specs.declared.usage.Usage.{Usage}

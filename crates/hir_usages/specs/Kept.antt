@@ -1,6 +1,7 @@
 -- What a rename keeps, and what a conflict is: what the paths of a body resolve to along the frames that
 -- are around them, whichever scopes were made of it.
-use Rattle.hir_usages.specs.Prelude.{All, ◌≡◌, ◌≢◌, ℕ, List, ◌∷◌, ◌++◌, Option, Some, None, ExprId, BindingId, ExprOrPatId, hygiene_of, BodyContents, entry_nodes_of_body, HasChain, Chain, Scopes}
+use Rattle.std.specs.Prelude.{◌≡◌, ◌≢◌, ◌∷◌, ◌++◌}
+use Rattle.hir_usages.specs.Prelude.{All, ℕ, List, Option, Some, None, ExprId, BindingId, ExprOrPatId, hygiene_of, BodyContents, entry_nodes_of_body, HasChain, Chain, Scopes}
 use Rattle.hir_usages.specs.Renamed.{renamed_body}
 use Rattle.hir_usages.specs.Renames.{name_at, refusal, resolve_along}
 use Rattle.hir_usages.specs.Usages.{usages_of_body}

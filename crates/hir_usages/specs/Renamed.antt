@@ -1,5 +1,6 @@
 -- The body in which a binding has a new name, and so have the paths of its uses.
-use Rattle.hir_usages.specs.Prelude.{ℕ, zero, suc, List, [], ◌∷◌, fold, map, Name, ExprOrPatId, BindingId, one_name, Path, Binding, Expr, Pat, Nodes, Contents, BodyContents, Scopes}
+use Rattle.std.specs.Prelude.{◌∷◌}
+use Rattle.hir_usages.specs.Prelude.{ℕ, zero, suc, List, [], fold, map, Name, ExprOrPatId, BindingId, one_name, Path, Binding, Expr, Pat, Nodes, Contents, BodyContents, Scopes}
 use Rattle.hir_path.specs.declared.ids.ExprOrPatId.TheVariants.{ExprId, PatId}
 use Rattle.hir_usages.specs.Usages.{usages_of, usages_of_body}
 use Rattle.hir_usages.specs.declared.usage.Usage.{Usage}

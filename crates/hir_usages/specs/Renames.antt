@@ -1,7 +1,7 @@
 -- The rename of a binding: what each use resolves to afterwards, and the first reason why there is none.
-use Rattle.hir_usages.specs.Prelude.{list_any, option_or, List, [], ◌∷◌, Option, Some, None, Bool, true, false, ◌==◌, ◌&&◌, ◌||◌, map, not, codes, option_map, slice_get, Name, SyntaxContext, ExprOrPatId, ExprId, BindingId, Binding, Expr, Pat, Nodes, Contents, hygiene_of, BodyContents, Param, Frame, Chain, local_name, binding_at, binding_of, target_binding_at, chain, matches, resolve, Scope, Scopes, ScopeEntry}
+use Rattle.hir_usages.specs.Prelude.{list_any, option_or, List, [], Option, Some, None, Bool, true, false, map, not, codes, option_map, slice_get, Name, SyntaxContext, ExprOrPatId, ExprId, BindingId, Binding, Expr, Pat, Nodes, Contents, hygiene_of, BodyContents, Param, Frame, Chain, local_name, binding_at, binding_of, target_binding_at, chain, matches, resolve, Scope, Scopes, ScopeEntry}
 use Rattle.std.specs.FinMap as map
-use Rattle.std.specs.Prelude.{if◌then◌else◌}
+use Rattle.std.specs.Prelude.{◌∷◌, ◌==◌, ◌&&◌, ◌||◌, if◌then◌else◌}
 use Rattle.hir_base.specs.contracts.name.NamePartialEq.TheImpl as names
 use Rattle.hir_path.specs.declared.ids.ExprOrPatId.TheVariants as either
 use Rattle.hir_usages.specs.Usages.{resolves_to, usages_of_body}

@@ -1,5 +1,6 @@
 -- The uses of a body, what each resolves to, and the bindings that no use resolves to.
-use Rattle.hir_usages.specs.Prelude.{flat_map, filter, list_any, option_to_list, List, [], ◌∷◌, ◌++◌, Option, Some, None, Bool, false, ◌==◌, not, option_map, is_some, slice_get, Name, ExprOrPatId, ExprId, PatId, BindingId, Expr, NodeId, Pat, Nodes, Contents, bindings_at, BodyContents, local_name, binding_at, target_binding_at, Scopes, each_once, Spot}
+use Rattle.std.specs.Prelude.{◌∷◌, ◌++◌, ◌==◌}
+use Rattle.hir_usages.specs.Prelude.{flat_map, filter, list_any, option_to_list, List, [], Option, Some, None, Bool, false, not, option_map, is_some, slice_get, Name, ExprOrPatId, ExprId, PatId, BindingId, Expr, NodeId, Pat, Nodes, Contents, bindings_at, BodyContents, local_name, binding_at, target_binding_at, Scopes, each_once, Spot}
 use Rattle.hir_path.specs.declared.ids.ExprOrPatId.TheVariants as either
 use Rattle.hir_usages.specs.Visits.{visits}
 use Rattle.hir_usages.specs.declared.usage.Usage.{Usage}

@@ -1,6 +1,6 @@
 -- The names that are visible along a chain: what completion offers.
-use Rattle.hir_usages.specs.Prelude.{list_any, List, [], ◌∷◌, ◌++◌, fold, Chain, entries_of, matches, ScopeEntry}
-use Rattle.std.specs.Prelude.{if◌then◌else◌}
+use Rattle.hir_usages.specs.Prelude.{list_any, List, [], fold, Chain, entries_of, matches, ScopeEntry}
+use Rattle.std.specs.Prelude.{◌∷◌, ◌++◌, if◌then◌else◌}
 
 -- an entry is added where none has its name and its hygiene
 abbrev pub with_new_name : List ScopeEntry → ScopeEntry → List ScopeEntry

@@ -1,6 +1,7 @@
 -- The walk over a body in the order in which scopes are made: each node, and then its children, also those
 -- in constants and in types.
-use Rattle.hir_usages.specs.Prelude.{flat_map, List, [], ◌∷◌, Option, None, ExprId, children, NodeId, fold_down, Nodes, BodyContents, entry_nodes, form_of, met_in_form, Spot, spot, assignment_at, of_pattern}
+use Rattle.std.specs.Prelude.{◌∷◌}
+use Rattle.hir_usages.specs.Prelude.{flat_map, List, [], Option, None, ExprId, children, NodeId, fold_down, Nodes, BodyContents, entry_nodes, form_of, met_in_form, Spot, spot, assignment_at, of_pattern}
 
 -- the children of a node, in that order
 abbrev pub children_in_order : Nodes → NodeId → List NodeId

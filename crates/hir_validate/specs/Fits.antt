@@ -1,5 +1,6 @@
 -- Defines when a path, generic arguments or a bound fit a store.
-use Rattle.hir_validate.specs.Prelude.{Bool, ◌&&◌, list_all, Path, GenericArgs, TypeBound, path_calls, args_calls, bound_calls}
+use Rattle.std.specs.Prelude.{◌&&◌}
+use Rattle.hir_validate.specs.Prelude.{Bool, list_all, Path, GenericArgs, TypeBound, path_calls, args_calls, bound_calls}
 use Rattle.hir_validate.specs.Sizes.{is_in_range}
 use Rattle.hir_validate.specs.TestedParts.{is_path_at, path_paths, args_paths, bound_paths, path_gives_self, args_give_self, one_list_each}
 use Rattle.hir_validate.specs.Nodes.{Nodes, sizes_of}

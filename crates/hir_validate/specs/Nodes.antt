@@ -1,7 +1,8 @@
 -- Defines the nodes of a store, by their ids, and the graph of their children.
 -- Lists of expressions, patterns and types, and of bindings, labels and lifetimes: the struct `Nodes`, which a
 -- contract sees as the record of its six lists, `exprs`, `pats`, `types`, `bindings`, `labels` and `lifetimes`.
-use Rattle.hir_validate.specs.Prelude.{ℕ, List, [], ◌++◌, map, length, slice_get, Call, expr_calls, pat_calls, type_calls, opt, children, NodeId}
+use Rattle.std.specs.Prelude.{◌++◌}
+use Rattle.hir_validate.specs.Prelude.{ℕ, List, [], map, length, slice_get, Call, expr_calls, pat_calls, type_calls, opt, children, NodeId}
 use Rattle.hir_node.specs.declared.node_id.NodeId.TheVariants as node
 use Rattle.hir_validate.specs.declared.sizes.Sizes.{Sizes}
 use Rattle.hir_validate.specs.Sizes.{HasNode, places}

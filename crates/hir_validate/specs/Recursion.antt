@@ -1,6 +1,7 @@
 -- Defines recursion over a store: a rank that decreases from each node to its children, and definitions of a
 -- node's value by its children' values.
-use Rattle.hir_validate.specs.Prelude.{◌≡◌, ◌<◌, ℕ, zero, suc, List, [], ◌∷◌, ⊤, Contains, height, NodeId}
+use Rattle.std.specs.Prelude.{◌≡◌, ◌<◌, ◌∷◌}
+use Rattle.hir_validate.specs.Prelude.{ℕ, zero, suc, List, [], ⊤, Contains, height, NodeId}
 use Rattle.hir_validate.specs.Sizes.{place}
 use Rattle.hir_validate.specs.Nodes.{Nodes, sizes_of, Has, children_of, graph}
 

@@ -1,6 +1,7 @@
 -- Defines the sizes of the arenas, which ids are in range, and the places of nodes in the order of all:
 -- expressions, then patterns, then types.
-use Rattle.hir_validate.specs.Prelude.{ℕ, Bool, ◌+◌, ◌-◌, ◌<◌, ◌≤◌, List, map, nat_lt, cond, Call, OnExpr, OnAnonConst, OnPat, OnType, OnLifetime, children, NodeId}
+use Rattle.std.specs.Prelude.{◌+◌, ◌-◌, ◌<◌, ◌≤◌}
+use Rattle.hir_validate.specs.Prelude.{ℕ, Bool, List, map, nat_lt, cond, Call, OnExpr, OnAnonConst, OnPat, OnType, OnLifetime, children, NodeId}
 use Rattle.hir_validate.specs.declared.sizes.Sizes.{Sizes}
 use Rattle.hir_node.specs.declared.node_id.NodeId.TheVariants as node
 

@@ -1,5 +1,6 @@
 -- Defines what is true of each node and of the roots of a store without a fault.
-use Rattle.hir_validate.specs.Prelude.{◌≢◌, ◌<◌, ℕ, suc, IsTrue, length, slice_index, LiesUnder, root_nodes, EndsFit, ends_before}
+use Rattle.std.specs.Prelude.{◌≢◌, ◌<◌}
+use Rattle.hir_validate.specs.Prelude.{ℕ, suc, IsTrue, length, slice_index, LiesUnder, root_nodes, EndsFit, ends_before}
 use Rattle.hir_validate.specs.TestedParts.{TestedParts, ids_in_range, names_paths, gives_self, lists_fit}
 use Rattle.hir_validate.specs.Nodes.{Nodes, sizes_of, graph}
 use Rattle.hir_validate.specs.Faults.{RootedNodes, ends_of}

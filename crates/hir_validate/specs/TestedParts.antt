@@ -1,6 +1,7 @@
 -- Defines the parts of a node that are tested: its child calls, the other ids that it names, and what it
 -- holds, which is a path, generic arguments and bounds.
-use Rattle.hir_validate.specs.Prelude.{Bool, true, false, ◌&&◌, eqb, nat_lt, List, [], ◌∷◌, ◌++◌, Option, Some, None, length, slice_get, flat_map, is_some, option_and_then, list_all, TypeRefId, BindingId, LabelId, TypeBound, TypeRef, GenericArg, GenericArgs, GenericArgs-F, fold-GenericArgs, AssociatedTypeBinding-F, Path, Pat, Expr, Call, expr_calls, pat_calls, type_calls, expr_labels, pat_bindings}
+use Rattle.std.specs.Prelude.{◌&&◌, ◌∷◌, ◌++◌}
+use Rattle.hir_validate.specs.Prelude.{Bool, true, false, eqb, nat_lt, List, [], Option, Some, None, length, slice_get, flat_map, is_some, option_and_then, list_all, TypeRefId, BindingId, LabelId, TypeBound, TypeRef, GenericArg, GenericArgs, GenericArgs-F, fold-GenericArgs, AssociatedTypeBinding-F, Path, Pat, Expr, Call, expr_calls, pat_calls, type_calls, expr_labels, pat_bindings}
 use Rattle.hir_path.specs.declared.bound.TypeBound.TheVariants as bound
 use Rattle.hir_node.specs.declared.type_ref.TypeRef.TheVariants as type
 use Rattle.hir_path.specs.declared.path.Path.TheVariants as path

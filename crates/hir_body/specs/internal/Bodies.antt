@@ -1,5 +1,6 @@
 -- Beside Bodies.antt: what only contracts within this crate cite.
-use Rattle.hir_body.specs.Prelude.{◌≡◌, ◌⊎◌, ◌↔◌, List, Contains, NodeId, HasNode, MarkedNodes, IsIn}
+use Rattle.std.specs.Prelude.{◌≡◌, ◌⊎◌, ◌↔◌}
+use Rattle.hir_body.specs.Prelude.{List, Contains, NodeId, HasNode, MarkedNodes, IsIn}
 
 -- the set gains these nodes, and no other
 abbrev pub GainsAll : MarkedNodes → List NodeId → MarkedNodes → Type 0

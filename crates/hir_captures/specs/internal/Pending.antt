@@ -1,5 +1,6 @@
 -- The code of a closure that is still to be read: the tasks of child calls.
-use Rattle.hir_captures.specs.Prelude.{flat_map, AllByRecursion, List, [], ◌∷◌, Option, Some, None, ExprId, PatId, Call, OnExpr, OnAnonConst, OnPat, OnType, OnLifetime, NodeId, Nodes, Has}
+use Rattle.std.specs.Prelude.{◌∷◌}
+use Rattle.hir_captures.specs.Prelude.{flat_map, AllByRecursion, List, [], Option, Some, None, ExprId, PatId, Call, OnExpr, OnAnonConst, OnPat, OnType, OnLifetime, NodeId, Nodes, Has}
 use Rattle.hir_captures.specs.Uses.{Spot, code_under}
 use Rattle.hir_captures.specs.declared.tasks.Task.{Task}
 

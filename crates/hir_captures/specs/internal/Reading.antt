@@ -1,5 +1,6 @@
 -- The steps of the reading of a closure's code. Only contracts within this crate cite them.
-use Rattle.hir_captures.specs.Prelude.{flat_map, ◌≡◌, ◌-◌, ◌<◌, List, Option, fold, filter_map, length, ExprId, BindingId, Chain, chain, Scopes}
+use Rattle.std.specs.Prelude.{◌≡◌, ◌-◌, ◌<◌}
+use Rattle.hir_captures.specs.Prelude.{flat_map, List, Option, fold, filter_map, length, ExprId, BindingId, Chain, chain, Scopes}
 use Rattle.std.specs.FinMap as map
 use Rattle.hir_captures.specs.Captures.{resolve_outside, with_new}
 use Rattle.hir_captures.specs.Uses.{Use, spot_uses}

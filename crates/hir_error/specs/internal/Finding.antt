@@ -1,5 +1,6 @@
 -- What ids leave of the visitor that finds the first that doesn't exist. Only private clauses cite it.
-use Rattle.hir_error.specs.Prelude.{◌≡◌, List, [], ◌∷◌, option_or, Call}
+use Rattle.std.specs.Prelude.{◌≡◌, ◌∷◌}
+use Rattle.hir_error.specs.Prelude.{List, [], option_or, Call}
 use Rattle.hir_error.specs.declared.named_id.NamedId.{NamedId}
 use Rattle.hir_error.specs.declared.missing_ids.FirstMissing.{FirstMissing}
 use Rattle.hir_error.specs.NamedIds.{id_of_call, first_out_of_range}

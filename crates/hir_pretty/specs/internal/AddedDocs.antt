@@ -1,5 +1,6 @@
 -- Words of what is added beside the documents of definitions.
-use Rattle.hir_pretty.specs.Prelude.{ℕ, Bool, false, List, ◌++◌, get_or, codes, Option, Some, None, Result, Ok, Err, TypeRefId, Doc, text, t, when}
+use Rattle.std.specs.Prelude.{◌++◌}
+use Rattle.hir_pretty.specs.Prelude.{ℕ, Bool, false, List, get_or, codes, Option, Some, None, Result, Ok, Err, TypeRefId, Doc, text, t, when}
 
 -- what the type of an argument is printed as where its place is marked
 abbrev pub marked_docs : List Bool → ℕ × TypeRefId → List Doc

@@ -1,5 +1,6 @@
 -- Beside Variants.antt: what only contracts within this crate cite.
-use Rattle.hir_pretty.specs.Prelude.{◌≡◌, ℕ, Bool, List, Some, VariantId, Contents, Missing, NameLookups, print_env, first_missing, doc_list_pieces}
+use Rattle.std.specs.Prelude.{◌≡◌}
+use Rattle.hir_pretty.specs.Prelude.{ℕ, Bool, List, Some, VariantId, Contents, Missing, NameLookups, print_env, first_missing, doc_list_pieces}
 use Rattle.hir_store_core.specs.declared.missing.Missing.TheVariants as missing
 use Rattle.hir_pretty.specs.Bodies.{Parents}
 use Rattle.hir_pretty.specs.Variants.{without_fields}

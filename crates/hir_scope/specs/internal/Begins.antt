@@ -1,8 +1,8 @@
 -- The first state of the walk over a body or a signature: its scopes and its tasks. Only contracts within
 -- this crate cite it.
-use Rattle.hir_scope.specs.Prelude.{flat_map, ◌≡◌, ℕ, ◌<◌, suc, List, [], ◌∷◌, ◌++◌, Some, None, Contains, IfSome, length, slice_get, replicate, ExprId, PatId, e, p, opt, NodeId, Pat, root_nodes, RankDecreases, Nodes, Has, children_of, IsSoundNode, tested_pat, Contents, bindings_at, bindings_in, child_pats_of, nodes_under, BodyContents, AreBelow, formals_of, last_root, entry_nodes, root_entry_nodes}
+use Rattle.hir_scope.specs.Prelude.{flat_map, ℕ, suc, List, [], Some, None, Contains, IfSome, length, slice_get, replicate, ExprId, PatId, e, p, opt, NodeId, Pat, root_nodes, RankDecreases, Nodes, Has, children_of, IsSoundNode, tested_pat, Contents, bindings_at, bindings_in, child_pats_of, nodes_under, BodyContents, AreBelow, formals_of, last_root, entry_nodes, root_entry_nodes}
 use Rattle.std.specs.FinMap as map
-use Rattle.std.specs.Prelude.{option_map}
+use Rattle.std.specs.Prelude.{◌≡◌, ◌<◌, ◌∷◌, ◌++◌, option_map}
 use Rattle.hir_scope.specs.Scopes.{Scope, Scopes}
 use Rattle.hir_scope.specs.EntryNodes.{root_frame}
 use Rattle.hir_scope.specs.declared.scope.ScopeEntry.{ScopeEntry}

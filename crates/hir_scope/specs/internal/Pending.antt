@@ -1,6 +1,7 @@
 -- The work that a walk has still to do: the tasks of each scoping form, and the expressions that tasks will
 -- visit, each in its context.
-use Rattle.hir_scope.specs.Prelude.{flat_map, List, [], ◌∷◌, ◌++◌, map, Option, Some, None, ExprId, PatId, Call, OnExpr, OnAnonConst, OnPat, OnType, OnLifetime, e, t, opt, children, Item, MatchArm, Statement, NodeId, Nodes, StackItems, Defers}
+use Rattle.std.specs.Prelude.{◌∷◌, ◌++◌}
+use Rattle.hir_scope.specs.Prelude.{flat_map, List, [], map, Option, Some, None, ExprId, PatId, Call, OnExpr, OnAnonConst, OnPat, OnType, OnLifetime, e, t, opt, children, Item, MatchArm, Statement, NodeId, Nodes, StackItems, Defers}
 use Rattle.hir_scope.specs.Scopes.{ScopeId}
 use Rattle.hir_scope.specs.Chains.{InContext, child_in_context}
 use Rattle.hir_scope.specs.ScopingForms.{ScopingForm}

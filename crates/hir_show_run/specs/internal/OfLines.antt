@@ -1,5 +1,6 @@
 -- Nodes that lines make: each is written as the grammar has it.
-use Rattle.hir_show_run.specs.Prelude.{◌≡◌, List, Some, slice_get, ExprId, PatId, TypeRefId, Expr, Pat, TypeRef, Token, IsExpr, IsPat, IsType, Nodes}
+use Rattle.std.specs.Prelude.{◌≡◌}
+use Rattle.hir_show_run.specs.Prelude.{List, Some, slice_get, ExprId, PatId, TypeRefId, Expr, Pat, TypeRef, Token, IsExpr, IsPat, IsType, Nodes}
 
 -- a line makes this expression
 abbrev pub IsExprOfLine : Expr → Type 0

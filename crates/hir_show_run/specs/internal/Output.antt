@@ -1,5 +1,6 @@
 -- What the output of a run is modelled as, and what becomes of text that is put after what waits there.
-use Rattle.hir_show_run.specs.Prelude.{◌≡◌, ℕ, List, [], ◌++◌, Option, Bool, true, false, GName, AppendsPrefix, IsWrittenUpTo}
+use Rattle.std.specs.Prelude.{◌≡◌, ◌++◌}
+use Rattle.hir_show_run.specs.Prelude.{ℕ, List, [], Option, Bool, true, false, GName, AppendsPrefix, IsWrittenUpTo}
 use Rattle.hir_show_io.specs.declared.ends.Sink.{Ghosts}
 use Rattle.hir_show_run.specs.declared.output.Output as code
 

@@ -1,5 +1,6 @@
 -- Beside Parts.antt: what only contracts within this crate cite.
-use Rattle.hir_show_run.specs.Prelude.{[], ◌∷◌, ◌++◌, Bool, Some, is_some, expr_or_pat_code, Maker, building_of, and_root, some_roots, Param}
+use Rattle.std.specs.Prelude.{◌∷◌, ◌++◌}
+use Rattle.hir_show_run.specs.Prelude.{[], Bool, Some, is_some, expr_or_pat_code, Maker, building_of, and_root, some_roots, Param}
 use Rattle.std.specs.FinMap as map
 use Rattle.hir_show_grammar.specs.Makers as make
 use Rattle.hir_show_grammar.specs.LineEffects.{is_second as is_second_of}

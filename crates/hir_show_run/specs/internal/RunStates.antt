@@ -1,5 +1,6 @@
 -- Where a run is: what is read and not yet taken, what was written and what waits.
-use Rattle.hir_show_run.specs.Prelude.{◌≡◌, ◌+◌, ◌<◌, ◌^◌, ℕ, List, Bool, true, Option, Result, cond, length, LineState, LineFault, NextTakes, NextWrites, is_found, bytes_left}
+use Rattle.std.specs.Prelude.{◌≡◌, ◌+◌, ◌<◌, ◌^◌}
+use Rattle.hir_show_run.specs.Prelude.{ℕ, List, Bool, true, Option, Result, cond, length, LineState, LineFault, NextTakes, NextWrites, is_found, bytes_left}
 use Rattle.hir_show_io.specs.declared.ends.Source as source
 use Rattle.hir_show_io.specs.declared.ends.Sink as sink
 use Rattle.hir_show_run.specs.declared.output.Output as code

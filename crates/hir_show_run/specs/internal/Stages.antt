@@ -1,6 +1,7 @@
 -- What the parts of a run do, from one place to another: lines that make something, then sections of
 -- questions.
-use Rattle.hir_show_run.specs.Prelude.{◌≡◌, ◌≢◌, ◌⊎◌, ℕ, ◌+◌, Bool, true, false, List, [], ◌∷◌, ◌++◌, length, Option, None, Some, Result, Err, IfSome, ⊤, codes, Appends, list_all, LineState, ReadsLines, ReadsAll, ReadsPrefix, ReadsUntilFailure, AppendsPrefix, Line, Blank, Make, Ask, Bad, asks, line_of, makes, may_ask, Maker, line_asked, Question, FinishFault, BodyFault, BodyContents, body_fault, Contents, Building, contents_of, finish_fault}
+use Rattle.std.specs.Prelude.{◌≡◌, ◌≢◌, ◌⊎◌, ◌+◌, ◌∷◌, ◌++◌}
+use Rattle.hir_show_run.specs.Prelude.{ℕ, Bool, true, false, List, [], length, Option, None, Some, Result, Err, IfSome, ⊤, codes, Appends, list_all, LineState, ReadsLines, ReadsAll, ReadsPrefix, ReadsUntilFailure, AppendsPrefix, Line, Blank, Make, Ask, Bad, asks, line_of, makes, may_ask, Maker, line_asked, Question, FinishFault, BodyFault, BodyContents, body_fault, Contents, Building, contents_of, finish_fault}
 use Rattle.hir_show_run.specs.declared.fault.RunFault.{RunFault}
 use Rattle.hir_show_run.specs.declared.fault.RunFault.TheVariants.{Refused, BodyRefused, OutputFailed}
 use Rattle.hir_show_run.specs.Parts.{Parts, with_line}

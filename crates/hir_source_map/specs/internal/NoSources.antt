@@ -1,5 +1,6 @@
 -- Defines when a source map has nothing in its expression part, by each of its lookups.
-use Rattle.hir_source_map.specs.Prelude.{◌≡◌, [], None, ExprId, PatId, BindingId, LabelId}
+use Rattle.std.specs.Prelude.{◌≡◌}
+use Rattle.hir_source_map.specs.Prelude.{[], None, ExprId, PatId, BindingId, LabelId}
 use Rattle.std.specs.FinMap as map
 use Rattle.hir_source_map.specs.declared.source_map.ExpressionStoreSourceMap.{ExpressionStoreSourceMap}
 use Rattle.hir_source_map.specs.Sources.{Source}

@@ -1,6 +1,7 @@
 -- Where a node's anonymous constants are: whether an expression is one of them, without a look at lists that
 -- have none.
-use Rattle.hir_store_core.specs.Prelude.{◌==◌, Bool, false, Some, ExprId, Expr, Pat, TypeRef, args_calls, path_calls}
+use Rattle.std.specs.Prelude.{◌==◌}
+use Rattle.hir_store_core.specs.Prelude.{Bool, false, Some, ExprId, Expr, Pat, TypeRef, args_calls, path_calls}
 use Rattle.hir_node.specs.declared.expr_types.Array.TheVariants as array
 use Rattle.hir_node.specs.declared.expr.Expr.TheVariants as expr
 use Rattle.hir_node.specs.declared.pat.Pat.TheVariants as pat

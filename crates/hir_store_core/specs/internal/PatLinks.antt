@@ -1,5 +1,6 @@
 -- Beside PatLinks.antt: what only contracts within this crate cite.
-use Rattle.hir_store_core.specs.Prelude.{List, [], ◌∷◌, set, PatId}
+use Rattle.std.specs.Prelude.{◌∷◌}
+use Rattle.hir_store_core.specs.Prelude.{List, [], set, PatId}
 use Rattle.hir_store_core.specs.declared.pat_links.PatLink.{PatLink}
 use Rattle.hir_store_core.specs.declared.pat_links.PatLink.TheVariants.{Next, Last}
 

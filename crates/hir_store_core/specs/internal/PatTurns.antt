@@ -1,5 +1,6 @@
 -- The turns of a walk over the patterns of a pattern, and which turn comes after each.
-use Rattle.hir_store_core.specs.Prelude.{cond, eqb, List, [], ◌∷◌, ◌++◌, Option, Some, None, flat_map, ExprId, PatId, NodeId, Nodes, calls_of, fold_down}
+use Rattle.std.specs.Prelude.{◌∷◌, ◌++◌}
+use Rattle.hir_store_core.specs.Prelude.{cond, eqb, List, [], Option, Some, None, flat_map, ExprId, PatId, NodeId, Nodes, calls_of, fold_down}
 use Rattle.hir_node.specs.declared.node_id.NodeId.TheVariants as node
 use Rattle.hir_store_core.specs.declared.pat_links.PatLink.{PatLink}
 use Rattle.hir_store_core.specs.declared.pat_links.PatLink.TheVariants.{Next, Last, Alone}

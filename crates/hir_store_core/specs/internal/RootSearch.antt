@@ -1,5 +1,6 @@
 -- Beside RootSearch.antt: what only contracts within this crate cite.
-use Rattle.hir_store_core.specs.Prelude.{ℕ, ◌<◌, ◌≤◌, List, length, slice_index_or, Root, no_ends}
+use Rattle.std.specs.Prelude.{◌<◌, ◌≤◌}
+use Rattle.hir_store_core.specs.Prelude.{ℕ, List, length, slice_index_or, Root, no_ends}
 use Rattle.hir_store_core.specs.declared.root_search.EndOf.{EndOf}
 use Rattle.hir_store_core.specs.declared.root_search.EndOf.TheVariants as ends
 use Rattle.hir_store_core.specs.RootSearch.{end_of}

@@ -1,7 +1,7 @@
 -- A search around an expression: how it goes up, and at which expressions it ends, which are what it looks
 -- for and closures.
-use Rattle.hir_store_core.specs.Prelude.{Bool, ◌||◌, Option, Some, None, NodeId, Nodes}
-use Rattle.std.specs.Prelude.{if◌then◌else◌}
+use Rattle.hir_store_core.specs.Prelude.{Bool, Option, Some, None, NodeId, Nodes}
+use Rattle.std.specs.Prelude.{◌||◌, if◌then◌else◌}
 use Rattle.hir_store_core.specs.Ancestors.{parent}
 use Rattle.hir_store_core.specs.declared.jump_roles.JumpRole.{JumpRole}
 use Rattle.hir_store_core.specs.declared.jump_targets.Sought.{Sought}

@@ -1,5 +1,6 @@
 -- Marks of the numbers that are listed.
-use Rattle.hir_usages.specs.Prelude.{list_any, nat_cmp, ◌≡◌, ℕ, Bool, List, is_some, ◌==◌, BindingId}
+use Rattle.std.specs.Prelude.{◌≡◌, ◌==◌}
+use Rattle.hir_usages.specs.Prelude.{list_any, nat_cmp, ℕ, Bool, List, is_some, BindingId}
 use Rattle.std.specs.FinMap as map
 
 -- a number is listed

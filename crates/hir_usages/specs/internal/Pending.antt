@@ -1,5 +1,6 @@
 -- What is still to be visited: the tasks of child calls.
-use Rattle.hir_usages.specs.Prelude.{flat_map, AllByRecursion, List, [], ◌∷◌, Option, Some, None, ExprId, PatId, Call, OnExpr, OnAnonConst, OnPat, OnType, OnLifetime, NodeId, Nodes, Has, Spot}
+use Rattle.std.specs.Prelude.{◌∷◌}
+use Rattle.hir_usages.specs.Prelude.{flat_map, AllByRecursion, List, [], Option, Some, None, ExprId, PatId, Call, OnExpr, OnAnonConst, OnPat, OnType, OnLifetime, NodeId, Nodes, Has, Spot}
 use Rattle.hir_usages.specs.Visits.{visits_under}
 use Rattle.hir_usages.specs.declared.to_visit.Task.{Task}
 

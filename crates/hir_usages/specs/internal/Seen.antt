@@ -1,5 +1,6 @@
 -- The names and hygienes that some entries have.
-use Rattle.hir_usages.specs.Prelude.{list_any, ◌≡◌, ℕ, Bool, List, ◌&&◌, Name, SyntaxContext, matches, ScopeEntry}
+use Rattle.std.specs.Prelude.{◌≡◌, ◌&&◌}
+use Rattle.hir_usages.specs.Prelude.{list_any, ℕ, Bool, List, Name, SyntaxContext, matches, ScopeEntry}
 use Rattle.hir_base.specs.contracts.hygiene.HygieneIdPartialEq.TheImpl as hygienes
 use Rattle.hir_base.specs.contracts.name.NamePartialEq.TheImpl as names
 

@@ -1,6 +1,7 @@
 -- Defines how calls change the visitor that tests the ids of a node and notes the node as the parent of its
 -- children.
-use Rattle.hir_validate.specs.Prelude.{◌≡◌, ◌+◌, ◌<◌, ◌≤◌, ◌&&◌, ℕ, Bool, List, [], ◌∷◌, ◌++◌, IsTrue, length, map, with_children, IsParentageOf, Call}
+use Rattle.std.specs.Prelude.{◌≡◌, ◌+◌, ◌<◌, ◌≤◌, ◌&&◌, ◌∷◌, ◌++◌}
+use Rattle.hir_validate.specs.Prelude.{ℕ, Bool, List, [], IsTrue, length, map, with_children, IsParentageOf, Call}
 use Rattle.hir_validate.specs.declared.edges.EdgeVisitor.{EdgeVisitor}
 use Rattle.hir_validate.specs.Sizes.{Few, is_in_range, places}
 use Rattle.hir_validate.specs.TestedParts.{TestedParts, tested_expr, tested_pat, tested_type}

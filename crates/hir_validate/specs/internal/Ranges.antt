@@ -1,5 +1,6 @@
 -- Defines how each call changes the visitor that tests ids.
-use Rattle.hir_validate.specs.Prelude.{◌≡◌, ◌&&◌, Call}
+use Rattle.std.specs.Prelude.{◌≡◌, ◌&&◌}
+use Rattle.hir_validate.specs.Prelude.{Call}
 use Rattle.hir_validate.specs.declared.range.InRange.{InRange}
 use Rattle.hir_validate.specs.Sizes.{is_in_range}
 

@@ -1,5 +1,6 @@
 -- Defines the parts that a node holds, as the model of the code's references to them.
-use Rattle.hir_validate.specs.Prelude.{◌≡◌, Bool, true, false, List, Option, Some, None, option_copied, Path, TypeRef}
+use Rattle.std.specs.Prelude.{◌≡◌}
+use Rattle.hir_validate.specs.Prelude.{Bool, true, false, List, Option, Some, None, option_copied, Path, TypeRef}
 use Rattle.hir_path.specs.declared.path.Path.TheVariants as path
 use Rattle.hir_validate.specs.declared.type_parts.TypeParts.{TypeParts}
 use Rattle.hir_validate.specs.TestedParts.{HeldParts, names_paths, gives_self, lists_fit}
