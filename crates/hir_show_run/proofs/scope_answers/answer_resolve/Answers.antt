@@ -8,5 +8,5 @@ pub returns : goal.returns
 returns g c =
     let name = asked_text c.args.name.now c.args.hygiene in
     let meant = resolve_text (chain_by c.args.scopes.now c.args.id) c.args.name.now c.args.hygiene in
-    put_line g.W.Sink c.args.output.now c.put_asked.new.self c.put_meaning.new.output c.put.new.self (codes "resolve ") c.args.id (name ++ meant) c.put_asked.ensures
-    (put_then g.W.Sink c.put_asked.new.self c.put_asked_name.new.output c.put_meaning.new.output name meant c.put_asked_name.ensures c.put_meaning.ensures) c.put.ensures
+    put_line g.W.Sink c.args.output.now c.put_asked.new.self c.put_resolved.new.output c.put.new.self (codes "resolve ") c.args.id (name ++ meant) c.put_asked.ensures
+    (put_then g.W.Sink c.put_asked.new.self c.put_asked_name.new.output c.put_resolved.new.output name meant c.put_asked_name.ensures c.put_resolved.ensures) c.put.ensures
