@@ -28,7 +28,7 @@ answer_print-requires-clause-name_alone g c =
     let are : c.made-in-Print.result.now ≡ tables_of c.self.inside.name = rw c.made-in-Print.ensures at c.make_tables.ensures.are in
     are ∙ ap tables_of (sym (name_is c.made-in-Print.result.now c.self.inside.name are))
 
-pub returns-in_ok-make_tables-in-Print-clause-ok : goal.returns-in_ok-make_tables-clause-ok
+pub returns-in_ok-make_tables-in-Print-clause-ok : goal.returns-in_ok-make_tables-in-Print-clause-ok
 returns-in_ok-make_tables-in-Print-clause-ok g c =
     let are : c.made-in-Print.result.now ≡ tables_of c.self.inside.name = rw c.made-in-Print.ensures at c.make_tables.ensures.are in
     let named = name_is c.made-in-Print.result.now c.self.inside.name are in
