@@ -4,7 +4,7 @@ use Rattle.hir_text.specs.declared.buffered.BufferedSession.{BufferedSession}
 use Rattle.hir_text.specs.declared.lines.Outcome.{Outcome}
 use Rattle.hir_text.specs.Buffered.{kept, with_front, Asks}
 use Rattle.hir_text.specs.Sealed.{IsNew, SessionTakes}
-use Rattle.hir_text.specs.Taking.{TakesText}
+use Rattle.hir_text.specs.TakesText.{TakesText}
 use Rattle.hir_c.specs.declared.report.Report.{Report}
 use Rattle.hir_c.specs.Report.{status_of, is_taken, NamesLine, IsBlank}
 

@@ -6,7 +6,7 @@ use crate::repeats::push_line;
 use crate::report::{Place, Report};
 use std::alloc::{AllocError, Global};
 
-/// A row of a file: what it stands in, the number of its first line, and its lines.
+/// A golden case: its file, the number of its first line, and its lines.
 #[derive(Drop)]
 pub(crate) struct Row<'a> {
     file: &'a str,

@@ -6,7 +6,7 @@ use Rattle.hir_path.specs.declared.path.GenericArgs.{GenericArgs, GenericArgs-F,
 use Rattle.hir_path.specs.declared.path.AssociatedTypeBinding.{AssociatedTypeBinding, AssociatedTypeBinding-F, fold-AssociatedTypeBinding, out-AssociatedTypeBinding, fold_out-AssociatedTypeBinding}
 use Rattle.hir_path.specs.declared.path.AssociatedTypeBinding.TheShapes.{former-AssociatedTypeBinding-args}
 
--- of arguments that may be absent, where their size stands in their place
+-- of arguments that may be absent, one more than their size
 abbrev option_size : Option ℕ → ℕ
 option_size None = 0
 option_size (Some n) = n + 1
@@ -37,7 +37,7 @@ args_size_is x =
 pub bindings_smaller : (x : GenericArgs) → sum_by binding_size (out-GenericArgs x).bindings + 1 < args_size x
 bindings_smaller x = omega (arith, args_size_is x)
 
--- a binding is smaller than a list that it stands in
+-- a binding is smaller than a list that it is in
 pub binding_smaller : (bindings : List AssociatedTypeBinding) (i : ℕ) (d : AssociatedTypeBinding) → i < length bindings → binding_size (get_or bindings i d) < sum_by binding_size bindings + 1
 binding_smaller bindings i d lt = omega (arith, get_or-le-sum_by binding_size bindings i d lt)
 

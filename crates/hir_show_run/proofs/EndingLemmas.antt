@@ -66,7 +66,7 @@ module _ (input : List ℕ) (start : Output) (p : RunState) (built : Parts) (not
       record {
         texts = texts;
         last = p.lines.line;
-        here = refl;
+        line_is = refl;
         read = read;
         count = count;
         is = is;

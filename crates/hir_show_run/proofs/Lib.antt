@@ -14,7 +14,7 @@ pub mod ClosingLemmas
 pub mod ScriptLemmas
 pub mod MeaningLemmas
 pub mod WritingLemmas
-pub mod TakingLemmas
+pub mod TakenLineLemmas
 pub mod Texts
 pub mod Children
 pub mod BodyLemmas

@@ -18,7 +18,7 @@ use Rattle.hir_show_run.proofs.Scripts.{script-append, script-push, lines_after,
 pub record StandsAt (input : List ℕ) (p : RunState) (question : Question) (next : ℕ → List Line → Trace) (text : List ℕ) : Type 0 where
   pub texts : List (List ℕ)
   pub last : List ℕ
-  pub here : p.lines.line ≡ last
+  pub line_is : p.lines.line ≡ last
   pub read : ReadsLines (Some input) (texts ++ last ∷ []) (unread p) p.lines.at_end
   pub count : p.lines.count ≡ length texts + 1
   pub is : line_of last ≡ Ask question
@@ -32,7 +32,7 @@ pub stands_on : {input : List ℕ} {p : RunState} {question : Question} {text : 
 stands_on next other leads at = record {
   texts = at.texts;
   last = at.last;
-  here = at.here;
+  line_is = at.line_is;
   read = at.read;
   count = at.count;
   is = at.is;
@@ -76,4 +76,4 @@ module _ (input : List ℕ) (p : RunState) (question : Question) (next : ℕ →
   pub refused_there : (Wrote WrotePrefix : List ℕ → Type 0) (remaining : Option (List ℕ)) → Wrote text → EndsWith input Wrote WrotePrefix remaining p.lines (Err OutOfMemory)
   refused_there Wrote WrotePrefix remaining wrote =
       let suffix = all_lines in
-      (at.texts, at.last ∷ suffix.0, suffix.1 ∙ append_assoc at.texts (at.last ∷ []) suffix.0, subst (λ (l : List ℕ). IsRefusedAfter at.texts (at.last ∷ suffix.0) l p.lines.count) (sym at.here) (refused_asking at.texts suffix.0 at.last p.lines.count question at.is at.count), text, at.sound, wrote)
+      (at.texts, at.last ∷ suffix.0, suffix.1 ∙ append_assoc at.texts (at.last ∷ []) suffix.0, subst (λ (l : List ℕ). IsRefusedAfter at.texts (at.last ∷ suffix.0) l p.lines.count) (sym at.line_is) (refused_asking at.texts suffix.0 at.last p.lines.count question at.is at.count), text, at.sound, wrote)

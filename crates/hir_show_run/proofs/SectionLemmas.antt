@@ -111,7 +111,7 @@ module _ (input : List ℕ) (p : RunState) (question : Question) (may : Question
           record {
             texts = at.texts;
             last = at.last;
-            here = at.here;
+            line_is = at.line_is;
             read = at.read;
             count = at.count;
             is = at.is;
@@ -120,7 +120,7 @@ module _ (input : List ℕ) (p : RunState) (question : Question) (may : Question
             answers = λ more t outcome c. at.answers more t outcome (goes more t outcome c);
           } in
           (text, subst (λ (v : RunState). StandsAt input v left next text) (sym same) (subst (λ (l : Question). StandsAt input p l next text) (sym is) stays), subst (λ (v : RunState). Wrote start v.output text) (sym same) w)
-      section_left left (refuses, inr (texts, line, (answers, have, written), here, is, read, stays, counted)) =
+      section_left left (refuses, inr (texts, line, (answers, have, written), line_is, is, read, stays, counted)) =
           let joined = ReadsLines-joined (Some input) (unread p) (unread q) (at.texts ++ at.last ∷ []) (texts ++ line ∷ []) p.lines.at_end q.lines.at_end at.read read stays in
           let grouped : (at.texts ++ at.last ∷ []) ++ (texts ++ line ∷ []) ≡ taken texts ++ line ∷ [] = sym (append_assoc (at.texts ++ at.last ∷ []) texts (line ∷ [])) in
           let before : (more : List Line) → script at.texts ++ Ask question ∷ (says texts ++ Ask left ∷ more) ≡ script (taken texts) ++ Ask left ∷ more =
@@ -132,7 +132,7 @@ module _ (input : List ℕ) (p : RunState) (question : Question) (may : Question
             record {
               texts = taken texts;
               last = line;
-              here = sym here;
+              line_is = sym line_is;
               read = rw grouped at joined;
               count = omega (arith, counted, taken-length texts);
               is = is;

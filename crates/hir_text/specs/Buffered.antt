@@ -3,7 +3,7 @@ use Rattle.std.specs.Prelude.{◌≡◌, ℕ, List, ◌++◌, length, min, take,
 use Rattle.hir_text.specs.declared.buffered.BufferedSession.{BufferedSession}
 use Rattle.hir_text.specs.declared.lines.Outcome.{Outcome}
 use Rattle.hir_text.specs.Sealed.{SessionTakes}
-use Rattle.hir_text.specs.Taking.{TakesText}
+use Rattle.hir_text.specs.TakesText.{TakesText}
 
 -- the answers that weren't fetched yet
 abbrev pub kept : BufferedSession → List ℕ

@@ -2,4 +2,4 @@ pub mod AnswerLines
 pub mod Buffered
 pub mod Line
 pub mod Sealed
-pub mod Taking
+pub mod TakesText

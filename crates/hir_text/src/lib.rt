@@ -11,7 +11,7 @@ mod scope_cache;
 mod scopes;
 mod session;
 mod stop;
-mod taking;
+mod take_lines;
 mod text;
 mod texts;
 mod usages;

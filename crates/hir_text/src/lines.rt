@@ -30,7 +30,7 @@ pub(crate) fn cut_line(text: &[u8]) -> (&[u8], Option<&[u8]>)
 }
 
 impl Outcome {
-    ghost use Rattle.hir_text.specs.Taking.{after_answer};
+    ghost use Rattle.hir_text.specs.TakesText.{after_answer};
 
     /// How a text was taken so far, where the question in the line of this number was refused or not.
     pub(crate) fn after_answer(self, number: usize, is_refusal: bool) -> Outcome

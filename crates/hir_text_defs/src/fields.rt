@@ -13,7 +13,7 @@ fn opt_default<K>(words: &mut Words<'_>) -> Result<Option<Idx<K>>, TextError> {
     Ok(None)
 }
 
-/// What stands in the parentheses of a visibility.
+/// The words in the parentheses of a visibility.
 fn read_limit(words: &mut Words<'_>, alloc: Global) -> Result<RawVisibility, TextError> {
     match words.keyword() {
         b"crate" => Ok(RawVisibility::PubCrate),

@@ -103,7 +103,7 @@ fn read_next(
     Ok(true)
 }
 
-/// What stands in quotes, among which bytes may be written as `\xHH` where this says so.
+/// The text in quotes, in which bytes may be written as `\xHH` where this says so.
 fn read_quoted(
     words: &mut Words<'_>,
     alloc: Global,
@@ -146,7 +146,7 @@ fn write_hex(byte: u8, out: &mut String) -> Result<(), AllocError> {
     out.push(hex(byte % 16))
 }
 
-/// Writes a character as it stands in quotes.
+/// Writes a character in its quoted form.
 fn write_char(c: char, out: &mut String) -> Result<(), AllocError> {
     if let Some(letter) = letter_of(c) {
         out.push('\\')?;
@@ -174,7 +174,7 @@ pub(crate) fn write_quoted(text: &str, out: &mut String) -> Result<(), AllocErro
     out.push('"')
 }
 
-/// Writes a byte as it stands in quotes.
+/// Writes a byte in its quoted form.
 fn write_byte(byte: u8, out: &mut String) -> Result<(), AllocError> {
     match byte {
         0 | b'\t' | b'\n' | b'\r' | b' '..=b'~' => write_char(char::from(byte), out),

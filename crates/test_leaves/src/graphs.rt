@@ -1,7 +1,7 @@
 //! Graphs, each with its roots and the fault that it must have: a further case is one more entry of a table.
 //! The ends of roots have a table of their own, and the last test has 1,000,000 nodes.
 
-use crate::making::{Edge, chain, chain_and_cycle, fault_of, only_exprs};
+use crate::edges::{Edge, chain, chain_and_cycle, fault_of, only_exprs};
 use hir_forest::ForestFault::{
     Cycle, RootEnds, RootOutOfRange, RootRepeated, RootUnderRoot, SharedChild,
 };

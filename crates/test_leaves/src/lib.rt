@@ -5,11 +5,11 @@
 #![tactic(auto)]
 
 #[cfg(test)]
+mod edges;
+#[cfg(test)]
 mod fakes;
 #[cfg(test)]
 mod graphs;
-#[cfg(test)]
-mod making;
 #[cfg(test)]
 mod page_growths;
 #[cfg(test)]

@@ -1,6 +1,6 @@
 //! The descendants of marked nodes.
 
-use crate::making::{Edge, chain, parents_of};
+use crate::edges::{Edge, chain, parents_of};
 use std::alloc::{AllocError, Global};
 use std::test::Fail;
 

@@ -1,6 +1,6 @@
 use Rattle.std.proofs.Common.{refl}
 use Rattle.hir_show_grammar.specs.Line.{line_of}
-use Rattle.hir_show_run.proofs.TakingLemmas.{question_of}
+use Rattle.hir_show_run.proofs.TakenLineLemmas.{question_of}
 use Rattle.hir_show_run.proofs.asking.asked_by.Goals as goal
 
 pub returns-in-Ok : goal.returns-in-Ok

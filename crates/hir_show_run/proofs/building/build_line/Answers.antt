@@ -1,6 +1,6 @@
 use Rattle.std.proofs.Common.{refl}
 use Rattle.hir_show_grammar.specs.Line.{line_of}
-use Rattle.hir_show_run.proofs.TakingLemmas.{made_or_left, no_line, no_memory}
+use Rattle.hir_show_run.proofs.TakenLineLemmas.{made_or_left, no_line, no_memory}
 use Rattle.hir_show_run.proofs.building.build_line.Goals as goal
 
 pub returns-in-Ok : goal.returns-in-Ok

@@ -1,7 +1,7 @@
 //! The loop over the lines of a text, whose answers are written one after the other.
 
 ghost use Rattle.std.specs.Prelude.{◌≡◌, Ok, Some};
-ghost use Rattle.hir_text.specs.Taking.{Adds, DoesLine, TakesText};
+ghost use Rattle.hir_text.specs.TakesText.{Adds, DoesLine, TakesText};
 
 use crate::answers::write_lines;
 use crate::lines::{Outcome, cut_line};

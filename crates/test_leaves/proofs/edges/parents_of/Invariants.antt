@@ -1,8 +1,8 @@
 use Rattle.std.proofs.Common.{◌≡◌, length}
-use Rattle.test_leaves.proofs.making.add_chain.Given as goal
+use Rattle.test_leaves.proofs.edges.parents_of.Given as goal
 
 abbrev pub invariant-loop-node : goal.invariant-loop-node
 invariant-loop-node l = record {
-  nodes : length l.parents.parents ≡ length l.fn.parents.parents;
+  nodes : length l.parents.parents ≡ l.count;
   rows : l.parents.rows ≡ l.node;
 }
