@@ -2,7 +2,7 @@
 //! they were put.
 #![tactic(auto)]
 
-ghost use Rattle.std.specs.Prelude.{◌≡◌, ◌≤◌, List, [], ◌∷◌, ◌++◌, false, IfSome, None, OnErr, OnOk, drop, length, reverse, take};
+ghost use Rattle.std.specs.Prelude.{◌≡◌, ◌≤◌, List, [], ◌∷◌, ◌++◌, true, false, IfOk, IfSome, IsOk, None, OnErr, OnOk, drop, length, reverse, take};
 ghost use Rattle.hir_collections.specs.Stacks.{StackItems, Defers};
 
 use std::alloc::{AllocError, Global};
@@ -44,6 +44,19 @@ impl<T> Stack<T> {
         }
     }
 
+    /// Returns an empty stack with room for `capacity` items.
+    ///
+    /// Fails with `AllocError` where the allocation fails.
+    pub fn with_capacity(alloc: Global, capacity: usize) -> Result<Stack<T>, AllocError>
+        ensures ok { IfOk result (λ stack. stack ≡ record { items = []; refused = false }) }
+        ensures none_wanted { capacity ≡ 0 → IsOk result }
+    {
+        Ok(Stack {
+            items: Vec::with_capacity(alloc, capacity)?,
+            refused: None,
+        })
+    }
+
     /// Returns the number of items.
     pub fn len(&self) -> usize
         ensures { result ≡ length self.now.items }
@@ -82,9 +95,10 @@ impl<T> Stack<T> {
     /// Fails with `AllocError` where the allocation for an item that was put failed. The stack is of no use
     /// then.
     pub fn push_deferred(&mut self, below: usize) -> Result<(), AllocError>
-        ensures { OnOk result ((before : StackItems T) (items : List T)
+        ensures ok { OnOk result ((before : StackItems T) (items : List T)
             → length before.items ≡ below → Defers before items self.old
             → self.new ≡ record { items = items ++ before.items; refused = false }) }
+        ensures err { OnErr result (self.old.refused ≡ true) }
     {
         match self.refused {
             Some(refused) => Err(refused),

@@ -5,8 +5,8 @@ use Rattle.std.proofs.Math.Seq.{take-append_seam}
 use Rattle.hir_collections.proofs.DeferredLemmas.{turned}
 use Rattle.hir_collections.proofs.stack.Stack.push_deferred.Goals as goal
 
-pub returns-then-below-len : goal.returns-then-below-len
-returns-then-below-len g c = λ before pushed n defers.
+pub returns-then-below-len-clause-ok : goal.returns-then-below-len-clause-ok
+returns-then-below-len-clause-ok g c = λ before pushed n defers.
     let row = c.self.inside.items in
     let now = c.reverse_from.new.items in
     let has_room : is_some c.self.inside.refused ≡ false = ap is_some c.in-None.is in
