@@ -1,5 +1,5 @@
 -- What tasks will visit: of a form, and of the entry nodes of a body or a signature.
-use Rattle.std.proofs.Common.{◌≡◌, ℕ, List, [], ◌∷◌, ◌++◌, map, refl, sym, ap, ◌∙◌, append_assoc, Option, Some, None, suc, ◌<◌, ◌≤◌, length, arith}
+use Rattle.std.proofs.Common.{◌≡◌, ℕ, List, [], ◌∷◌, ◌++◌, map, refl, sym, ap, ◌∙◌, append_assoc, Option, Some, None}
 use Rattle.std.proofs.lemmas.List.{append-nil, map-append}
 use Rattle.std.proofs.lemmas.List.{Concat.flat_map-append, Elements.filter-append}
 use Rattle.std.specs.{List.flat_map, Option.option_to_list, Option.option_map}
@@ -15,7 +15,6 @@ use Rattle.hir_scope.specs.ChildContexts.{ChildContext, call_child_context, in_t
 use Rattle.hir_scope.specs.EntryNodes.{root_frame, body_entry_nodes, signature_entry_nodes}
 use Rattle.hir_scope.specs.declared.tasks.CurrentScopes.{CurrentScopes}
 use Rattle.hir_scope.specs.declared.tasks.Task.{Task}
-use Rattle.hir_scope.specs.internal.Begins.{root_tasks}
 use Rattle.hir_scope.specs.internal.Pending.{tasks_of, arm_task, one_arm, arm_with, leave, statement_tasks, form_tasks, opened_frames, opened_const_frames, future}
 use Rattle.hir_scope.specs.internal.ContextsUnder.{in_context, exprs_under}
 use Rattle.hir_scope.proofs.ChildLemmas.{children_in, turn_children}
@@ -86,7 +85,7 @@ module _ (s : Nodes) (chain : ℕ → Chain) where
       ∙ future_turn h k const_frames frames cs ts
 
   -- the same, on nothing
-  turn_bare : (h k : Chain) (cs : List Call) (ts : List Task) → exprs_under s (map (child_in_context h k) (in_turn s [] [] cs)) ++ future s chain (open_frames_of_calls (open_frames s) cs ++ h) k ts ≡ future s chain h k (tasks_of cs ++ ts)
+  pub turn_bare : (h k : Chain) (cs : List Call) (ts : List Task) → exprs_under s (map (child_in_context h k) (in_turn s [] [] cs)) ++ future s chain (open_frames_of_calls (open_frames s) cs ++ h) k ts ≡ future s chain h k (tasks_of cs ++ ts)
   turn_bare h k cs ts =
       ap (λ (c : Chain). exprs_under s (map (child_in_context h k) (in_turn s [] [] cs)) ++ future s chain (c ++ h) k ts) (sym (append-nil (open_frames_of_calls (open_frames s) cs)))
       ∙ future_turn h k [] [] cs ts
@@ -255,13 +254,14 @@ unfolding signature_entry_nodes
 signature_top_nodes [] = refl
 signature_top_nodes (root ∷ roots) = ap (λ (ns : List NodeId). NodeId.Expr root ∷ ns) (signature_top_nodes roots)
 
-pub signature_future : (s : Nodes) (chain : ℕ → Chain) (scope const_scope : Chain) (roots : List ℕ) → ((k : ℕ) → 0 < k → k ≤ length roots → chain k ≡ empty ∷ empty ∷ []) → future s chain scope const_scope (root_tasks roots) ≡ exprs_under s (signature_entry_nodes roots)
+pub signature_future : (s : Nodes) (chain : ℕ → Chain) (scope const_scope : Chain) (roots : List ℕ) → chain 0 ≡ empty ∷ [] →
+    future s chain scope const_scope (map Task.Root roots) ≡ exprs_under s (signature_entry_nodes roots)
 unfolding signature_entry_nodes future
 signature_future s chain scope const_scope [] h = sym (exprs_under-nil s)
 signature_future s chain scope const_scope (root ∷ roots) h =
     let c = empty ∷ empty ∷ [] in
-    let at : chain (suc (length roots)) ≡ c = h (suc (length roots)) (omega arith) (omega arith) in
-    ap (λ (x : Chain). exprs_under s (in_context (NodeId.Expr root) x x ∷ []) ++ future s chain (open_frames s (NodeId.Expr root) ++ x) x (root_tasks roots)) at
-    ∙ (ap (λ (ps : List InContext). exprs_under s (in_context (NodeId.Expr root) c c ∷ []) ++ ps)
-    (signature_future s chain (open_frames s (NodeId.Expr root) ++ c) c roots (λ k l m. h k l (omega (arith, m))))
+    let first = λ (x : Chain). exprs_under s (in_context (NodeId.Expr root) x x ∷ []) in
+    let rest = λ (x : Chain). future s chain (open_frames s (NodeId.Expr root) ++ x) x (map Task.Root roots) in
+    ap (λ (x : Chain). first (empty ∷ x) ++ rest (empty ∷ x)) h
+    ∙ (ap (λ (ps : List InContext). first c ++ ps) (signature_future s chain (open_frames s (NodeId.Expr root) ++ c) c roots h)
     ∙ sym (exprs_under-append s (in_context (NodeId.Expr root) c c ∷ []) (signature_entry_nodes roots)))

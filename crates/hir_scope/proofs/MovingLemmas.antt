@@ -13,12 +13,12 @@ use Rattle.hir_validate.proofs.SoundLemmas.{item_at}
 use Rattle.hir_scope.specs.Chains.{InContext, child_in_context, within_own}
 use Rattle.hir_scope.specs.ScopingForms.{ScopingForm, form_of}
 use Rattle.hir_scope.specs.ScopingForms as form
-use Rattle.hir_scope.specs.Frames.{Frame, Chain, frame, of_kind}
+use Rattle.hir_scope.specs.Frames.{Frame, Chain, frame, of_kind, empty}
 use Rattle.hir_scope.specs.{OpenFrames.open_frames, Paths.path, Paths.frame_at, Paths.chain}
 use Rattle.hir_scope.specs.{Scopes.Scope, Scopes.frame_of, Scopes.Scopes, Scopes.entry_count, ChildContexts.arm_child_contexts}
 use Rattle.hir_scope.specs.declared.scope.{ScopeEntry.ScopeEntry, ScopeKind.ScopeKind}
 use Rattle.hir_scope.specs.declared.{tasks.CurrentScopes.CurrentScopes, tasks.Task.Task, walk.Walk.Walk}
-use Rattle.hir_scope.specs.internal.WalkState.{with_next, chain_of, LeavesWithin, HasFrames, WalkState, frames_of_scope, frames_of_const_scope, future_of, about, AreInRange, IsReady, weight_left, one, count_entries, Over, Exceeds, turns_left, OpensScopes, Step, scope_within, ScopeAssigned, context_assigned, write_all, IsRight, WalkSteps, CountedStep}
+use Rattle.hir_scope.specs.internal.WalkState.{with_next, chain_of, LeavesWithin, HasFrames, WalkState, frames_of_scope, frames_of_const_scope, future_of, about, AreInRange, IsReady, weight_left, one, count_entries, Over, Exceeds, turns_left, Opens, OpensScopes, Step, scope_within, ScopeAssigned, context_assigned, write_all, IsRight, WalkSteps, CountedStep}
 use Rattle.hir_scope.specs.internal.Pending.{future, arm_with, opened_frames}
 use Rattle.hir_scope.specs.internal.ContextsUnder.{in_context, exprs_under}
 use Rattle.hir_scope.proofs.MemberLemmas.{sum_mapped, sum_ones}
@@ -68,6 +68,7 @@ frames_grown scopes grown more s frames e h =
 
 pub leaves_more : (m n : ℕ) (ts : List Task) → m ≤ n → LeavesWithin m ts → LeavesWithin n ts
 leaves_more m n [] l h = tt
+leaves_more m n (Task.Root id ∷ ts) l h = (omega (arith, l, h.0), leaves_more m n ts l h.1)
 leaves_more m n (Task.Leave a b ∷ ts) l h = (omega (arith, l, h.0), omega (arith, l, h.1), leaves_more m n ts l h.2)
 leaves_more m n (_ ∷ ts) l h = leaves_more m n ts l h
 
@@ -86,6 +87,13 @@ future_agrees s f g n agree h k (Task.Arm p x ∷ ts) l =
 future_agrees s f g n agree h k (Task.GuardedArm p y x ∷ ts) l =
     ap (λ (ps : List InContext). exprs_under s (map (child_in_context h k) (arm_child_contexts s [] (arm_with p x (Some y)))) ++ ps) (future_agrees s f g n agree h k ts l)
 future_agrees s f g n agree h k (Task.MacroDef id ∷ ts) l = future_agrees s f g n agree (of_kind (ScopeKind.MacroDef id) ∷ h) (of_kind (ScopeKind.MacroDef id) ∷ k) ts l
+future_agrees s f g n agree h k (Task.Root id ∷ ts) l =
+    let next = λ (c : Chain). exprs_under s (in_context (NodeId.Expr id) (empty ∷ c) (empty ∷ c) ∷ [])
+        ++ future s f (open_frames s (NodeId.Expr id) ++ (empty ∷ c)) (empty ∷ c) ts in
+    let outer = empty ∷ g 0 in
+    ap next (agree 0 l.0)
+    ∙ ap (λ (ps : List InContext). exprs_under s (in_context (NodeId.Expr id) outer outer ∷ []) ++ ps)
+    (future_agrees s f g n agree (open_frames s (NodeId.Expr id) ++ outer) outer ts l.1)
 future_agrees s f g n agree h k (Task.Leave a b ∷ ts) l =
     ap (λ (c : Chain). future s f c (f b) ts) (agree a l.0)
     ∙ (ap (λ (c : Chain). future s f (g a) c ts) (agree b l.1)
@@ -198,60 +206,52 @@ over_more fs f gs o =
       rises w = omega (arith, sum_by-append w fs (f ∷ []), sum_by-append w fs (f ∷ gs), sum_by-cons w f gs)
 
 module _ (s : Nodes) where
-  pub over_exceeds : (S : Scopes) (a : CurrentScopes) (ts : List Task) (fs : List Frame) → ((w : Frame → ℕ) → sum_by w fs ≤ weight_left s w ts) → Over (map frame_of S.scopes ++ fs) → Exceeds s (at S a ts)
-  over_exceeds S a ts fs h o =
-      ⊎_elim (λ l. inl (let x = h one in let y = sum_by-append one (map frame_of S.scopes) fs in omega (arith, l, x, y)))
-      (λ l. inr (let x = h count_entries in let y = sum_by-append count_entries (map frame_of S.scopes) fs in omega (arith, l, x, y))) o
+  pub over_exceeds : (m : WalkState) {fs : List Frame} → Over (map frame_of m.scopes.scopes ++ fs) →
+      ((w : Frame → ℕ) → sum_by w fs ≤ weight_left s w m.tasks) → Exceeds s m
+  over_exceeds m {fs} o h =
+      let all = λ (w : Frame → ℕ). sum_by-append w (map frame_of m.scopes.scopes) fs in
+      ⊎_elim (λ l. inl (let x = h one in let y = all one in omega (arith, l, x, y)))
+      (λ l. inr (let x = h count_entries in let y = all count_entries in omega (arith, l, x, y))) o
 
-  -- A task that is done
+  -- A task that is done, and leaves these tasks
 
   -- one that opens scopes
-  pub moves_opened : (S : Scopes) (a : CurrentScopes) (t : Task) (ts us : List Task) (new : WalkState) (fs gs : Chain) (met : List InContext) →
-      OpensScopes (at S a us) new fs gs → IsReady s (at S a (t ∷ ts)) → LeavesWithin (length S.scopes) us → AreInRange s (about us) →
-      future_of s (at S a (t ∷ ts)) ≡ met ++ future s (chain_of S.scopes) (fs ++ chain_of S.scopes a.scope) (gs ++ chain_of S.scopes a.const_scope) us →
-      ((w : Frame → ℕ) → weight_left s w (t ∷ ts) ≡ sum_by w (fs ++ gs) + weight_left s w us) →
-      turns_left s us < turns_left s (t ∷ ts) → Step s (at S a (t ∷ ts)) new met
-  moves_opened S a t ts us new fs gs met o r l k f w d =
-      let h = fs ++ chain_of S.scopes a.scope in
-      let c = gs ++ chain_of S.scopes a.const_scope in
+  pub moves_opened : {S : Scopes} {a b : CurrentScopes} {ts us vs : List Task} {new : WalkState} {fs gs : Chain} {made : List Frame} {met : List InContext} →
+      us ≡ vs → Opens (at S b us) new made fs gs → LeavesWithin (length S.scopes) vs → AreInRange s (about vs) →
+      future_of s (at S a ts) ≡ met ++ future s (chain_of S.scopes) (fs ++ chain_of S.scopes b.scope) (gs ++ chain_of S.scopes b.const_scope) vs →
+      ((w : Frame → ℕ) → weight_left s w ts ≡ sum_by w made + weight_left s w vs) →
+      turns_left s vs < turns_left s ts → Step s (at S a ts) new met
+  moves_opened {S} {a} {b} {ts} {us} {vs} {new} {fs} {gs} {made} {met} e o l k f w d =
+      let h = fs ++ chain_of S.scopes b.scope in
+      let c = gs ++ chain_of S.scopes b.const_scope in
       let N = new.scopes.scopes in
+      let left : new.tasks ≡ vs = o.tasks ∙ e in
+      let now : future_of s new ≡ future s (chain_of (S.scopes ++ o.more)) h c vs =
+      λ i. future s (chain_of (o.grows i)) (o.scope.is i) (o.const_scope.is i) (left i) in
       let long : length S.scopes ≤ length N = omega (arith, length-append S.scopes o.more, ap (length {A = Scope}) o.grows) in
       record {
         ready = record {
           scope = o.scope.within;
           const_scope = o.const_scope.within;
-          leaves = subst (LeavesWithin (length N)) (sym o.tasks) (leaves_more (length S.scopes) (length N) us long l);
-          known = subst (λ (ts : List Task). AreInRange s (about ts)) (sym o.tasks) k;
+          leaves = subst (LeavesWithin (length N)) (sym left) (leaves_more (length S.scopes) (length N) vs long l);
+          known = subst (λ (xs : List Task). AreInRange s (about xs)) (sym left) k;
         };
         more = o.more;
         grows = o.grows;
         same = o.same;
-        in_order = f ∙ ap (λ (ps : List InContext). met ++ ps)
-            (sym (future_agrees s (chain_of (S.scopes ++ o.more)) (chain_of S.scopes) (length S.scopes) (chain_kept S.scopes o.more) h c us l)
-            ∙ (ap (λ (xs : List Scope). future s (chain_of xs) h c us) (sym o.grows)
-            ∙ (ap (λ (x : Chain). future s (chain_of N) x c us) (sym o.scope.is)
-            ∙ (ap (λ (x : Chain). future s (chain_of N) (frames_of_scope new) x us) (sym o.const_scope.is)
-            ∙ ap (λ (vs : List Task). future s (chain_of N) (frames_of_scope new) (frames_of_const_scope new) vs) (sym o.tasks)))));
-        weights = λ v.
-            omega (arith, w v, o.frames v, frames_sum_grown v S.scopes N o.more o.grows, ap (weight_left s v) o.tasks);
-        shorter = subst (λ (vs : List Task). turns_left s vs < turns_left s (t ∷ ts)) (sym o.tasks) d;
+        in_order = f ∙ ap (λ (ps : List InContext). met ++ ps) (sym (now
+            ∙ future_agrees s (chain_of (S.scopes ++ o.more)) (chain_of S.scopes) (length S.scopes) (chain_kept S.scopes o.more) h c vs l));
+        weights = λ v. omega (arith, w v, o.frames v, frames_sum_grown v S.scopes N o.more o.grows, ap (weight_left s v) left);
+        shorter = subst (λ (xs : List Task). turns_left s xs < turns_left s ts) (sym left) d;
       }
 
   -- one that opens none
-  pub moves_still : (S : Scopes) (a b : CurrentScopes) (t : Task) (ts us : List Task) → IsReady s (at S a (t ∷ ts)) →
-      b.scope < length S.scopes → b.const_scope < length S.scopes → LeavesWithin (length S.scopes) us → AreInRange s (about us) →
-      future_of s (at S a (t ∷ ts)) ≡ future_of s (at S b us) → ((w : Frame → ℕ) → weight_left s w (t ∷ ts) ≡ weight_left s w us) →
-      turns_left s us < turns_left s (t ∷ ts) → Step s (at S a (t ∷ ts)) (at S b us) []
-  moves_still S a b t ts us r h c l k f w d =
-      record {
-        ready = record { scope = h; const_scope = c; leaves = l; known = k };
-        more = [];
-        grows = sym (append-nil S.scopes);
-        same = refl;
-        in_order = f;
-        weights = λ v. let e = w v in omega (arith, e);
-        shorter = d;
-      }
+  pub moves_still : {S : Scopes} {a b : CurrentScopes} {ts us vs : List Task} → us ≡ vs →
+      b.scope < length S.scopes → b.const_scope < length S.scopes → LeavesWithin (length S.scopes) vs → AreInRange s (about vs) →
+      future_of s (at S a ts) ≡ future_of s (at S b vs) → ((w : Frame → ℕ) → weight_left s w ts ≡ weight_left s w vs) →
+      turns_left s vs < turns_left s ts → Step s (at S a ts) (at S b us) []
+  moves_still {S} {b = b} {us = us} e h c l k f w d =
+      moves_opened e (opened_none (at S b us) h c) l k f (λ v. let x = w v in omega (arith, x)) d
 
 -- 3. What a walk has done, from its start on.
 

@@ -3,7 +3,7 @@ use Rattle.std.proofs.Common.{◌≡◌, ℕ, List, ◌∷◌, refl, ap, ◌∙�
 use Rattle.std.proofs.lemmas.List.{append-nil}
 use Rattle.std.proofs.lemmas.List.{Concat.flat_map-append, Elements.filter-append}
 use Rattle.std.specs.List.{slice_get}
-use Rattle.hir_node.specs.{ChildCalls.Call, ChildCalls.pat_calls, ChildCalls.type_calls, Runs.Runs, Runs.no_call, Runs.a_call}
+use Rattle.hir_node.specs.{ChildCalls.Call, ChildCalls.pat_calls, Runs.Runs, Runs.no_call, Runs.a_call}
 use Rattle.hir_node.specs.declared.{expr.Expr.Expr, node_id.NodeId.NodeId, pat.Pat.Pat, type_ref.TypeRef.TypeRef}
 use Rattle.hir_validate.specs.{Recursion.RankDecreases, declared.node_arenas.Nodes.Nodes}
 use Rattle.hir_store_core.specs.Contents.{Contents}
@@ -44,18 +44,10 @@ defers_all {v} {w} (a_call {v = u} {c = c} {cs = cs} step rest) =
 
 -- 2. Visiting a node leaves what is to be found as it was.
 
-pub no_assignment : (id : ℕ) (x : Expr) → ((target value : ℕ) → x ≡ Expr.Assignment target value → ⊥) → None ≡ if_assignment id (Some x)
-no_assignment id (Expr.Assignment target value) h = absurd (h target value refl)
-no_assignment id _ h = refl
-
 -- the pattern of a task is in range
 pub pat_in_range : (s : Nodes) (a : Option ℕ) (id : ℕ) (rest : List Task) → AreInRange s (pat_task a id ∷ rest) → id < length s.pats
 pat_in_range s None id rest h = h.0
 pat_in_range s (Some a) id rest h = h.0
-
-type_met : (x : TypeRef) → type_calls x ≡ met_in_form (type_form x)
-type_met (TypeRef.PatternType ty pat) = refl
-type_met _ = refl
 
 abbrev listed : List Usage → List ℕ → FoundLists
 listed usages bound = record { usages = usages; bound = bound }
@@ -159,12 +151,10 @@ module _ (w : Walk) where
       (deferred ∙ ap (λ (o : Option Pat). tasks_of (Some a) (met_in_form (form_at pat_form o)) ++ rest) (sym is))
 
   pub visit_type : RankDecreases c.nodes → (id : ℕ) (x : TypeRef) (rest new : List Task) (before : FoundLists) → slice_get c.nodes.types id ≡ Some x → AreInRange c.nodes (Task.Type id ∷ rest) →
-      new ≡ tasks_of None (type_calls x) ++ rest → Reads w before (Task.Type id ∷ rest) before new
+      new ≡ tasks_of None (met_in_form (type_form x)) ++ rest → Reads w before (Task.Type id ∷ rest) before new
   visit_type fall id x rest new before is in_range deferred =
       visit_one fall (Task.Type id) rest new before before in_range (sym (append-nil before.usages)) (sym (append-nil before.bound))
-      (deferred
-      ∙ (ap (λ (cs : List Call). tasks_of None cs ++ rest) (type_met x)
-      ∙ ap (λ (o : Option TypeRef). tasks_of None (met_in_form (form_at type_form o)) ++ rest) (sym is)))
+      (deferred ∙ ap (λ (o : Option TypeRef). tasks_of None (met_in_form (form_at type_form o)) ++ rest) (sym is))
 
 -- 3. What one node adds.
 

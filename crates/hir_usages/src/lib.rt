@@ -2,7 +2,6 @@
 //! nothing uses, what is visible in a scope, and which uses change when a binding is renamed.
 #![tactic(auto)]
 
-mod distinct;
 mod found;
 mod groups;
 pub mod laws;

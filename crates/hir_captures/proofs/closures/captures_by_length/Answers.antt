@@ -13,5 +13,5 @@ returns-clause-captures c =
     are_by_length c.args.body.now code c.args.closure c.in-Some.scope c.into_bindings.result.items c.store-store.ensures c.depth.ensures c.in-Some.ensures.some
     (c.into_bindings.ensures
     ∙ (c.in_ok-read_all.ensures.found
-    ∙ (ap (λ (xs : List ℕ). with_code code xs c.push.new.self.items) c.in_ok-found.ensures.ok
+    ∙ (ap (λ (xs : List ℕ). with_code code xs c.push.new.self.items) c.in_ok-found.ensures
     ∙ ap (with_code code []) one)))

@@ -51,7 +51,7 @@ returns-in-MacroDef-clause-goes c =
     let ready = subst (λ (t : Task). IsReady s (with_next w t)) c.in-MacroDef.is c.requires.ready in
     let new = state c.open_both.new.self in
     goes_task s w c.args.task _ c.args.steps.now c.open_both.result new c.in-MacroDef.is
-    (on_ok_weaker c.open_both.result (λ o. macro_moves s w.scopes w.current c.in-MacroDef.id w.tasks.stack.items new o ready) c.open_both.ensures.opened)
+    (on_ok_weaker c.open_both.result (λ o. macro_moves s w c.in-MacroDef.id o ready) c.open_both.ensures.opened)
 
 pub returns-in-MacroDef-clause-full : goal.returns-in-MacroDef-clause-full
 returns-in-MacroDef-clause-full c = λ h.
@@ -59,7 +59,7 @@ returns-in-MacroDef-clause-full c = λ h.
     let s = c.args.store.now.nodes in
     let f = of_kind (ScopeKind.MacroDef c.in-MacroDef.id) in
     let o : Over (map frame_of w.scopes.scopes ++ f ∷ f ∷ []) = search rules in
-    let exceeds = macro_over s w.scopes w.current c.in-MacroDef.id w.tasks.stack.items o in
+    let exceeds = macro_over s w c.in-MacroDef.id o in
     subst (λ (t : Task). Exceeds s (with_next w t)) (sym c.in-MacroDef.is) exceeds
 
 pub returns-in-Leave-clause-goes : goal.returns-in-Leave-clause-goes
@@ -68,4 +68,8 @@ returns-in-Leave-clause-goes c =
     let s = c.args.store.now.nodes in
     let ready = subst (λ (t : Task). IsReady s (with_next w t)) c.in-Leave.is c.requires.ready in
     let outer : CurrentScopes = record { scope = c.in-Leave.scope; const_scope = c.in-Leave.const_scope } in
-    goes_task s {E = Unit {0}} w c.args.task _ c.args.steps.now (Ok tt) _ c.in-Leave.is (leave_moves s w.scopes w.current outer w.tasks.stack.items ready)
+    goes_task s {E = Unit {0}} w c.args.task _ c.args.steps.now (Ok tt) _ c.in-Leave.is (leave_moves s w outer ready)
+
+pub returns-in-Root-clause-goes : goal.returns-in-Root-clause-goes
+returns-in-Root-clause-goes c =
+    goes_task c.args.store.now.nodes c.args.self.now c.args.task _ c.args.steps.now c.enter_root.result (state c.enter_root.new.self) c.in-Root.is c.enter_root.ensures.moves
