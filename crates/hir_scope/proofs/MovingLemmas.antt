@@ -89,7 +89,7 @@ future_agrees s f g n agree h k (Task.GuardedArm p y x ∷ ts) l =
 future_agrees s f g n agree h k (Task.MacroDef id ∷ ts) l = future_agrees s f g n agree (of_kind (ScopeKind.MacroDef id) ∷ h) (of_kind (ScopeKind.MacroDef id) ∷ k) ts l
 future_agrees s f g n agree h k (Task.Root id ∷ ts) l =
     let next = λ (c : Chain). exprs_under s (in_context (NodeId.Expr id) (empty ∷ c) (empty ∷ c) ∷ [])
-        ++ future s f (open_frames s (NodeId.Expr id) ++ (empty ∷ c)) (empty ∷ c) ts in
+    ++ future s f (open_frames s (NodeId.Expr id) ++ (empty ∷ c)) (empty ∷ c) ts in
     let outer = empty ∷ g 0 in
     ap next (agree 0 l.0)
     ∙ ap (λ (ps : List InContext). exprs_under s (in_context (NodeId.Expr id) outer outer ∷ []) ++ ps)

@@ -4,9 +4,7 @@ ghost use Rattle.std.specs.Prelude.{◌≡◌};
 ghost use Rattle.hir_scope.specs.ScopingForms.{expr_form, form_model, pat_form, type_form};
 
 use hir_base::BlockId;
-use hir_node::{
-    Expr, ExprId, LabelId, MatchArm, Pat, PatId, Path, Statement, TypeRef, TypeRefId,
-};
+use hir_node::{Expr, ExprId, LabelId, MatchArm, Pat, PatId, Path, Statement, TypeRef, TypeRefId};
 
 /// The scoping form of a node, with its parts. A node of the first eight forms gives its children scopes by
 /// a rule of its own, any other visits its children in turn.
@@ -17,21 +15,11 @@ pub enum Form<'a> {
     /// `let` in a condition: the pattern, the expression that it is matched with.
     Let(PatId, ExprId),
     /// A block: its id, its label, its statements, its tail.
-    Block(
-        Option<BlockId>,
-        Option<LabelId>,
-        &'a [Statement],
-        Option<ExprId>,
-    ),
+    Block(Option<BlockId>, Option<LabelId>, &'a [Statement], Option<ExprId>),
     /// A loop: its label, its body.
     Loop(Option<LabelId>, ExprId),
     /// A closure: the types of its arguments, its return type, its arguments, its body.
-    Closure(
-        &'a [Option<TypeRefId>],
-        Option<TypeRefId>,
-        &'a [PatId],
-        ExprId,
-    ),
+    Closure(&'a [Option<TypeRefId>], Option<TypeRefId>, &'a [PatId], ExprId),
     /// A match: the scrutinee, the arms.
     Match(ExprId, &'a [MatchArm]),
     /// An assignment: the target, the value.
