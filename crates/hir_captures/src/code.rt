@@ -120,7 +120,7 @@ impl<'a> Code<'a> {
         self.ask_expr(found, id)?;
         let expr = &self.store[id];
         let form = Form::of_expr(expr);
-        unread.push_in(form, if_assignment(id, expr))?;
+        unread.push_in(&form, if_assignment(id, expr))?;
         Ok(())
     }
 
@@ -144,7 +144,7 @@ impl<'a> Code<'a> {
         let target = assignment;
         self.ask_pat(found, id, assignment)?;
         let form = Form::of_pat(&self.store[id]);
-        unread.push_in(form, target)?;
+        unread.push_in(&form, target)?;
         Ok(())
     }
 

@@ -71,11 +71,11 @@ impl Tasks {
     /// assignment, or in none.
     pub(crate) fn push_in(
         &mut self,
-        form: Form<'_>,
+        form: &Form<'_>,
         assignment: Option<ExprId>,
     ) -> Result<(), CapturesFault>
         ensures ok { OnOk result (self.new.stack.items
-            ≡ tasks_of assignment (met_in_form (form_model form.entry)) ++ self.old.stack.items) }
+            ≡ tasks_of assignment (met_in_form (form_model form.now)) ++ self.old.stack.items) }
         ensures memory { OnErr result (result ≡ Err CapturesFault.Memory) }
     {
         let below = self.stack.len();

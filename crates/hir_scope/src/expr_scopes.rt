@@ -205,6 +205,8 @@ impl ExprScopes {
     ///
     /// Returns `Full` exactly where there would be more than `MOST_ITEMS` scopes or entries, and `Memory`
     /// where an allocation fails. Either leaves the scopes and the entries as they were.
+    // Always inlined: see `add_entry`.
+    #[inline(always)]
     pub(crate) fn new_scope(
         &mut self,
         parent: Option<ScopeId>,

@@ -106,25 +106,25 @@ impl Walk {
     pub(crate) fn open_inside(
         &mut self,
         store: &ExpressionStore,
-        form: Form<'_>,
+        form: &Form<'_>,
     ) -> Result<(), ScopesFault>
-        requires in_range { AreInRange store.now.nodes (children (met_in_form (form_model form))) }
+        requires in_range { AreInRange store.now.nodes (children (met_in_form (form_model form.now))) }
         requires scope { self.old.current.scope < length self.old.scopes.scopes }
         requires const_scope { self.old.current.const_scope < length self.old.scopes.scopes }
         ensures opened { IfOk result (λ _. OpensScopes (state self.old) (state self.new)
-            (opened_frames store.now.nodes (form_model form.entry))
-            (opened_const_frames (form_model form.entry))) }
+            (opened_frames store.now.nodes (form_model form.now))
+            (opened_const_frames (form_model form.now))) }
         ensures full { result ≡ Err ScopesFault.Full → Over (map frame_of self.old.scopes.scopes
-            ++ (opened_frames store.now.nodes (form_model form.entry)
-            ++ opened_const_frames (form_model form.entry))) }
+            ++ (opened_frames store.now.nodes (form_model form.now)
+            ++ opened_const_frames (form_model form.now))) }
         ensures missing { result ≡ Err ScopesFault.Missing → ⊥ }
     {
         match form {
             Form::If(_, _, _) => self.open(store, ScopeKind::None, &[]),
-            Form::Block(id, label, _, _) => self.open_block(store, id, label),
-            Form::Loop(label, _) => self.open(store, loop_kind(label), &[]),
-            Form::Closure(_, _, args, _) => self.open(store, ScopeKind::None, args),
-            Form::Assignment(target, _) => self.open(store, ScopeKind::None, &[target]),
+            Form::Block(id, label, _, _) => self.open_block(store, *id, *label),
+            Form::Loop(label, _) => self.open(store, loop_kind(*label), &[]),
+            Form::Closure(_, _, args, _) => self.open(store, ScopeKind::None, *args),
+            Form::Assignment(target, _) => self.open(store, ScopeKind::None, &[*target]),
             Form::Let(_, _) | Form::Match(_, _) | Form::PatternType(_, _) => Ok(()),
             Form::Leaf | Form::Expr(_) | Form::Pat(_) | Form::TypeRef(_) => Ok(()),
         }

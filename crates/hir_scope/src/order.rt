@@ -78,42 +78,42 @@ impl Visit for MatchArm {
 }
 
 /// Calls the visitor with each child of a node of this form, in the order in which scopes are made.
-pub fn visit_form<V: StoreVisitor>(form: Form<'_>, visitor: &mut V)
-    requires { MayRun V.may V.step visitor.old (met_in_form (form_model form)) }
-    ensures { Runs V.step visitor.old (met_in_form (form_model form.entry)) visitor.new }
+pub fn visit_form<V: StoreVisitor>(form: &Form<'_>, visitor: &mut V)
+    requires { MayRun V.may V.step visitor.old (met_in_form (form_model form.now)) }
+    ensures { Runs V.step visitor.old (met_in_form (form_model form.now)) visitor.new }
 {
     match form {
         Form::If(condition, then_branch, else_branch) => {
-            visitor.on_expr(condition);
-            visitor.on_expr(then_branch);
-            visitor.on_expr_opt(else_branch);
+            visitor.on_expr(*condition);
+            visitor.on_expr(*then_branch);
+            visitor.on_expr_opt(*else_branch);
         }
         Form::Let(pat, expr) => {
-            visitor.on_expr(expr);
-            visitor.on_pat(pat);
+            visitor.on_expr(*expr);
+            visitor.on_pat(*pat);
         }
         Form::Block(_, _, statements, tail) => {
-            visit_each(visitor, statements);
-            visitor.on_expr_opt(tail);
+            visit_each(visitor, *statements);
+            visitor.on_expr_opt(*tail);
         }
-        Form::Loop(_, body) => visitor.on_expr(body),
+        Form::Loop(_, body) => visitor.on_expr(*body),
         Form::Closure(arg_types, ret_type, args, body) => {
-            visit_each(visitor, arg_types);
-            visitor.on_type_opt(ret_type);
-            visitor.on_pats(args);
-            visitor.on_expr(body);
+            visit_each(visitor, *arg_types);
+            visitor.on_type_opt(*ret_type);
+            visitor.on_pats(*args);
+            visitor.on_expr(*body);
         }
         Form::Match(scrutinee, arms) => {
-            visitor.on_expr(scrutinee);
-            visit_each(visitor, arms);
+            visitor.on_expr(*scrutinee);
+            visit_each(visitor, *arms);
         }
         Form::Assignment(target, value) => {
-            visitor.on_pat(target);
-            visitor.on_expr(value);
+            visitor.on_pat(*target);
+            visitor.on_expr(*value);
         }
         Form::PatternType(inner, pat) => {
-            visitor.on_type(inner);
-            visitor.on_pat(pat);
+            visitor.on_type(*inner);
+            visitor.on_pat(*pat);
         }
         Form::Leaf => {}
         Form::Expr(expr) => expr.visit_children(visitor),
@@ -130,5 +130,5 @@ pub fn visit_in_scope_order<V: StoreVisitor>(expr: &Expr, visitor: &mut V)
     ensures { Runs V.step visitor.old (met_in_form (expr_form expr.now)) visitor.new }
 {
     let form = Form::of_expr(expr);
-    visit_form(form, visitor);
+    visit_form(&form, visitor);
 }

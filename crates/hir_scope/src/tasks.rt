@@ -184,28 +184,28 @@ impl Tasks {
     }
 
     /// Puts the tasks of what is inside a node of this form. Leaving the node restores `current`.
-    fn defer_in(&mut self, form: Form<'_>, current: CurrentScopes)
+    fn defer_in(&mut self, form: &Form<'_>, current: CurrentScopes)
         ensures { Runs DefersTask self.old.stack
-            (form_tasks current (form_model form.entry)) self.new.stack }
+            (form_tasks current (form_model form.now)) self.new.stack }
     {
         match form {
             Form::If(condition, then_branch, else_branch) => {
-                self.on_expr(condition);
-                self.on_expr(then_branch);
+                self.on_expr(*condition);
+                self.on_expr(*then_branch);
                 self.defer_leave(current);
-                self.on_expr_opt(else_branch);
+                self.on_expr_opt(*else_branch);
             }
             Form::Let(pat, expr) => {
-                self.on_expr(expr);
-                self.stack.defer(Task::Bound(pat));
+                self.on_expr(*expr);
+                self.stack.defer(Task::Bound(*pat));
             }
             Form::Block(_, _, statements, tail) => {
-                defer_each(self, statements);
-                self.on_expr_opt(tail);
+                defer_each(self, *statements);
+                self.on_expr_opt(*tail);
                 self.defer_leave(current);
             }
             Form::Loop(_, body) => {
-                self.on_expr(body);
+                self.on_expr(*body);
                 self.defer_leave(current);
             }
             Form::Closure(_, _, _, _) => {
@@ -213,17 +213,17 @@ impl Tasks {
                 self.defer_leave(current);
             }
             Form::Match(scrutinee, arms) => {
-                self.on_expr(scrutinee);
-                defer_each(self, arms);
+                self.on_expr(*scrutinee);
+                defer_each(self, *arms);
             }
             Form::Assignment(target, value) => {
-                self.on_pat(target);
+                self.on_pat(*target);
                 self.defer_leave(current);
-                self.on_expr(value);
+                self.on_expr(*value);
             }
             Form::PatternType(inner, pat) => {
-                self.on_type(inner);
-                self.stack.defer(Task::Bound(pat));
+                self.on_type(*inner);
+                self.stack.defer(Task::Bound(*pat));
                 self.defer_leave(current);
             }
             Form::Leaf => {}
@@ -237,11 +237,11 @@ impl Tasks {
     /// `current`.
     pub(crate) fn push_in(
         &mut self,
-        form: Form<'_>,
+        form: &Form<'_>,
         current: CurrentScopes,
     ) -> Result<(), ScopesFault>
         ensures ok { OnOk result (self.new.stack.items
-            ≡ form_tasks current (form_model form.entry) ++ self.old.stack.items) }
+            ≡ form_tasks current (form_model form.now) ++ self.old.stack.items) }
         ensures memory { OnErr result (result ≡ Err ScopesFault.Memory) }
     {
         if let Form::Leaf = form {

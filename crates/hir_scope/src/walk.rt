@@ -27,8 +27,8 @@ pub(crate) struct Walk {
 
 /// Returns the scope of an expression of this form: of a block the one inside it, of any other the one around
 /// it.
-fn scope_within(form: Form<'_>, inside: ScopeId, outside: ScopeId) -> ScopeId
-    ensures { result ≡ scope_within (form_model form.entry) inside outside }
+fn scope_within(form: &Form<'_>, inside: ScopeId, outside: ScopeId) -> ScopeId
+    ensures { result ≡ scope_within (form_model form.now) inside outside }
 {
     if let Form::Block(_, _, _, _) = form {
         return inside;
@@ -52,9 +52,9 @@ impl Walk {
         if let Form::Leaf = form {
             return Ok(outside);
         }
-        self.tasks.push_in(form, self.current)?;
-        self.open_inside(store, form)?;
-        Ok(scope_within(form, self.current.scope, outside))
+        self.tasks.push_in(&form, self.current)?;
+        self.open_inside(store, &form)?;
+        Ok(scope_within(&form, self.current.scope, outside))
     }
 
     /// Enters an anonymous constant.
@@ -81,7 +81,7 @@ impl Walk {
         store.has_no_fault();
         rank_decreases();
         let form = Form::of_pat(&store[pat]);
-        self.tasks.push_in(form, self.current)?;
+        self.tasks.push_in(&form, self.current)?;
         Ok(())
     }
 
@@ -102,7 +102,7 @@ impl Walk {
         self.tasks.push(Task::Leave(scope, const_scope))?;
         self.current.scope = const_scope;
         let form = Form::of_type(&store[type_ref]);
-        self.tasks.push_in(form, self.current)?;
+        self.tasks.push_in(&form, self.current)?;
         Ok(())
     }
 
@@ -118,7 +118,7 @@ impl Walk {
         store.has_no_fault();
         rank_decreases();
         let form = Form::of_pat(&store[bound]);
-        self.tasks.push_in(form, self.current)?;
+        self.tasks.push_in(&form, self.current)?;
         self.open(store, ScopeKind::None, &[bound])?;
         Ok(())
     }

@@ -76,11 +76,11 @@ impl ToVisit {
     /// assignment, or in none.
     pub(crate) fn push_in(
         &mut self,
-        form: Form<'_>,
+        form: &Form<'_>,
         assignment: Option<ExprId>,
     ) -> Result<(), AllocError>
         ensures { OnOk result (self.new.stack.items
-            ≡ tasks_of assignment (met_in_form (form_model form.entry)) ++ self.old.stack.items) }
+            ≡ tasks_of assignment (met_in_form (form_model form.now)) ++ self.old.stack.items) }
     {
         let below = self.stack.len();
         self.assignment = assignment;

@@ -171,7 +171,7 @@ impl<'a> Walk<'a> {
             return Ok(());
         }
         let form = Form::of_expr(expr);
-        unread.push_in(form, if_assignment(id, expr))?;
+        unread.push_in(&form, if_assignment(id, expr))?;
         Ok(())
     }
 
@@ -196,7 +196,7 @@ impl<'a> Walk<'a> {
         self.add_target(found, id, assignment)?;
         self.add_bound(found, id)?;
         let form = Form::of_pat(&self.store[id]);
-        unread.push_in(form, target)?;
+        unread.push_in(&form, target)?;
         Ok(())
     }
 
@@ -214,7 +214,7 @@ impl<'a> Walk<'a> {
         self.store.has_no_fault();
         rank_decreases();
         let form = Form::of_type(&self.store[id]);
-        unread.push_in(form, None)?;
+        unread.push_in(&form, None)?;
         Ok(())
     }
 

@@ -70,3 +70,6 @@ on_expr-requires-in-Assignment g c = may_here (may_then (rw c.in-Assignment.is a
 
 pub returns-in-Assignment : goal.returns-in-Assignment
 returns-in-Assignment g c = rw c.in-Assignment.is (a_call c.on_pat-in-Assignment.ensures (runs_one c.on_expr-in-Assignment.ensures))
+
+pub returns-in-PatternType : goal.returns-in-PatternType
+returns-in-PatternType g c = rw c.in-PatternType.is (a_call c.on_type.ensures (runs_one c.on_pat-in-PatternType.ensures))
