@@ -1,6 +1,8 @@
--- The state in which the walk over a body or a signature begins: it is ready, what it has to do is what is under the entry nodes, and what its
+-- The state in which the walk over a body or a signature begins: it is ready, what it has to do is what is under the
+-- entry nodes, and what its
 -- frames and those to come weigh are the counts of scopes and entries.
-use Rattle.std.proofs.Common.{◌≡◌, ℕ, ◌+◌, ◌<◌, List, [], ◌∷◌, ◌++◌, map, length, refl, sym, ap, ◌∙◌, arith, subst, inl, inr, ⊎_elim, Option, Some, None, Contains, length-append}
+use Rattle.std.proofs.Common.{◌≡◌, ℕ, ◌+◌, ◌<◌, List, [], ◌∷◌, ◌++◌, map, length, refl, sym, ap, ◌∙◌, arith, subst, inl, inr, ⊎_elim}
+use Rattle.std.proofs.Common.{Option, Some, None, Contains, length-append}
 use Rattle.std.proofs.lemmas.Grind.{get_or_default_zero}
 use Rattle.std.proofs.lemmas.List.{append-nil, length-map}
 use Rattle.std.proofs.lemmas.List.Sums.{sum_by-cons}
@@ -17,13 +19,16 @@ use Rattle.hir_signature.specs.{Signatures.root_entry_nodes, Signatures.signatur
 use Rattle.hir_body.specs.{declared.formals.Param.Param}
 use Rattle.hir_scope.specs.BodyScopes.{entry_nodes_of_body, entry_nodes_of_signature, limit, BodyIsTooLarge, SignatureIsTooLarge}
 use Rattle.hir_scope.specs.Chains.{InContext}
-use Rattle.hir_scope.specs.Counts.{count_if_some, form_scopes, node_entries, body_scope_count, body_entry_count, signature_scope_count, signature_entry_count}
+use Rattle.hir_scope.specs.Counts.{count_if_some, form_scopes, node_entries, body_scope_count, body_entry_count, signature_scope_count}
+use Rattle.hir_scope.specs.Counts.{signature_entry_count}
 use Rattle.hir_scope.specs.ScopingForms.{form_of}
 use Rattle.hir_scope.specs.Frames.{Frame, Chain, entry_at, binds, empty}
 use Rattle.hir_scope.specs.{Paths.paths, Scopes.frame_of}
 use Rattle.hir_scope.specs.declared.tasks.Task.{Task}
-use Rattle.hir_scope.specs.internal.Begins.{IsSound, IsSoundBody, IsSoundStore, root_entries, body_root, body_begins, signature_root, signature_begins}
-use Rattle.hir_scope.specs.internal.WalkState.{WalkState, IsReady, AreInRange, LeavesWithin, Exceeds, about, chain_of, future_of, node_frames, one, count_entries, total, weight, weight_left}
+use Rattle.hir_scope.specs.internal.Begins.{IsSound, IsSoundBody, IsSoundStore, root_entries, body_root, body_begins, signature_root}
+use Rattle.hir_scope.specs.internal.Begins.{signature_begins}
+use Rattle.hir_scope.specs.internal.WalkState.{WalkState, IsReady, AreInRange, LeavesWithin, Exceeds, about, chain_of, future_of}
+use Rattle.hir_scope.specs.internal.WalkState.{node_frames, one, count_entries, total, weight, weight_left}
 use Rattle.hir_scope.specs.internal.Pending.{tasks_of, task_frames, future}
 use Rattle.hir_scope.specs.internal.ContextsUnder.{exprs_under}
 use Rattle.hir_scope.proofs.CountLemmas.{bound_by, calls_open, form_ones, frame_entries, reached_total}
@@ -41,23 +46,32 @@ roots_in_range c stand n m =
     let r = in_map NodeId.Expr n roots (in_contains (map NodeId.Expr roots) n m) in
     let at = contains_in roots r.0 r.1 in
     let is : slice_index roots at.0 ≡ r.0 = sym (get_or_default_zero roots at.0 r.0 at.1) ∙ at.2 in
-    subst (Has c.nodes) r.2 (subst (λ (x : ℕ). x < length c.nodes.exprs) is (stand.in_range at.0 (omega (arith, at.1, length-map c.roots (λ r. r.node)))))
+    subst (Has c.nodes) r.2
+    (subst (λ (x : ℕ). x < length c.nodes.exprs) is
+    (stand.in_range at.0 (omega (arith, at.1, length-map c.roots (λ r. r.node)))))
 
 -- 1. What all states weigh
 
-scopes_total : (s : Nodes) → IsSound s → (nodes : List NodeId) → ((n : NodeId) → In n nodes → Has s n) → sum_by (total s (λ n. sum_by one (node_frames s n))) nodes ≡ sum_by (λ n. form_scopes (form_of s n)) (reached_nodes s nodes)
+scopes_total : (s : Nodes) → IsSound s → (nodes : List NodeId) → ((n : NodeId) → In n nodes → Has s n) →
+    sum_by (total s (λ n. sum_by one (node_frames s n))) nodes
+    ≡ sum_by (λ n. form_scopes (form_of s n)) (reached_nodes s nodes)
 scopes_total s sound nodes in_range =
     sym (reached_total s sound.fall sound.under (λ n. sum_by one (node_frames s n)) nodes in_range)
-    ∙ sum_same (λ n. sum_by one (node_frames s n)) (λ n. form_scopes (form_of s n)) (reached_nodes s nodes) (λ n i. form_ones s no_around (form_of s n))
+    ∙ sum_same (λ n. sum_by one (node_frames s n)) (λ n. form_scopes (form_of s n)) (reached_nodes s nodes)
+    (λ n i. form_ones s no_around (form_of s n))
 
-entries_under : (s : Nodes) → IsSound s → (nodes : List NodeId) → ((n : NodeId) → In n nodes → Has s n) → sum_by (bound_by s) nodes + sum_by (total s (entries_of_node s)) nodes ≡ sum_by (node_entries s) (reached_nodes s nodes)
+entries_under : (s : Nodes) → IsSound s → (nodes : List NodeId) → ((n : NodeId) → In n nodes → Has s n) →
+    sum_by (bound_by s) nodes + sum_by (total s (entries_of_node s)) nodes
+    ≡ sum_by (node_entries s) (reached_nodes s nodes)
 entries_under s sound nodes in_range =
     sym (entries_total s sound.fall sound.pats sound.bindings nodes in_range)
     ∙ sym (reached_total s sound.fall sound.under (node_entries s) nodes in_range)
 
 -- 2. Bodies
 
-bound_formals : (s : Nodes) (formals : List ℕ) (last : Option ℕ) → sum_by (bound_by s) (map NodeId.Pat formals ++ option_to_list (option_map NodeId.Expr last)) ≡ sum_by (λ q. length (binds s q)) formals
+bound_formals : (s : Nodes) (formals : List ℕ) (last : Option ℕ) →
+    sum_by (bound_by s) (map NodeId.Pat formals ++ option_to_list (option_map NodeId.Expr last))
+    ≡ sum_by (λ q. length (binds s q)) formals
 bound_formals s [] None = refl
 bound_formals s [] (Some root) = refl
 bound_formals s (x ∷ formals) last =
@@ -67,7 +81,8 @@ bound_formals s (x ∷ formals) last =
 abbrev SelfIsInRange : Nodes → Option (Param ℕ) → Type 0
 SelfIsInRange s self = IfSome self (AreBelow (length s.bindings))
 
-self_entries : (s : Nodes) (self : Option (Param ℕ)) → SelfIsInRange s self → length (all_of (entry_at s) (option_map (λ (q : Param ℕ). q.formal) self)) ≡ count_if_some self
+self_entries : (s : Nodes) (self : Option (Param ℕ)) → SelfIsInRange s self →
+    length (all_of (entry_at s) (option_map (λ (q : Param ℕ). q.formal) self)) ≡ count_if_some self
 self_entries s None h = refl
 self_entries s (Some q) h = one_entry s q.formal h.0
 
@@ -88,7 +103,8 @@ module _ (b : BodyContents) where
   pub body_whole : future_of s (body_begins b) ≡ exprs_under s (entry_nodes_of_body b)
   body_whole =
       ap (λ (c : Chain). future s (chain_of (body_root b ∷ [])) c c (tasks_of top_calls)) (first_chain b)
-      ∙ body_future s (chain_of (body_root b ∷ [])) (option_map (λ (q : Param ℕ). q.formal) b.self_param) (formals_of b.params) (last_root b.store)
+      ∙ body_future s (chain_of (body_root b ∷ [])) (option_map (λ (q : Param ℕ). q.formal) b.self_param)
+      (formals_of b.params) (last_root b.store)
 
   about_entry_nodes : about (tasks_of top_calls) ≡ body.entry_nodes b
   about_entry_nodes = about_calls top_calls ∙ top_children (formals_of b.params) (last_root b.store)
@@ -105,21 +121,43 @@ module _ (b : BodyContents) where
       known = subst (AreInRange s) (sym about_entry_nodes) (in_range_all s (body.entry_nodes b) sound.in_range);
     }
 
-    body_left : (w : Frame → ℕ) → weight_left s w (tasks_of top_calls) ≡ sum_by (total s (λ n. sum_by w (node_frames s n))) (body.entry_nodes b)
-    body_left w = omega (arith, calls_open s w top_calls, ap (λ (ns : List NodeId). sum_by (total s (λ n. sum_by w (node_frames s n))) ns) about_entry_nodes)
+    body_left : (w : Frame → ℕ) → weight_left s w (tasks_of top_calls)
+        ≡ sum_by (total s (λ n. sum_by w (node_frames s n))) (body.entry_nodes b)
+    body_left w =
+        omega (
+          arith,
+          calls_open s w top_calls,
+          ap
+              (λ (ns : List NodeId). sum_by (total s (λ n. sum_by w (node_frames s n))) ns) about_entry_nodes,
+        )
 
     pub body_scopes_weigh : weight s one (body_begins b) ≡ body_scope_count s (body_nodes b)
-    body_scopes_weigh = omega (arith, scopes_weigh (body_root b ∷ []), body_left one, scopes_total s sound.nodes (body.entry_nodes b) entry_nodes_in_range)
+    body_scopes_weigh =
+        omega (
+          arith,
+          scopes_weigh (body_root b ∷ []),
+          body_left one,
+          scopes_total s sound.nodes
+              (body.entry_nodes b) entry_nodes_in_range,
+        )
 
     root_length : length (root_entries b) ≡ count_if_some b.self_param + sum_by (bound_by s) (body.entry_nodes b)
     root_length =
-        let a = length-append (all_of (entry_at s) (option_map (λ (q : Param ℕ). q.formal) b.self_param)) (flat_map (binds s) (formals_of b.params)) in
+        let a = length-append (all_of (entry_at s) (option_map (λ (q : Param ℕ). q.formal) b.self_param))
+        (flat_map (binds s) (formals_of b.params)) in
         let d = bound_formals s (formals_of b.params) (last_root b.store) in
         omega (arith, a, self_entries s b.self_param sound.self_in_range, frame_entries s (formals_of b.params), d)
 
     pub body_entries_weigh : weight s count_entries (body_begins b) ≡ body_entry_count s b.self_param (body_nodes b)
     body_entries_weigh =
-        omega (arith, entries_weigh (body_root b ∷ []), body_left count_entries, entries_under s sound.nodes (body.entry_nodes b) entry_nodes_in_range, root_length)
+        omega (
+          arith,
+          entries_weigh (body_root b ∷ []),
+          body_left count_entries,
+          entries_under s sound.nodes
+              (body.entry_nodes b) entry_nodes_in_range,
+          root_length,
+        )
 
     -- what it may fail by
     pub body_exceeds : Exceeds s (body_begins b) → BodyIsTooLarge b

@@ -1,5 +1,6 @@
 -- How each task moves a walk on.
-use Rattle.std.proofs.Common.{◌≡◌, ℕ, suc, ◌<◌, List, [], ◌∷◌, ◌++◌, Option, Some, None, length, map, refl, sym, subst, arith, Contains, ap, ◌∙◌, ◌+◌}
+use Rattle.std.proofs.Common.{◌≡◌, ℕ, suc, ◌<◌, List, [], ◌∷◌, ◌++◌, Option, Some, None, length, map, refl, sym, subst, arith, Contains}
+use Rattle.std.proofs.Common.{ap, ◌∙◌, ◌+◌}
 use Rattle.std.proofs.lemmas.List.{Concat.flat_map-append, Elements.All-nil, Elements.All-cons}
 use Rattle.std.proofs.lemmas.List.Sorted.{IsPermutation-sym, Contains-permutation}
 use Rattle.std.specs.List.{All, flat_map, sum_by, slice_get}
@@ -15,8 +16,11 @@ use Rattle.hir_scope.specs.OpenFrames.{open_frames, open_frames_of_form}
 use Rattle.hir_scope.specs.Order.{met_in_closure, met_in_form, met_in_arm}
 use Rattle.hir_scope.specs.{Scopes.frame_of, ChildContexts.child_contexts, ChildContexts.child_contexts_of_form}
 use Rattle.hir_scope.specs.declared.{scope.ScopeKind.ScopeKind, tasks.CurrentScopes.CurrentScopes, tasks.Task.Task, walk.Walk.Walk}
-use Rattle.hir_scope.specs.internal.WalkState.{Over, Exceeds, about, AreInRange, LeavesWithin, WalkState, walk_state, state, with_next, chain_of, frames_of_scope, frames_of_const_scope, future_of, IsReady, total, tasks_weight, node_frames, weight_left, node_turns, task_turns, turns_left, Opens, OpensScopes, Step}
-use Rattle.hir_scope.specs.internal.Pending.{both, tasks_of, arm_task, one_arm, guarded_task, statement_tasks, form_tasks, task_children, leave, opened_frames, opened_const_frames, future, arm_with, task_frames}
+use Rattle.hir_scope.specs.internal.WalkState.{Over, Exceeds, about, AreInRange, LeavesWithin, WalkState, walk_state, state, with_next}
+use Rattle.hir_scope.specs.internal.WalkState.{chain_of, frames_of_scope, frames_of_const_scope, future_of, IsReady, total, tasks_weight}
+use Rattle.hir_scope.specs.internal.WalkState.{node_frames, weight_left, node_turns, task_turns, turns_left, Opens, OpensScopes, Step}
+use Rattle.hir_scope.specs.internal.Pending.{both, tasks_of, arm_task, one_arm, guarded_task, statement_tasks, form_tasks, task_children}
+use Rattle.hir_scope.specs.internal.Pending.{leave, opened_frames, opened_const_frames, future, arm_with, task_frames}
 use Rattle.hir_scope.specs.internal.ContextsUnder.{in_context, exprs_under}
 use Rattle.hir_scope.proofs.CountLemmas.{left_cons, weight_met, turns_met}
 use Rattle.hir_scope.proofs.FutureLemmas.{future_form, turn_bare, turn_ended, future_arm_task}
@@ -47,7 +51,8 @@ module _ (s : Nodes) where
   children_in_range fall n h =
       subst (AreInRange s) (children_of_form s (form_of s n))
       (in_range_all (children_in (child_contexts s n)) (λ k m. fall.in_range n h k
-      (Contains-permutation (children_in (child_contexts s n)) (children_of s n) k (IsPermutation-sym (children_of s n) (children_in (child_contexts s n)) (child_contexts_children s n)) m)))
+      (Contains-permutation (children_in (child_contexts s n)) (children_of s n) k
+      (IsPermutation-sym (children_of s n) (children_in (child_contexts s n)) (child_contexts_children s n)) m)))
 
   pats_in_range : (ps : List ℕ) → AreInRange s (children (flat_map p ps)) → AreInRange s (map NodeId.Pat ps)
   pats_in_range [] h = tt
@@ -68,10 +73,12 @@ module _ (s : Nodes) where
       (subst (AreInRange s) (flat_map-append child (flat_map p args) (e body)) last)).0
 
   -- what is inside a node, and then what was known before
-  pub known_met : RankDecreases s → (a : CurrentScopes) (n : NodeId) (ts : List Task) → Has s n → AreInRange s (about ts) → AreInRange s (about (form_tasks a (form_of s n) ++ ts))
+  pub known_met : RankDecreases s → (a : CurrentScopes) (n : NodeId) (ts : List Task) → Has s n →
+      AreInRange s (about ts) → AreInRange s (about (form_tasks a (form_of s n) ++ ts))
   known_met fall a n ts h k =
       subst (AreInRange s) (sym (flat_map-append task_children (form_tasks a (form_of s n)) ts))
-      (in_range_join (about (form_tasks a (form_of s n))) (about ts) (subst (AreInRange s) (sym (about_form a (form_of s n))) (children_in_range fall n h)) k)
+      (in_range_join (about (form_tasks a (form_of s n))) (about ts)
+      (subst (AreInRange s) (sym (about_form a (form_of s n))) (children_in_range fall n h)) k)
 
 -- Scopes that are taken back
 
@@ -105,15 +112,18 @@ module _ (n : ℕ) where
   leaves_arms [] ts l = l
   leaves_arms (arm ∷ arms) ts l = leaves_arm arm.pat arm.expr arm.guard (flat_map one_arm arms ++ ts) (leaves_arms arms ts l)
 
-  pub leaves_met : (a : CurrentScopes) (x : ScopingForm) (ts : List Task) → a.scope < n → a.const_scope < n → LeavesWithin n ts → LeavesWithin n (form_tasks a x ++ ts)
+  pub leaves_met : (a : CurrentScopes) (x : ScopingForm) (ts : List Task) → a.scope < n → a.const_scope < n →
+      LeavesWithin n ts → LeavesWithin n (form_tasks a x ++ ts)
   leaves_met a (form.If c y f) ts h k l = (h, k, leaves_calls (opt e f) ts l)
   leaves_met a (form.Let pat x) ts h k l = l
   leaves_met a (form.Block id label xs tail) ts h k l =
       leaves_join (form_tasks a (form.Block id label xs tail)) ts
-      (leaves_join (flat_map statement_tasks xs) (tasks_of (opt e tail) ++ leave a ∷ []) (leaves_statements xs) (leaves_calls (opt e tail) (leave a ∷ []) (h, k, tt))) l
+      (leaves_join (flat_map statement_tasks xs) (tasks_of (opt e tail) ++ leave a ∷ []) (leaves_statements xs)
+      (leaves_calls (opt e tail) (leave a ∷ []) (h, k, tt))) l
   leaves_met a (form.Loop label body) ts h k l = (h, k, l)
   leaves_met a (form.Closure types ret args body) ts h k l =
-      leaves_join (form_tasks a (form.Closure types ret args body)) ts (leaves_calls (met_in_closure types ret args body) (leave a ∷ []) (h, k, tt)) l
+      leaves_join (form_tasks a (form.Closure types ret args body)) ts
+      (leaves_calls (met_in_closure types ret args body) (leave a ∷ []) (h, k, tt)) l
   leaves_met a (form.Match x arms) ts h k l = leaves_arms arms ts l
   leaves_met a (form.Assignment target value) ts h k l = (h, k, l)
   leaves_met a (form.PatternType ty pat) ts h k l = (h, k, l)
@@ -129,7 +139,8 @@ module _ (s : Nodes) (fall : RankDecreases s) (chain : ℕ → Chain) where
   left_open : (n : NodeId) (h k : Chain) (ts : List Task) → Has s n → let x = form_of s n in
       inside h k x ++ future s chain (open_frames s n ++ h) k ts
       ≡ inside h k x ++ future s chain (open_frames_of_form s (open_frames s) x ++ h) k ts
-  left_open n h k ts in_range = ap (λ (c : Chain). inside h k (form_of s n) ++ future s chain (c ++ h) k ts) (open_frames_at s fall n in_range)
+  left_open n h k ts in_range =
+      ap (λ (c : Chain). inside h k (form_of s n) ++ future s chain (c ++ h) k ts) (open_frames_at s fall n in_range)
 
   -- an expression is met, and then what is inside it
   pub future_expr : (a : CurrentScopes) (id : ℕ) (ts : List Task) → Has s (NodeId.Expr id) →
@@ -169,7 +180,8 @@ module _ (s : Nodes) (fall : RankDecreases s) (chain : ℕ → Chain) where
 
   -- an arm is met in the frame of its pattern, which ends with it
   pub future_arm : (a : CurrentScopes) (arm : MatchArm) (ts : List Task) → let h = chain a.scope in let k = chain a.const_scope in
-      future s chain h k (arm_task arm ∷ ts) ≡ future s chain (frame s (arm.pat ∷ []) ∷ h) k ((tasks_of (met_in_arm arm) ++ leave a ∷ []) ++ ts)
+      future s chain h k (arm_task arm ∷ ts) ≡ future s chain (frame s (arm.pat ∷ []) ∷ h) k
+      ((tasks_of (met_in_arm arm) ++ leave a ∷ []) ++ ts)
   unfolding future
   future_arm a arm ts =
       future_arm_task s chain (chain a.scope) (chain a.const_scope) arm.pat arm.expr arm.guard ts
@@ -236,7 +248,8 @@ module _ (s : Nodes) where
         Step s (with_next m (Task.Expr id)) (state m) (in_context (NodeId.Expr id) h k ∷ [])
     empty_moves e r =
         let opened = λ (x : ScopingForm). OpensScopes (state m) (state m) (opened_frames s x) (opened_const_frames x) in
-        expr_moves (ap (λ (x : ScopingForm). form_tasks a x ++ ts) (sym e)) (subst opened (sym e) (opened_none (state m) r.scope r.const_scope)) r
+        expr_moves (ap (λ (x : ScopingForm). form_tasks a x ++ ts) (sym e))
+        (subst opened (sym e) (opened_none (state m) r.scope r.const_scope)) r
 
     pat_opens : (w : Frame → ℕ) (x : Option Pat) → let y = form_at pat_form x in sum_by w (opened_frames s y ++ opened_const_frames y) ≡ 0
     pat_opens w None = refl
@@ -265,12 +278,14 @@ module _ (s : Nodes) where
 
     -- a type opens no frame as it is met
     type_future : (b : CurrentScopes) (vs : List Task) (x : Option TypeRef) → let y = form_at type_form x in
-        future s chain (opened_frames s y ++ k) (opened_const_frames y ++ k) (form_tasks b y ++ vs) ≡ future s chain k k (form_tasks b y ++ vs)
+        future s chain (opened_frames s y ++ k) (opened_const_frames y ++ k) (form_tasks b y ++ vs)
+        ≡ future s chain k k (form_tasks b y ++ vs)
     type_future b vs None = refl
     type_future b vs (Some (TypeRef.PatternType inner pat)) = refl
     type_future b vs (Some _) = refl
 
-    type_opens : (w : Frame → ℕ) (x : Option TypeRef) → let y = form_at type_form x in sum_by w (opened_frames s y ++ opened_const_frames y) ≡ 0
+    type_opens : (w : Frame → ℕ) (x : Option TypeRef) → let y = form_at type_form x in
+        sum_by w (opened_frames s y ++ opened_const_frames y) ≡ 0
     type_opens w None = refl
     type_opens w (Some (TypeRef.PatternType inner pat)) = refl
     type_opens w (Some _) = refl

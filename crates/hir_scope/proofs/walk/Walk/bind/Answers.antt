@@ -11,7 +11,8 @@ returns-clause-moves c =
     let fall = c.rank_decreases.ensures c.args.store.now c.has_no_fault.ensures in
     let is = c.of_pat-form.ensures ∙ ap (form_at pat_form) (sym c.index.ensures) in
     bound_moves c.args.store.now.nodes fall w c.args.bound
-    (c.in_ok-push_in.ensures.ok ∙ ap (λ (x : ScopingForm). form_tasks w.current x ++ w.tasks.stack.items) is) c.in_ok-open.ensures.opened c.requires.ready
+    (c.in_ok-push_in.ensures.ok ∙ ap (λ (x : ScopingForm). form_tasks w.current x ++ w.tasks.stack.items) is)
+    c.in_ok-open.ensures.opened c.requires.ready
 
 pub returns-in_err-open-clause-full : goal.returns-in_err-open-clause-full
 returns-in_err-open-clause-full c = λ h.

@@ -41,7 +41,8 @@ returns-clause-meets c =
     let pushed = c.in_ok-push_in.ensures.ok ∙ ap (λ (y : ScopingForm). form_tasks w.current y ++ ts) is in
     let o = subst (λ (y : ScopingForm). OpensScopes (walk_state w c.push_in.new.self.stack.items) (state n)
     (opened_frames s y) (opened_const_frames y)) is c.in_ok-open_inside.ensures.opened in
-    let current = frames_grown w.scopes.scopes n.scopes.scopes o.more w.current.scope h o.grows (record { within = c.requires.ready.scope; is = refl }) in
+    let current = frames_grown w.scopes.scopes n.scopes.scopes o.more w.current.scope h o.grows
+    (record { within = c.requires.ready.scope; is = refl }) in
     let scope = c.scope_within.ensures ∙ ap (λ (y : ScopingForm). scope_within y n.current.scope w.current.scope) is in
     record {
       moves = expr_moves s fall w c.args.expr pushed o c.requires.ready;

@@ -12,7 +12,9 @@ returns-clause-moves c =
     let w = c.args.self.now in
     let us = c.push.new.self.stack.items in
     let first : c.both.result ≡ both 0 = search rules in
-    let o = subst (λ (a : CurrentScopes). OpensScopes (at w.scopes a us) (state c.open.new.self) (empty ∷ []) []) first c.in_ok-open.ensures.opened in
+    let o =
+    subst (λ (a : CurrentScopes). OpensScopes (at w.scopes a us) (state c.open.new.self) (empty ∷ []) []) first
+    c.in_ok-open.ensures.opened in
     root_moves c.args.store.now.nodes w c.args.root c.in_ok-push.ensures.ok o c.requires.ready
 
 pub returns-in_err-open-clause-full : goal.returns-in_err-open-clause-full

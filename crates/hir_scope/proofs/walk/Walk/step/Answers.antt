@@ -13,28 +13,35 @@ returns-in_ok-set_scope-in-Expr-clause-goes c =
     let w = c.args.self.now in
     let m = c.in_ok-scope-in-Expr in
     let met = c.enter_expr.new.self in
-    goes_given c.args.store.now.nodes w.scopes w.current c.args.task w.tasks.stack.items (state met) c.set_scope.new.self met.current met.tasks.stack.items c.in-Expr.expr m.scope c.args.steps.now c.tick.new.self
+    goes_given c.args.store.now.nodes w.scopes w.current c.args.task w.tasks.stack.items
+    (state met) c.set_scope.new.self met.current met.tasks.stack.items c.in-Expr.expr m.scope c.args.steps.now
+    c.tick.new.self
     c.in-Expr.is m.ensures.meets.moves m.ensures.meets.frames c.in_ok-set_scope-in-Expr.ensures.ok refl refl c.tick.ensures
 
 pub returns-in-Pat-clause-goes : goal.returns-in-Pat-clause-goes
 returns-in-Pat-clause-goes c =
-    goes_task c.args.store.now.nodes c.args.self.now c.args.task _ c.args.steps.now c.enter_pat.result (state c.enter_pat.new.self) c.in-Pat.is c.enter_pat.ensures.moves
+    goes_task c.args.store.now.nodes c.args.self.now c.args.task _ c.args.steps.now c.enter_pat.result
+    (state c.enter_pat.new.self) c.in-Pat.is c.enter_pat.ensures.moves
 
 pub returns-in-TypeRef-clause-goes : goal.returns-in-TypeRef-clause-goes
 returns-in-TypeRef-clause-goes c =
-    goes_task c.args.store.now.nodes c.args.self.now c.args.task _ c.args.steps.now c.enter_type.result (state c.enter_type.new.self) c.in-TypeRef.is c.enter_type.ensures.moves
+    goes_task c.args.store.now.nodes c.args.self.now c.args.task _ c.args.steps.now c.enter_type.result
+    (state c.enter_type.new.self) c.in-TypeRef.is c.enter_type.ensures.moves
 
 pub returns-in-Bound-clause-goes : goal.returns-in-Bound-clause-goes
 returns-in-Bound-clause-goes c =
-    goes_task c.args.store.now.nodes c.args.self.now c.args.task _ c.args.steps.now c.bind.result (state c.bind.new.self) c.in-Bound.is c.bind.ensures.moves
+    goes_task c.args.store.now.nodes c.args.self.now c.args.task _ c.args.steps.now c.bind.result
+    (state c.bind.new.self) c.in-Bound.is c.bind.ensures.moves
 
 pub returns-in-Arm-clause-goes : goal.returns-in-Arm-clause-goes
 returns-in-Arm-clause-goes c =
-    goes_task c.args.store.now.nodes c.args.self.now c.args.task _ c.args.steps.now c.enter_arm.result (state c.enter_arm.new.self) c.in-Arm.is c.enter_arm.ensures.moves
+    goes_task c.args.store.now.nodes c.args.self.now c.args.task _ c.args.steps.now c.enter_arm.result
+    (state c.enter_arm.new.self) c.in-Arm.is c.enter_arm.ensures.moves
 
 pub returns-in-GuardedArm-clause-goes : goal.returns-in-GuardedArm-clause-goes
 returns-in-GuardedArm-clause-goes c =
-    goes_task c.args.store.now.nodes c.args.self.now c.args.task _ c.args.steps.now c.enter_arm-in-GuardedArm.result (state c.enter_arm-in-GuardedArm.new.self) c.in-GuardedArm.is c.enter_arm-in-GuardedArm.ensures.moves
+    goes_task c.args.store.now.nodes c.args.self.now c.args.task _ c.args.steps.now c.enter_arm-in-GuardedArm.result
+    (state c.enter_arm-in-GuardedArm.new.self) c.in-GuardedArm.is c.enter_arm-in-GuardedArm.ensures.moves
 
 pub returns-in-Constant-clause-goes : goal.returns-in-Constant-clause-goes
 returns-in-Constant-clause-goes c =
@@ -72,4 +79,5 @@ returns-in-Leave-clause-goes c =
 
 pub returns-in-Root-clause-goes : goal.returns-in-Root-clause-goes
 returns-in-Root-clause-goes c =
-    goes_task c.args.store.now.nodes c.args.self.now c.args.task _ c.args.steps.now c.enter_root.result (state c.enter_root.new.self) c.in-Root.is c.enter_root.ensures.moves
+    goes_task c.args.store.now.nodes c.args.self.now c.args.task _ c.args.steps.now c.enter_root.result
+    (state c.enter_root.new.self) c.in-Root.is c.enter_root.ensures.moves

@@ -8,7 +8,8 @@ pub returns-in-Some : goal.returns-in-Some
 returns-in-Some c =
     let store = c.args.self.now.store.now in
     let fall = c.rank_decreases.ensures store c.has_no_fault.ensures in
-    visit_named c.args.self.now fall c.args.id c.index-expr.result.now c.in-Some.name.now c.args.unread.now.stack.items (lists_of c.args.found.now) (lists_of c.add_expr.new.found)
+    visit_named c.args.self.now fall c.args.id c.index-expr.result.now c.in-Some.name.now
+    c.args.unread.now.stack.items (lists_of c.args.found.now) (lists_of c.add_expr.new.found)
     c.index-expr.ensures (sym c.in-Some.ensures) c.requires.in_range c.in_ok-add_expr.ensures.usages c.add_expr.ensures.bound
 
 pub returns : goal.returns
