@@ -218,7 +218,7 @@ module _ (s : Nodes) where
     count = length m.scopes.scopes
 
     abbrev chain : ℕ → Chain
-    chain scope = chain_of m.scopes.scopes scope
+    chain = chain_of m.scopes.scopes
 
     -- the frames around what comes next, and around the constants in it
     abbrev h : Chain
