@@ -161,11 +161,11 @@ module _ (s : Nodes) (fall : RankDecreases s) (chain : ℕ → Chain) where
   unfolding future
   future_pat a h k id ts in_range =
       ap (λ (ps : List InContext). ps ++ future s chain (open_frames s (NodeId.Pat id) ++ h) k ts) (exprs_under_pat s fall id h k in_range)
-      ∙ (left_open (NodeId.Pat id) h k ts in_range ∙ at (slice_get s.pats id)) where
-        at : (o : Option Pat) → let x = form_at pat_form o in
+      ∙ (left_open (NodeId.Pat id) h k ts in_range ∙ cases (slice_get s.pats id)) where
+        cases : (o : Option Pat) → let x = form_at pat_form o in
             inside h k x ++ future s chain (open_frames_of_form s (open_frames s) x ++ h) k ts ≡ future s chain h k (form_tasks a x ++ ts)
-        at None = turn_bare s chain h k [] ts
-        at (Some x) = turn_bare s chain h k (pat_calls x) ts
+        cases None = turn_bare s chain h k [] ts
+        cases (Some x) = turn_bare s chain h k (pat_calls x) ts
 
   -- a type is in the scope of constants
   pub future_type : (a : CurrentScopes) (id : ℕ) (ts : List Task) → Has s (NodeId.TypeRef id) →
