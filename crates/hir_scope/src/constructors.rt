@@ -151,11 +151,12 @@ impl Walk {
     /// Returns the walk over a signature, before its first step: it has the root scope, which is empty.
     fn over_roots(alloc: Global, store: &ExpressionStore) -> Result<Walk, ScopesFault>
         ensures ok { IfOk result (λ walk. state walk ≡ signature_begins store.now) }
-        ensures memory { OnErr result (result ≡ Err ScopesFault.Memory) }
+        ensures full { result ≡ Err ScopesFault.Full → MOST_ITEMS < 1 + length store.now.roots }
+        ensures missing { result ≡ Err ScopesFault.Missing → ⊥ }
     {
         let mut walk = Walk::new(alloc, store)?;
-        walk.scopes
-            .new_scope(None, ScopeKind::None, &mut walk.entries)?;
+        let mut none = Vec::new(alloc);
+        walk.scopes.new_scope(None, ScopeKind::None, &mut none)?;
         let mut roots = store.expr_roots();
         while let Some(root) = roots.next_back() {
             walk.tasks.push(Task::Root(root))?;
