@@ -218,21 +218,23 @@ module _ (c : Contents) where
 
     -- a root opens one frame, without entries
     roots_left : (w : Frame → ℕ) → weight_left t w (map Task.Root roots)
-        ≡ sum_by (λ root. sum_by w (empty ∷ [])) roots + sum_by (total t (λ n. sum_by w (node_frames t n))) (root_entry_nodes c)
+        ≡ sum_by (λ (root : ℕ). sum_by w (empty ∷ [])) roots + sum_by (total t (λ n. sum_by w (node_frames t n))) (root_entry_nodes c)
     roots_left w =
-        let a = sum_mapped (λ x. sum_by w (task_frames t x)) Task.Root roots in
+        let a : sum_by (λ (x : Task). sum_by w (task_frames t x)) (map Task.Root roots)
+        ≡ sum_by (λ (root : ℕ). sum_by w (empty ∷ [])) roots =
+        sum_mapped (λ (x : Task). sum_by w (task_frames t x)) Task.Root roots in
         omega (arith, a, ap (λ (ns : List NodeId). sum_by (total t (λ n. sum_by w (node_frames t n))) ns) (about_roots roots))
 
     pub signature_scopes_weigh : weight t one (signature_begins c) ≡ signature_scope_count t (length c.roots) (signature_nodes c)
     signature_scopes_weigh =
         let a = scopes_total t sound.nodes (root_entry_nodes c) roots_in in
-        let b = sum_ones (λ root. sum_by one (empty ∷ [])) roots (λ root i. refl) in
+        let b = sum_ones (λ (root : ℕ). sum_by one (empty ∷ [])) roots (λ root i. refl) in
         omega (arith, scopes_weigh (signature_root ∷ []), a, b, length-map c.roots (λ r. r.node), roots_left one)
 
     pub signature_entries_weigh : weight t count_entries (signature_begins c) ≡ signature_entry_count t (signature_nodes c)
     signature_entries_weigh =
         let a = entries_under t sound.nodes (root_entry_nodes c) roots_in in
-        let b = sum_none (λ root. sum_by count_entries (empty ∷ [])) roots (λ root. refl) in
+        let b = sum_none (λ (root : ℕ). sum_by count_entries (empty ∷ [])) roots (λ root. refl) in
         omega (arith, entries_weigh (signature_root ∷ []), a, b, roots_left count_entries, bound_roots t roots)
 
     pub signature_exceeds : Exceeds t (signature_begins c) → SignatureIsTooLarge c

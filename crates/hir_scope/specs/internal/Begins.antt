@@ -1,6 +1,6 @@
 -- The first state of the walk over a body or a signature: its scopes and its tasks. Only contracts within
 -- this crate cite it.
-use Rattle.hir_scope.specs.Prelude.{flat_map, List, [], Some, None, Contains, IfSome, length, map, slice_get, PatId, e, p, opt, NodeId, Pat, root_nodes, RankDecreases, Nodes, Has, children_of, IsSoundNode, tested_pat, Contents, bindings_at, bindings_in, child_pats_of, nodes_under, BodyContents, AreBelow, formals_of, last_root, entry_nodes, root_entry_nodes}
+use Rattle.hir_scope.specs.Prelude.{flat_map, List, [], Some, None, Contains, IfSome, length, map, slice_get, ExprId, PatId, e, p, opt, NodeId, Pat, root_nodes, RankDecreases, Nodes, Has, children_of, IsSoundNode, tested_pat, Contents, bindings_at, bindings_in, child_pats_of, nodes_under, BodyContents, AreBelow, formals_of, last_root, entry_nodes, root_entry_nodes}
 use Rattle.std.specs.FinMap as finmap
 use Rattle.std.specs.Prelude.{◌≡◌, ◌<◌, ◌∷◌, ◌++◌, option_map}
 use Rattle.hir_scope.specs.Scopes.{Scope, Scopes}
@@ -63,10 +63,13 @@ body_begins b = record {
 abbrev pub signature_root : Scope
 signature_root = record { parent = None; kind = ScopeKind.None; entries = [] }
 
--- the first state over a signature: the root scope, then the roots as tasks
-abbrev pub signature_begins : Contents → WalkState
-signature_begins c = record {
+-- the first state over a signature, of which these are the roots to visit: the root scope, then these as tasks
+abbrev pub roots_begin : List ExprId → WalkState
+roots_begin roots = record {
   scopes = for_none (signature_root ∷ []);
   current = at_first;
-  tasks = map Task.Root (root_nodes c.roots);
+  tasks = map Task.Root roots;
 }
+
+abbrev pub signature_begins : Contents → WalkState
+signature_begins c = roots_begin (root_nodes c.roots)
