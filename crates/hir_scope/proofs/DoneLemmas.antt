@@ -230,7 +230,8 @@ module _ (s : Nodes) where
     pub met_over : let x = form_of s (NodeId.Expr id) in AreInRange s (about (Task.Expr id ∷ ts)) →
         Over (map frame_of m.scopes.scopes ++ (opened_frames s x ++ opened_const_frames x)) → Exceeds s (with_next m (Task.Expr id))
     met_over known o =
-        over_exceeds s (with_next m (Task.Expr id)) o
+        let x = form_of s (NodeId.Expr id) in
+        over_exceeds s (with_next m (Task.Expr id)) (opened_frames s x ++ opened_const_frames x) o
         (λ w. omega (arith, weight_met s fall w a (NodeId.Expr id) ts known.0, weight_cons w (Task.Expr id) ts))
 
     pub expr_moves : {us : List Task} {new : WalkState} → let x = form_of s (NodeId.Expr id) in us ≡ form_tasks a x ++ ts →
@@ -330,11 +331,13 @@ module _ (s : Nodes) where
         (let l = turns_cons (leave b) rest in omega (arith, l))
 
     pub bound_over : (id : ℕ) → Over (map frame_of m.scopes.scopes ++ frame s (id ∷ []) ∷ []) → Exceeds s (with_next m (Task.Bound id))
-    bound_over id o = over_exceeds s (with_next m (Task.Bound id)) o (λ w. omega (arith, weight_cons w (Task.Bound id) rest))
+    bound_over id o = over_exceeds s (with_next m (Task.Bound id)) (frame s (id ∷ []) ∷ []) o (λ w. omega (arith, weight_cons w (Task.Bound id) rest))
 
     pub macro_over : (id : ℕ) → let f = of_kind (ScopeKind.MacroDef id) in
         Over (map frame_of m.scopes.scopes ++ f ∷ f ∷ []) → Exceeds s (with_next m (Task.MacroDef id))
-    macro_over id o = over_exceeds s (with_next m (Task.MacroDef id)) o (λ w. omega (arith, weight_cons w (Task.MacroDef id) rest))
+    macro_over id o =
+        let f = of_kind (ScopeKind.MacroDef id) in
+        over_exceeds s (with_next m (Task.MacroDef id)) (f ∷ f ∷ []) o (λ w. omega (arith, weight_cons w (Task.MacroDef id) rest))
 
     pub macro_moves : (id : ℕ) {new : WalkState} → let f = of_kind (ScopeKind.MacroDef id) in OpensScopes (state m) new (f ∷ []) (f ∷ []) →
         IsReady s (with_next m (Task.MacroDef id)) → Step s (with_next m (Task.MacroDef id)) new []
@@ -345,7 +348,7 @@ module _ (s : Nodes) where
         (let c = turns_cons (Task.MacroDef id) rest in omega (arith, c))
 
     pub root_over : (id : ℕ) → Over (map frame_of m.scopes.scopes ++ empty ∷ []) → Exceeds s (with_next m (Task.Root id))
-    root_over id o = over_exceeds s (with_next m (Task.Root id)) o (λ w. omega (arith, weight_cons w (Task.Root id) rest))
+    root_over id o = over_exceeds s (with_next m (Task.Root id)) (empty ∷ []) o (λ w. omega (arith, weight_cons w (Task.Root id) rest))
 
     -- the scope of a root is also that of the constants in it
     pub root_moves : (id : ℕ) {us : List Task} {new : WalkState} → us ≡ Task.Expr id ∷ rest →
@@ -421,7 +424,7 @@ module _ (s : Nodes) where
     pub arm_over : (guard : Option ℕ) → Over (map frame_of m.scopes.scopes ++ frame s (pat ∷ []) ∷ []) →
         Exceeds s (with_next m (guarded_task pat expr guard))
     arm_over guard o =
-        over_exceeds s (with_next m (guarded_task pat expr guard)) o
+        over_exceeds s (with_next m (guarded_task pat expr guard)) (frame s (pat ∷ []) ∷ []) o
         (λ w. omega (arith, weight_cons w (guarded_task pat expr guard) later, arm_weight w guard))
 
     pub arm_moves : RankDecreases s → (guard : Option ℕ) {us : List Task} {new : WalkState} → us ≡ in_arm pat guard expr last later →

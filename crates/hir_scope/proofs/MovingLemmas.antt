@@ -253,9 +253,9 @@ over_more fs f gs o =
       rises w = omega (arith, sum_by-append w fs (f ∷ []), sum_by-append w fs (f ∷ gs), sum_by-cons w f gs)
 
 module _ (s : Nodes) where
-  pub over_exceeds : (m : WalkState) {fs : List Frame} → Over (map frame_of m.scopes.scopes ++ fs) →
+  pub over_exceeds : (m : WalkState) (fs : List Frame) → Over (map frame_of m.scopes.scopes ++ fs) →
       ((w : Frame → ℕ) → sum_by w fs ≤ weight_left s w m.tasks) → Exceeds s m
-  over_exceeds m {fs} o h =
+  over_exceeds m fs o h =
       let all = λ (w : Frame → ℕ). sum_by-append w (map frame_of m.scopes.scopes) fs in
       ⊎_elim (λ l. inl (let x = h one in let y = all one in omega (arith, l, x, y)))
       (λ l. inr (let x = h count_entries in let y = all count_entries in omega (arith, l, x, y))) o

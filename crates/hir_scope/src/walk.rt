@@ -133,7 +133,8 @@ impl Walk {
         ensures missing { result ≡ Err ScopesFault.Missing → ⊥ }
     {
         self.tasks.push(Task::Expr(root))?;
-        self.current = CurrentScopes::both(ScopeId::from_raw(0));
+        let first = CurrentScopes::both(ScopeId::from_raw(0));
+        self.current = first;
         self.open(store, ScopeKind::None, &[])?;
         self.current.const_scope = self.current.scope;
         Ok(())

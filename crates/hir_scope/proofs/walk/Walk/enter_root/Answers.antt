@@ -11,7 +11,7 @@ pub returns-clause-moves : goal.returns-clause-moves
 returns-clause-moves c =
     let w = c.args.self.now in
     let us = c.push.new.self.stack.items in
-    let first : c.both.result ≡ both 0 = search rules in
+    let first : c.both-first.result ≡ both 0 = search rules in
     let o =
     subst (λ (a : CurrentScopes). OpensScopes (at w.scopes a us) (state c.open.new.self) (empty ∷ []) []) first
     c.in_ok-open.ensures.opened in
