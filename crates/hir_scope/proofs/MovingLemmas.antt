@@ -263,8 +263,8 @@ module _ (s : Nodes) where
   -- A task that is done, and leaves these tasks
 
   -- one that opens scopes
-  pub moves_opened : {S : Scopes} {a b : CurrentScopes} {ts us vs : List Task} {new : WalkState} {fs
-      gs : Chain} {made : List Frame} {met : List InContext} →
+  pub moves_opened : {S : Scopes} {a b : CurrentScopes} {ts us vs : List Task} {new : WalkState}
+      {fs gs : Chain} {made : List Frame} {met : List InContext} →
       us ≡ vs → Opens (at S b us) new made fs gs → LeavesWithin (length S.scopes) vs → AreInRange s (about vs) →
       future_of s (at S a ts) ≡ met ++ future s (chain_of S.scopes) (fs ++ chain_of S.scopes b.scope)
       (gs ++ chain_of S.scopes b.const_scope) vs →
