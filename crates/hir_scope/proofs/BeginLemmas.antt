@@ -1,12 +1,11 @@
 -- The state in which the walk over a body or a signature begins: it is ready, what it has to do is what is under the
--- entry nodes, and what its
--- frames and those to come weigh are the counts of scopes and entries.
+-- entry nodes, and what its frames and those to come weigh are the counts of scopes and entries.
 use Rattle.std.proofs.Common.{◌≡◌, ℕ, ◌+◌, ◌<◌, List, [], ◌∷◌, ◌++◌, map, length, refl, sym, ap, ◌∙◌, arith, subst, inl, inr, ⊎_elim}
 use Rattle.std.proofs.Common.{Option, Some, None, Contains, length-append}
 use Rattle.std.proofs.lemmas.Grind.{get_or_default_zero}
 use Rattle.std.proofs.lemmas.List.{append-nil, length-map}
 use Rattle.std.proofs.lemmas.List.Sums.{sum_by-cons}
-use Rattle.std.specs.List.{flat_map, slice_get, sum_by}
+use Rattle.std.specs.List.{flat_map, sum_by}
 use Rattle.std.specs.{Option.option_to_list, Option.option_map, Prelude.IfSome, Prelude.slice_index}
 use Rattle.hir_node.specs.ChildCalls.{Call, e, p, opt}
 use Rattle.hir_node.specs.declared.node_id.NodeId.{NodeId}
@@ -27,7 +26,7 @@ use Rattle.hir_scope.specs.{Paths.paths, Scopes.frame_of}
 use Rattle.hir_scope.specs.declared.tasks.Task.{Task}
 use Rattle.hir_scope.specs.internal.Begins.{IsSound, IsSoundBody, IsSoundStore, root_entries, body_root, body_begins, signature_root}
 use Rattle.hir_scope.specs.internal.Begins.{signature_begins}
-use Rattle.hir_scope.specs.internal.WalkState.{WalkState, IsReady, AreInRange, LeavesWithin, Exceeds, about, chain_of, future_of}
+use Rattle.hir_scope.specs.internal.WalkState.{IsReady, AreInRange, LeavesWithin, Exceeds, about, chain_of, future_of}
 use Rattle.hir_scope.specs.internal.WalkState.{node_frames, one, count_entries, total, weight, weight_left}
 use Rattle.hir_scope.specs.internal.Pending.{tasks_of, task_frames, future}
 use Rattle.hir_scope.specs.internal.ContextsUnder.{exprs_under}
