@@ -4,6 +4,7 @@
 
 mod found;
 mod groups;
+mod labels;
 pub mod laws;
 mod lookup;
 mod rename_fault;
@@ -16,6 +17,7 @@ mod usages;
 mod visible;
 mod walk;
 
+pub use labels::labels_at;
 pub use rename_fault::RenameFault;
 pub use renamed_body::renamed;
 pub use renames::rename;
