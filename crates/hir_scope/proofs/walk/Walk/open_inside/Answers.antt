@@ -9,7 +9,7 @@ pub open-requires-in-Closure-clause-in_range : goal.open-requires-in-Closure-cla
 open-requires-in-Closure-clause-in_range c =
     let s = c.args.store.now.nodes in
     let all = subst (λ (x : Form). AreInRange s (children (met_in_form (form_model x)))) c.in-Closure.is c.requires.in_range in
-    closure_pats s _ _ c.in-Closure.args.now _ all
+    closure_pats s c.in-Closure.field-0.now c.in-Closure.field-1 c.in-Closure.args.now c.in-Closure.field-3 all
 
 pub open-requires-in-Assignment-clause-in_range : goal.open-requires-in-Assignment-clause-in_range
 open-requires-in-Assignment-clause-in_range c =
