@@ -1,5 +1,6 @@
 -- A name that is found is captured where the scope that binds it is among the outermost.
-use Rattle.std.proofs.Common.{◌≡◌, ℕ, suc, ◌+◌, ◌<◌, ◌≤◌, ◌-◌, List, [], ◌∷◌, ◌++◌, Option, Some, None, take, drop, length, length-append, refl, ap, sym, ◌∙◌, arith}
+use Rattle.std.proofs.Common.{◌≡◌, ℕ, suc, ◌+◌, ◌<◌, ◌≤◌, ◌-◌, List, [], ◌∷◌, ◌++◌, Option, Some, None, take, drop, length, length-append}
+use Rattle.std.proofs.Common.{refl, ap, sym, ◌∙◌, arith}
 use Rattle.std.proofs.Math.Seq.{take-append-add}
 use Rattle.std.proofs.lemmas.{List.take-append-drop, List.take-append-le, List.Concat.flat_map-append}
 use Rattle.std.specs.{List.slice_get, List.flat_map, List.AllByRecursion, Option.option_or}
@@ -22,7 +23,8 @@ AllInRange scopes ids = AllByRecursion (λ (s : ℕ). s < length scopes) ids
 abbrev frames : List Scope → List ℕ → Chain
 frames scopes ids = flat_map (frame_at scopes) ids
 
-one_frame : (scopes : List Scope) (s : ℕ) (x : Scope) (ids : List ℕ) → slice_get scopes s ≡ Some x → frames scopes (s ∷ ids) ≡ frame_of x ∷ frames scopes ids
+one_frame : (scopes : List Scope) (s : ℕ) (x : Scope) (ids : List ℕ) → slice_get scopes s ≡ Some x →
+    frames scopes (s ∷ ids) ≡ frame_of x ∷ frames scopes ids
 one_frame scopes s x ids e = ap (λ (o : Option Scope). all_of (λ (y : Scope). frame_of y ∷ []) o ++ frames scopes ids) e
 
 pub as_many : (scopes : List Scope) (ids : List ℕ) → AllInRange scopes ids → length (frames scopes ids) ≡ length ids
@@ -35,22 +37,29 @@ as_many scopes (s ∷ ids) h =
 
 module _ (n : List ℕ) (h : SyntaxContext) where
   none_in_front : (m : ℕ) (xs : Chain) → resolve xs n h ≡ None → resolve (take m xs) n h ≡ None
-  none_in_front m xs e = at (resolve (take m xs) n h) (sym (resolve_append n h (take m xs) (drop m xs)) ∙ (ap (λ (c : Chain). resolve c n h) (take-append-drop m xs) ∙ e)) where
-    at : (o : Option ScopeEntry) → option_or o (resolve (drop m xs) n h) ≡ None → o ≡ None
-    at None q = refl
-    at (Some x) q = absurd cc
+  none_in_front m xs e =
+      at (resolve (take m xs) n h)
+      (sym (resolve_append n h (take m xs) (drop m xs))
+      ∙ (ap (λ (c : Chain). resolve c n h) (take-append-drop m xs) ∙ e)) where
+        at : (o : Option ScopeEntry) → option_or o (resolve (drop m xs) n h) ≡ None → o ≡ None
+        at None q = refl
+        at (Some x) q = absurd cc
 
   -- what resolves to nothing captures nothing
   pub none_captured : (m : ℕ) (xs : Chain) → resolve xs n h ≡ None → resolve_outside m xs n h ≡ None
   none_captured m xs e = λ i. outer_entry (none_in_front m xs e i) (e i)
 
   -- an entry of the first frame is in the prefix
-  found_in_front : (f : Frame) (entry : ScopeEntry) → resolve (f ∷ []) n h ≡ Some entry → (k : ℕ) (fs : Chain) → resolve (take (suc k) (f ∷ fs)) n h ≡ Some entry
-  found_in_front f entry e k fs = resolve_append n h (f ∷ []) (take k fs) ∙ ap (λ (o : Option ScopeEntry). option_or o (resolve (take k fs) n h)) e
+  found_in_front : (f : Frame) (entry : ScopeEntry) → resolve (f ∷ []) n h ≡ Some entry → (k : ℕ) (fs : Chain) →
+      resolve (take (suc k) (f ∷ fs)) n h ≡ Some entry
+  found_in_front f entry e k fs =
+      resolve_append n h (f ∷ []) (take k fs)
+      ∙ ap (λ (o : Option ScopeEntry). option_or o (resolve (take k fs) n h)) e
 
 -- 3. What is found
 
-module _ (scopes : List Scope) (earlier : ParentsStandEarlier scopes) (from : ℕ) (n : List ℕ) (h : SyntaxContext) (s : ℕ) (entry : ScopeEntry) (f : IsFound scopes from n h s entry) (outermost : ℕ) where
+module _ (scopes : List Scope) (earlier : ParentsStandEarlier scopes) (from : ℕ) (n : List ℕ) (h : SyntaxContext)
+    (s : ℕ) (entry : ScopeEntry) (f : IsFound scopes from n h s entry) (outermost : ℕ) where
   abbrev whole : Chain
   whole = chain scopes (Some from)
 
@@ -75,7 +84,9 @@ module _ (scopes : List Scope) (earlier : ParentsStandEarlier scopes) (from : �
       let m = length whole - outermost in
       let few : m ≤ length inner = omega (arith, long, l) in
       let front : resolve (take m whole) n h ≡ None =
-      ap (λ (c : Chain). resolve (take m c) n h) parts ∙ (ap (λ (c : Chain). resolve c n h) (take-append-le m inner outer few) ∙ none_in_front n h m inner f.none_before) in
+      ap (λ (c : Chain). resolve (take m c) n h) parts
+      ∙ (ap (λ (c : Chain). resolve c n h) (take-append-le m inner outer few)
+      ∙ none_in_front n h m inner f.none_before) in
       λ i. outer_entry (front i) (means i)
 
   -- further in
@@ -84,8 +95,10 @@ module _ (scopes : List Scope) (earlier : ParentsStandEarlier scopes) (from : �
       let k = length outer - outermost - 1 in
       let x = item_at scopes s f.in_range in
       let fs = frames scopes (path scopes x.0.parent) in
-      let first : resolve (frame_of x.0 ∷ []) n h ≡ Some entry = sym (ap (λ (c : Chain). resolve c n h) (ap (all_of (λ (y : Scope). frame_of y ∷ [])) x.1)) ∙ f.is_first in
-      let out : outer ≡ frame_of x.0 ∷ fs = ap (frames scopes) (path_step scopes s x.0 earlier x.1) ∙ one_frame scopes s x.0 (path scopes x.0.parent) x.1 in
+      let first : resolve (frame_of x.0 ∷ []) n h ≡ Some entry =
+      sym (ap (λ (c : Chain). resolve c n h) (ap (all_of (λ (y : Scope). frame_of y ∷ [])) x.1)) ∙ f.is_first in
+      let out : outer ≡ frame_of x.0 ∷ fs =
+      ap (frames scopes) (path_step scopes s x.0 earlier x.1) ∙ one_frame scopes s x.0 (path scopes x.0.parent) x.1 in
       let many : length whole - outermost ≡ length inner + suc k = omega (arith, long, l) in
       let front : resolve (take (length whole - outermost) whole) n h ≡ Some entry =
       ap (λ (j : ℕ). resolve (take j whole) n h) many

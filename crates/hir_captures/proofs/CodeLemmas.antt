@@ -1,5 +1,6 @@
 -- The code of a closure, and the chains of what is in it.
-use Rattle.std.proofs.Common.{◌≡◌, ◌<◌, ℕ, List, [], ◌∷◌, ◌++◌, Option, Some, None, map, refl, sym, ap, ◌∙◌, append_assoc, Contains, arith, subst, zero, suc, length, length-append, ◌-◌}
+use Rattle.std.proofs.Common.{◌≡◌, ◌<◌, ℕ, List, [], ◌∷◌, ◌++◌, Option, Some, None, map, refl, sym, ap, ◌∙◌, append_assoc, Contains}
+use Rattle.std.proofs.Common.{arith, subst, zero, suc, length, length-append, ◌-◌}
 use Rattle.std.proofs.Math.Path.{fun_ext}
 use Rattle.std.proofs.Math.Seq.{take-append_seam}
 use Rattle.std.proofs.lemmas.List.Sorted.{IsPermutation-sym, Contains-permutation}
@@ -21,15 +22,18 @@ use Rattle.hir_scope.specs.ScopingForms as form
 use Rattle.hir_scope.specs.{Frames.Chain, PathResolution.local_name, Order.met_in_form, Resolution.resolve}
 use Rattle.hir_scope.specs.declared.scope.ScopeEntry.{ScopeEntry}
 use Rattle.hir_scope.proofs.ResolveLemmas.{resolve_append}
-use Rattle.hir_scope.specs.ChildContexts.{Base, Scope, ConstScope, ChildContext, child_with_base, children_with_base, child_contexts, own_frame}
+use Rattle.hir_scope.specs.ChildContexts.{Base, Scope, ConstScope, ChildContext, child_with_base, children_with_base, child_contexts}
+use Rattle.hir_scope.specs.ChildContexts.{own_frame}
 use Rattle.hir_scope.proofs.ChildLemmas.{children_in, child_contexts_children, child_contexts_follow}
 use Rattle.hir_scope.proofs.UnderLemmas.{mapped, child_contexts_agree}
 use Rattle.hir_captures.specs.Captures.{IsClosure, IsOn, IsCapturedBinding, EachCaptures, captured_binding, outer_entry, resolve_outside}
-use Rattle.hir_captures.specs.Uses.{Spot, spot, in_code, of_pattern, child_code, assignment_at, code_step, code_under, Use, if_assignment, use_of, expr_uses, pat_uses, uses_at, spot_uses, uses_in}
+use Rattle.hir_captures.specs.Uses.{Spot, spot, in_code, of_pattern, child_code, assignment_at, code_step, code_under, Use, if_assignment}
+use Rattle.hir_captures.specs.Uses.{use_of, expr_uses, pat_uses, uses_at, spot_uses, uses_in}
 use Rattle.hir_captures.specs.declared.tasks.Task.{Task}
 use Rattle.hir_captures.specs.internal.Pending.{tasks_of, task_node, code_of, AreInRange}
 
--- 1. The code under a node is the node, and then the code of its children in the order of its child contexts: that of the tasks that reading it puts.
+-- 1. The code under a node is the node, and then the code of its children in the order of its child contexts: that of
+-- the tasks that reading it puts.
 
 -- The code under a node
 
@@ -37,16 +41,25 @@ abbrev pub Codes : Type 0
 Codes = NodeId → Option ℕ → List Spot
 
 module _ (f g : Codes) where
-  child_contexts_read : (a : Option ℕ) (xs : List ChildContext) → AgreeOn f g (children_in xs) → flat_map (child_code f a) xs ≡ flat_map (child_code g a) xs
+  child_contexts_read : (a : Option ℕ) (xs : List ChildContext) → AgreeOn f g (children_in xs) →
+      flat_map (child_code f a) xs ≡ flat_map (child_code g a) xs
   child_contexts_read a [] h = refl
-  child_contexts_read a (x ∷ xs) h = cc (ap (λ (w : Option ℕ → List Spot). in_code x.base (w (of_pattern x.child a))) h.0, child_contexts_read a xs h.1)
+  child_contexts_read a (x ∷ xs) h =
+      cc (
+        ap (λ (w : Option ℕ → List Spot). in_code x.base (w (of_pattern x.child a))) h.0,
+        child_contexts_read a xs h.1,
+      )
 
 module _ (s : Nodes) where
   pub child_in_range : (n k : NodeId) → Contains (children_in (child_contexts s n)) k → Contains (children_of s n) k
-  child_in_range n k m = Contains-permutation (children_in (child_contexts s n)) (children_of s n) k (IsPermutation-sym (children_of s n) (children_in (child_contexts s n)) (child_contexts_children s n)) m
+  child_in_range n k m =
+      Contains-permutation (children_in (child_contexts s n)) (children_of s n) k
+      (IsPermutation-sym (children_of s n) (children_in (child_contexts s n)) (child_contexts_children s n)) m
 
   code_asks : DependsOnChildren s (code_step s)
-  code_asks f g n h = fun_ext (λ a. ap (λ (xs : List Spot). spot n a ∷ xs) (child_contexts_read f g (assignment_at s n a) (child_contexts s n) (child_contexts_agree f g s n h)))
+  code_asks f g n h =
+      fun_ext (λ a. ap (λ (xs : List Spot). spot n a ∷ xs)
+      (child_contexts_read f g (assignment_at s n a) (child_contexts s n) (child_contexts_agree f g s n h)))
 
   -- the code under a node is its step's, at the code under its children
   pub code_at : RankDecreases s → (n : NodeId) (a : Option ℕ) → code_under s n a ≡ code_step s (code_under s) n a
@@ -75,7 +88,9 @@ module _ (f : Codes) (a : Option ℕ) where
   of_calls (_ ∷ cs) = of_calls cs
 
   of_node : (s : Nodes) (n : NodeId) → flat_map (child_code f a) (child_contexts s n) ≡ flat_map (call_code f a) (met_in_form (form_of s n))
-  of_node s n = of_child_contexts (child_contexts s n) ∙ (ap (flat_map at_base) (child_contexts_follow s n) ∙ of_calls (met_in_form (form_of s n)))
+  of_node s n =
+      of_child_contexts (child_contexts s n)
+      ∙ (ap (flat_map at_base) (child_contexts_follow s n) ∙ of_calls (met_in_form (form_of s n)))
 
 -- the code of tasks is that of their calls
 task_code : (s : Nodes) (a : Option ℕ) (cs : List Call) → code_of s (tasks_of a cs) ≡ flat_map (call_code (code_under s) a) cs
@@ -86,7 +101,8 @@ task_code s (Some a) (OnPat id ∷ cs) = ap (λ (xs : List Spot). code_under s (
 task_code s a (_ ∷ cs) = task_code s a cs
 
 -- reading a node leaves the code of its children
-pub code_read : (s : Nodes) → RankDecreases s → (n : NodeId) (a : Option ℕ) → code_under s n a ≡ spot n a ∷ code_of s (tasks_of (assignment_at s n a) (met_in_form (form_of s n)))
+pub code_read : (s : Nodes) → RankDecreases s → (n : NodeId) (a : Option ℕ) → code_under s n a
+    ≡ spot n a ∷ code_of s (tasks_of (assignment_at s n a) (met_in_form (form_of s n)))
 code_read s fall n a =
     code_at s fall n a
     ∙ ap (λ (xs : List Spot). spot n a ∷ xs)
@@ -106,10 +122,12 @@ HaveNodes s xs = AllByRecursion (λ (x : Spot). Has s x.node) xs
 abbrev itself : Codes
 itself n a = spot n a ∷ []
 
-child_contexts_in_range : (s : Nodes) (a : Option ℕ) (xs : List ChildContext) → ((k : NodeId) → Contains (children_in xs) k → Has s k) → HaveNodes s (flat_map (child_code itself a) xs)
+child_contexts_in_range : (s : Nodes) (a : Option ℕ) (xs : List ChildContext) →
+    ((k : NodeId) → Contains (children_in xs) k → Has s k) → HaveNodes s (flat_map (child_code itself a) xs)
 child_contexts_in_range s a [] h = tt
 child_contexts_in_range s a (x ∷ xs) h = at x.base (child_contexts_in_range s a xs (λ k m. h k (suc m.0, omega (arith, m.1), m.2))) where
-  at : (b : Base) → HaveNodes s (flat_map (child_code itself a) xs) → HaveNodes s (in_code b (itself x.child (of_pattern x.child a)) ++ flat_map (child_code itself a) xs)
+  at : (b : Base) → HaveNodes s (flat_map (child_code itself a) xs) →
+      HaveNodes s (in_code b (itself x.child (of_pattern x.child a)) ++ flat_map (child_code itself a) xs)
   at Scope rest = (h x.child (0, omega arith, refl), rest)
   at ConstScope rest = rest
 
@@ -121,7 +139,8 @@ tasks_in_range s (Some a) (OnPat id ∷ cs) h = (h.0, tasks_in_range s (Some a) 
 tasks_in_range s a (_ ∷ cs) h = tasks_in_range s a cs h
 
 -- the children of a node exist
-pub children_in_range : (s : Nodes) → RankDecreases s → (n : NodeId) (a : Option ℕ) (rest : List Task) → Has s n → AreInRange s rest → AreInRange s (tasks_of a (met_in_form (form_of s n)) ++ rest)
+pub children_in_range : (s : Nodes) → RankDecreases s → (n : NodeId) (a : Option ℕ) (rest : List Task) → Has s n →
+    AreInRange s rest → AreInRange s (tasks_of a (met_in_form (form_of s n)) ++ rest)
 children_in_range s fall n a rest h r =
     let have = child_contexts_in_range s a (child_contexts s n) (λ k m. fall.in_range n h k (child_in_range s n k m)) in
     all_two (λ (t : Task). Has s (task_node t)) (tasks_of a (met_in_form (form_of s n))) rest
@@ -166,7 +185,9 @@ module _ (s : Nodes) (entry_nodes : List InContext) (from : List NodeId) (base :
   assignment_on (NodeId.Pat id) a on t = t
   assignment_on (NodeId.TypeRef id) a on t = tt
 
-  children_on : (f : Codes) (a : Option ℕ) → TargetOn a → (xs : List ChildContext) → ((x : ChildContext) → Contains xs x → x.base ≡ Scope → (b : Option ℕ) → TargetOn b → SpotsOn (f x.child b)) → SpotsOn (flat_map (child_code f a) xs)
+  children_on : (f : Codes) (a : Option ℕ) → TargetOn a → (xs : List ChildContext) →
+      ((x : ChildContext) → Contains xs x → x.base ≡ Scope → (b : Option ℕ) → TargetOn b → SpotsOn (f x.child b)) →
+      SpotsOn (flat_map (child_code f a) xs)
   children_on f a t [] h = tt
   children_on f a t (x ∷ xs) h =
       all_two SpotOn (child_code f a x) (flat_map (child_code f a) xs) (one x.base refl)
@@ -183,7 +204,9 @@ module _ (s : Nodes) (entry_nodes : List InContext) (from : List NodeId) (base :
         let place = child_in_context at.scope at.const_scope in
         record {
           at = place x;
-          occurs = child on.occurs (mapped place (child_contexts s at.node) x (subst (λ (k : NodeId). Contains (child_contexts s k) x) (sym on.is_node) m));
+          occurs = child on.occurs
+              (mapped place (child_contexts s at.node) x
+              (subst (λ (k : NodeId). Contains (child_contexts s k) x) (sym on.is_node) m));
           is_node = refl;
           reached = go n x.child on.reached (child_in_range s n x.child (mapped (λ (y : ChildContext). y.child) (child_contexts s n) x m));
           on = (
@@ -227,39 +250,53 @@ module _ (s : Nodes) (entry_nodes : List InContext) (from : List NodeId) (base :
   of_pat h (Some a) (Some (Pat.Path path)) t = one_use h a (local_name path) t
   of_pat h _ _ t = tt
 
-pub uses_on : (c : Contents) (entry_nodes : List InContext) (from : List NodeId) (base : Chain) (xs : List Spot) → SpotsOn c.nodes entry_nodes from base xs → UsesOn c.nodes entry_nodes from base (flat_map (spot_uses c) xs)
+pub uses_on : (c : Contents) (entry_nodes : List InContext) (from : List NodeId) (base : Chain) (xs : List Spot) →
+    SpotsOn c.nodes entry_nodes from base xs → UsesOn c.nodes entry_nodes from base (flat_map (spot_uses c) xs)
 uses_on c entry_nodes from base [] h = tt
 uses_on c entry_nodes from base (x ∷ xs) h =
-    all_two (UseOn c.nodes entry_nodes from base) (spot_uses c x) (flat_map (spot_uses c) xs) (one x.node x.assignment h.0.0 h.0.1) (uses_on c entry_nodes from base xs h.1) where
-      one : (n : NodeId) (a : Option ℕ) → StandsOn c.nodes entry_nodes from base n → TargetOn c.nodes entry_nodes from base a → UsesOn c.nodes entry_nodes from base (uses_at c n a)
-      one (NodeId.Expr id) a on t = of_expr c.nodes entry_nodes from base (hygiene_of c.side_tables (ExprId id)) id (slice_get c.nodes.exprs id) on
-      one (NodeId.Pat id) a on t = of_pat c.nodes entry_nodes from base (hygiene_of c.side_tables (PatId id)) a (slice_get c.nodes.pats id) t
+    all_two (UseOn c.nodes entry_nodes from base) (spot_uses c x) (flat_map (spot_uses c) xs)
+    (one x.node x.assignment h.0.0 h.0.1) (uses_on c entry_nodes from base xs h.1) where
+      one : (n : NodeId) (a : Option ℕ) → StandsOn c.nodes entry_nodes from base n →
+          TargetOn c.nodes entry_nodes from base a → UsesOn c.nodes entry_nodes from base (uses_at c n a)
+      one (NodeId.Expr id) a on t =
+          of_expr c.nodes entry_nodes from base (hygiene_of c.side_tables (ExprId id)) id
+          (slice_get c.nodes.exprs id) on
+      one (NodeId.Pat id) a on t =
+          of_pat c.nodes entry_nodes from base (hygiene_of c.side_tables (PatId id)) a (slice_get c.nodes.pats id) t
       one (NodeId.TypeRef id) a on t = tt
 
 -- What a use captures, by lengths
 
 module _ (n : List ℕ) (h : SyntaxContext) where
   -- an entry that is found, and not further in, is found along the outer frames
-  found_outside : (between own : Chain) → outer_entry (resolve between n h) (resolve (between ++ own) n h) ≡ outer_entry (resolve between n h) (resolve own n h)
+  found_outside : (between own : Chain) → outer_entry (resolve between n h) (resolve (between ++ own) n h)
+      ≡ outer_entry (resolve between n h) (resolve own n h)
   found_outside between own =
-      ap (λ (o : Option ScopeEntry). outer_entry (resolve between n h) o) (resolve_append n h between own) ∙ cases (resolve between n h) (resolve own n h) where
+      ap (λ (o : Option ScopeEntry). outer_entry (resolve between n h) o) (resolve_append n h between own)
+      ∙ cases (resolve between n h) (resolve own n h) where
         cases : (o p : Option ScopeEntry) → outer_entry o (option_or o p) ≡ outer_entry o p
         cases None p = refl
         cases (Some entry) p = refl
 
-  by_append : (between own : Chain) → resolve_outside (length (between ++ own) - length own) (between ++ own) n h ≡ outer_entry (resolve between n h) (resolve own n h)
+  by_append : (between own : Chain) → resolve_outside (length (between ++ own) - length own) (between ++ own) n h
+      ≡ outer_entry (resolve between n h) (resolve own n h)
   by_append between own =
       let many : length (between ++ own) - length own ≡ length between = omega (arith, length-append between own) in
       ap (λ (m : ℕ). resolve_outside m (between ++ own) n h) many
-      ∙ (ap (λ (c : Chain). outer_entry (resolve c n h) (resolve (between ++ own) n h)) (take-append_seam between own) ∙ found_outside between own)
+      ∙ (ap (λ (c : Chain). outer_entry (resolve c n h) (resolve (between ++ own) n h)) (take-append_seam between own)
+      ∙ found_outside between own)
 
-  by_length : (chain between own : Chain) → chain ≡ between ++ own → resolve_outside (length chain - length own) chain n h ≡ outer_entry (resolve between n h) (resolve own n h)
+  by_length : (chain between own : Chain) → chain ≡ between ++ own →
+      resolve_outside (length chain - length own) chain n h ≡ outer_entry (resolve between n h) (resolve own n h)
   by_length chain between own e = ap (λ (c : Chain). resolve_outside (length c - length own) c n h) e ∙ by_append between own
 
-by_its_length : (own chain : Chain) (u : Use) (captured : Option ℕ) → IsCapturedBinding own chain u captured → captured ≡ resolve_outside (length chain - length own) chain u.name u.hygiene
+by_its_length : (own chain : Chain) (u : Use) (captured : Option ℕ) → IsCapturedBinding own chain u captured →
+    captured ≡ resolve_outside (length chain - length own) chain u.name u.hygiene
 by_its_length own chain u captured k = k.is ∙ sym (by_length u.name u.hygiene chain k.between own k.on)
 
-each_by_length : (chain : ℕ → Chain) (closure : ℕ) (us : List Use) → AllByRecursion (λ (u : Use). IsOn (chain closure) (chain u.expr)) us → EachCaptures chain closure (captured_binding chain closure) us
+each_by_length : (chain : ℕ → Chain) (closure : ℕ) (us : List Use) →
+    AllByRecursion (λ (u : Use). IsOn (chain closure) (chain u.expr)) us →
+    EachCaptures chain closure (captured_binding chain closure) us
 each_by_length chain closure [] h = tt
 each_by_length chain closure (u ∷ us) h = (
   record { between = h.0.0; on = h.0.1; is = by_length u.name u.hygiene (chain u.expr) h.0.0 (chain closure) h.0.1 },
@@ -280,7 +317,8 @@ own_on _ scope = ([], refl)
 is_on_two : (a b c : Chain) → IsOn a b → IsOn b c → IsOn a c
 is_on_two a b c p q = (q.0 ++ p.0, q.1 ∙ (ap (λ (x : Chain). q.0 ++ x) p.1 ∙ sym (append_assoc q.0 p.0 a)))
 
-module _ (c : Contents) (entry_nodes : List InContext) (from : List NodeId) (fall : RankDecreases c.nodes) (go : (n k : NodeId) → IsReached c.nodes from n → Contains (children_of c.nodes n) k → IsReached c.nodes from k)
+module _ (c : Contents) (entry_nodes : List InContext) (from : List NodeId) (fall : RankDecreases c.nodes)
+    (go : (n k : NodeId) → IsReached c.nodes from n → Contains (children_of c.nodes n) k → IsReached c.nodes from k)
     (one : (expr : ℕ) (x y : Chain) → HasChain c.nodes entry_nodes expr x → HasChain c.nodes entry_nodes expr y → x ≡ y)
     (closure : ℕ) (is : IsClosure (slice_get c.nodes.exprs closure)) (reached : IsReached c.nodes from (NodeId.Expr closure)) where
   abbrev Chains : Type 0
@@ -294,20 +332,29 @@ module _ (c : Contents) (entry_nodes : List InContext) (from : List NodeId) (fal
   all_on chain are =
       let has = are closure reached in
       let same : chain closure ≡ has.at.scope = has.is_chain ∙ no_own (slice_get c.nodes.exprs closure) is has.at.scope in
-      let on : StandsOn c.nodes entry_nodes from (chain closure) (NodeId.Expr closure) = record { at = has.at; occurs = has.occurs; is_node = has.is_node; reached = reached; on = ([], sym same) } in
-      uses_on c entry_nodes from (chain closure) (code_under c.nodes (NodeId.Expr closure) None) (all_code_on c.nodes entry_nodes from (chain closure) fall go (NodeId.Expr closure) on)
+      let on : StandsOn c.nodes entry_nodes from (chain closure) (NodeId.Expr closure) =
+      record { at = has.at; occurs = has.occurs; is_node = has.is_node; reached = reached; on = ([], sym same) } in
+      uses_on c entry_nodes from (chain closure) (code_under c.nodes (NodeId.Expr closure) None)
+      (all_code_on c.nodes entry_nodes from (chain closure) fall go (NodeId.Expr closure) on)
 
-  chains_on : (chain : Chains) → AreTheirs chain → (us : List Use) → UsesOn c.nodes entry_nodes from (chain closure) us → AllByRecursion (λ (u : Use). IsOn (chain closure) (chain u.expr)) us
+  chains_on : (chain : Chains) → AreTheirs chain → (us : List Use) →
+      UsesOn c.nodes entry_nodes from (chain closure) us →
+      AllByRecursion (λ (u : Use). IsOn (chain closure) (chain u.expr)) us
   chains_on chain are [] h = tt
   chains_on chain are (u ∷ us) h =
       let x = h.0 in
       let f = form_of c.nodes (NodeId.Expr u.expr) in
       let same : chain u.expr ≡ within_own f x.at.scope =
-      one u.expr (chain u.expr) (within_own f x.at.scope) (are u.expr x.reached) (record { at = x.at; occurs = x.occurs; is_node = x.is_node; is_chain = refl }) in
-      (subst (IsOn (chain closure)) (sym same) (is_on_two (chain closure) x.at.scope (within_own f x.at.scope) x.on (own_on f x.at.scope)), chains_on chain are us h.1)
+      one u.expr (chain u.expr) (within_own f x.at.scope) (are u.expr x.reached)
+      (record { at = x.at; occurs = x.occurs; is_node = x.is_node; is_chain = refl }) in (
+        subst (IsOn (chain closure)) (sym same)
+            (is_on_two (chain closure) x.at.scope (within_own f x.at.scope) x.on (own_on f x.at.scope)),
+        chains_on chain are us h.1,
+      )
 
   -- the chain of each use is some frames on the closure's
-  pub uses_stand_on : (chain : Chains) → AreTheirs chain → AllByRecursion (λ (u : Use). IsOn (chain closure) (chain u.expr)) (uses_in c closure)
+  pub uses_stand_on : (chain : Chains) → AreTheirs chain →
+      AllByRecursion (λ (u : Use). IsOn (chain closure) (chain u.expr)) (uses_in c closure)
   uses_stand_on chain are = chains_on chain are (uses_in c closure) (all_on chain are)
 
   -- each use captures what lengths say
@@ -315,16 +362,23 @@ module _ (c : Contents) (entry_nodes : List InContext) (from : List NodeId) (fal
   all_by_length chain are = each_by_length chain closure (uses_in c closure) (uses_stand_on chain are)
 
   -- they capture the same by any chains
-  same_captures : (f g : Chains) → AreTheirs f → AreTheirs g → f closure ≡ g closure → (a d : Use → Option ℕ) (us : List Use) → UsesOn c.nodes entry_nodes from (f closure) us →
+  same_captures : (f g : Chains) → AreTheirs f → AreTheirs g → f closure ≡ g closure →
+      (a d : Use → Option ℕ) (us : List Use) → UsesOn c.nodes entry_nodes from (f closure) us →
       EachCaptures f closure a us → EachCaptures g closure d us → filter_map a us ≡ filter_map d us
   same_captures f g p q e a d [] h k m = refl
   same_captures f g p q e a d (u ∷ us) h k m =
       let x = one u.expr (f u.expr) (g u.expr) (p u.expr h.0.reached) (q u.expr h.0.reached) in
-      let same : captured_binding f closure u ≡ captured_binding g closure u = λ i. resolve_outside (length (x i) - length (e i)) (x i) u.name u.hygiene in
-      let first : a u ≡ d u = by_its_length (f closure) (f u.expr) u (a u) k.0 ∙ (same ∙ sym (by_its_length (g closure) (g u.expr) u (d u) m.0)) in
+      let same : captured_binding f closure u ≡ captured_binding g closure u =
+      λ i. resolve_outside (length (x i) - length (e i)) (x i) u.name u.hygiene in
+      let first : a u ≡ d u =
+      by_its_length (f closure) (f u.expr) u (a u) k.0
+      ∙ (same ∙ sym (by_its_length (g closure) (g u.expr) u (d u) m.0)) in
       let rest = same_captures f g p q e a d us h.1 k.1 m.1 in
       λ i. cons_option (first i) (rest i)
 
-  pub one_list : (f g : Chains) → AreTheirs f → AreTheirs g → (a d : Use → Option ℕ) → EachCaptures f closure a (uses_in c closure) → EachCaptures g closure d (uses_in c closure) →
+  pub one_list : (f g : Chains) → AreTheirs f → AreTheirs g → (a d : Use → Option ℕ) →
+      EachCaptures f closure a (uses_in c closure) → EachCaptures g closure d (uses_in c closure) →
       filter_map a (uses_in c closure) ≡ filter_map d (uses_in c closure)
-  one_list f g p q a d k m = same_captures f g p q (one closure (f closure) (g closure) (p closure reached) (q closure reached)) a d (uses_in c closure) (all_on f p) k m
+  one_list f g p q a d k m =
+      same_captures f g p q (one closure (f closure) (g closure) (p closure reached) (q closure reached)) a d
+      (uses_in c closure) (all_on f p) k m

@@ -1,4 +1,4 @@
 mod AskLemmas
 pub mod CodeLemmas
 pub mod ReadLemmas
-mod BindingListLemmas
+mod DistinctLemmas

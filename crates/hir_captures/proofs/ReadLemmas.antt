@@ -65,12 +65,17 @@ module _ (code : Code) where
     code_now =
         let children = tasks_of (assignment_at c.nodes (task_node t) (task_target t)) (met_in_form (form_of c.nodes (task_node t))) in
         ap (λ (xs : List Spot). xs ++ code_of c.nodes rest) (code_read c.nodes fall (task_node t) (task_target t))
-        ∙ ap (λ (xs : List Spot). spot (task_node t) (task_target t) ∷ xs) (sym (flat_map-append (λ (x : Task). code_under c.nodes (task_node x) (task_target x)) children rest))
+        ∙ ap (λ (xs : List Spot). spot (task_node t) (task_target t) ∷ xs)
+        (sym (flat_map-append (λ (x : Task). code_under c.nodes (task_node x) (task_target x)) children rest))
 
     -- one node is read
-    read_one : AreInRange c.nodes (t ∷ rest) → after ≡ with_uses code before (uses_at c (task_node t) (task_target t)) → new ≡ defer → ReadsTask code before (t ∷ rest) after new
+    read_one : AreInRange c.nodes (t ∷ rest) → after
+        ≡ with_uses code before (uses_at c (task_node t) (task_target t)) → new ≡ defer →
+        ReadsTask code before (t ∷ rest) after new
     read_one in_range found is = record {
-      in_range = subst (AreInRange c.nodes) (sym is) (children_in_range c.nodes fall (task_node t) (assignment_at c.nodes (task_node t) (task_target t)) rest in_range.0 in_range.1);
+      in_range = subst (AreInRange c.nodes) (sym is)
+          (children_in_range c.nodes fall (task_node t)
+          (assignment_at c.nodes (task_node t) (task_target t)) rest in_range.0 in_range.1);
       finds =
           ap (λ (spots : List Spot). with_uses code before (flat_map (spot_uses c) spots)) code_now
           ∙ (uses_two before (uses_at c (task_node t) (task_target t)) (flat_map (spot_uses c) (code_of c.nodes defer))
@@ -79,14 +84,17 @@ module _ (code : Code) where
       shorter = omega (arith, ap (length {A = Spot}) code_now, ap (λ (ts : List Task). length (code_of c.nodes ts)) is);
     }
 
-  pub read_expr : RankDecreases c.nodes → (id : ℕ) (x : Expr) (rest new : List Task) (before after : List ℕ) → slice_get c.nodes.exprs id ≡ Some x → AreInRange c.nodes (Task.Expr id ∷ rest) →
+  pub read_expr : RankDecreases c.nodes → (id : ℕ) (x : Expr) (rest new : List Task) (before after : List ℕ) →
+      slice_get c.nodes.exprs id ≡ Some x → AreInRange c.nodes (Task.Expr id ∷ rest) →
       after ≡ with_uses code before (uses_at c (NodeId.Expr id) None) →
       new ≡ tasks_of (if_assignment id (Some x)) (met_in_form (expr_form x)) ++ rest → ReadsTask code before (Task.Expr id ∷ rest) after new
   read_expr fall id x rest new before after is in_range found defer =
       read_one fall (Task.Expr id) rest new before after in_range found
       (defer ∙ ap (λ (o : Option Expr). tasks_of (if_assignment id o) (met_in_form (form_at expr_form o)) ++ rest) (sym is))
 
-  pub read_pat : RankDecreases c.nodes → (id : ℕ) (x : Pat) (a : Option ℕ) (rest new : List Task) (before after : List ℕ) → slice_get c.nodes.pats id ≡ Some x → AreInRange c.nodes (pat_task a id ∷ rest) →
+  pub read_pat : RankDecreases c.nodes →
+      (id : ℕ) (x : Pat) (a : Option ℕ) (rest new : List Task) (before after : List ℕ) → slice_get c.nodes.pats id
+      ≡ Some x → AreInRange c.nodes (pat_task a id ∷ rest) →
       after ≡ with_uses code before (uses_at c (NodeId.Pat id) a) →
       new ≡ tasks_of a (pat_calls x) ++ rest → ReadsTask code before (pat_task a id ∷ rest) after new
   read_pat fall id x None rest new before after is in_range found defer =
@@ -99,21 +107,29 @@ module _ (code : Code) where
 -- The whole
 
 -- each reached expression has a scope, along which its frames are
-pub chains_are : (b : BodyContents) (scopes : Scopes) → ((x : ℕ) → IsSome (map.get scopes.scope_by_expr x) ↔ BodyReaches b (NodeId.Expr x)) → ChainsAreFrames b.store.nodes (entry_nodes_of_body b) scopes → AreChains b (chain_in scopes)
+pub chains_are : (b : BodyContents) (scopes : Scopes) →
+    ((x : ℕ) → IsSome (map.get scopes.scope_by_expr x) ↔ BodyReaches b (NodeId.Expr x)) →
+    ChainsAreFrames b.store.nodes (entry_nodes_of_body b) scopes → AreChains b (chain_in scopes)
 chains_are b scopes reached chains x r = at (map.get scopes.scope_by_expr x) refl ((reached x).1 r) where
-  at : (o : Option ℕ) → map.get scopes.scope_by_expr x ≡ o → IsSome o → HasChain b.store.nodes (entry_nodes_of_body b) x (chain scopes.scopes (map.get scopes.scope_by_expr x))
+  at : (o : Option ℕ) → map.get scopes.scope_by_expr x ≡ o → IsSome o →
+      HasChain b.store.nodes (entry_nodes_of_body b) x (chain scopes.scopes (map.get scopes.scope_by_expr x))
   at None e h = absurd cc
-  at (Some scope) e h = subst (λ (o : Option ℕ). HasChain b.store.nodes (entry_nodes_of_body b) x (chain scopes.scopes o)) (sym e) (chains x scope e)
+  at (Some scope) e h =
+      subst (λ (o : Option ℕ). HasChain b.store.nodes (entry_nodes_of_body b) x (chain scopes.scopes o)) (sym e)
+      (chains x scope e)
 
-pub are_by_length : (b : BodyContents) (code : Code) (closure scope : ℕ) (found : List ℕ) → code.store.now ≡ b.store → code.outermost ≡ length (chain code.scopes.now.scopes (Some scope)) →
-    map.get code.scopes.now.scope_by_expr closure ≡ Some scope → found ≡ with_code code [] (Task.Expr closure ∷ []) → found ≡ captures_by (chain_in code.scopes.now) b.store closure
+pub are_by_length : (b : BodyContents) (code : Code) (closure scope : ℕ) (found : List ℕ) → code.store.now ≡ b.store →
+    code.outermost ≡ length (chain code.scopes.now.scopes (Some scope)) →
+    map.get code.scopes.now.scope_by_expr closure ≡ Some scope → found ≡ with_code code [] (Task.Expr closure ∷ []) →
+    found ≡ captures_by (chain_in code.scopes.now) b.store closure
 unfolding uses_in
 are_by_length b code closure scope found same out is e =
     let scopes = code.scopes.now in
     let own : code.outermost ≡ length (chain_in scopes closure) = out ∙ ap (λ (o : Option ℕ). length (chain scopes.scopes o)) (sym is) in
     let by : ℕ → Use → Option ℕ = λ n u. resolve_outside (length (chain_in scopes u.expr) - n) (chain_in scopes u.expr) u.name u.hygiene in
     e
-    ∙ (ap (λ (spots : List Spot). with_uses code [] (flat_map (spot_uses code.store.now) spots)) (append-nil (code_under code.store.now.nodes (NodeId.Expr closure) None))
+    ∙ (ap (λ (spots : List Spot). with_uses code [] (flat_map (spot_uses code.store.now) spots))
+    (append-nil (code_under code.store.now.nodes (NodeId.Expr closure) None))
     ∙ (λ i. fold with_new [] (filter_map (by (own i)) (uses_in (same i) closure))))
 
 -- two facts on what was returned are one

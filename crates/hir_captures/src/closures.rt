@@ -7,9 +7,9 @@ ghost use Rattle.hir_scope.specs.BodyScopes.{ChainsAreFrames, entry_nodes_of_bod
 ghost use Rattle.hir_captures.specs.Captures.{AreCaptures, IsClosure, IsReachedClosure, captures_by};
 ghost use Rattle.hir_captures.specs.internal.Reading.{chain_in};
 
-use crate::binding_list::BindingList;
 use crate::captured_binding::depth;
 use crate::code::Code;
+use crate::distinct::DistinctBindings;
 use crate::fault::CapturesFault;
 use crate::laws::lengths_decide_captures;
 use crate::tasks::{Task, Tasks};
@@ -65,7 +65,7 @@ fn captures_by_length(
         scopes,
         outermost: depth(scopes, scope),
     };
-    let mut found = BindingList::new(alloc, store.bindings().len())?;
+    let mut found = DistinctBindings::new(alloc, store.bindings().len())?;
     let mut unread = Tasks::new(alloc);
     unread.stack.push(Task::Expr(closure))?;
     code.read_all(&mut unread, &mut found)?;

@@ -8,13 +8,13 @@ ghost use Rattle.hir_captures.specs.Uses.{if_assignment, use_of, uses_at};
 ghost use Rattle.hir_captures.specs.internal.Pending.{AreInRange, pat_task};
 ghost use Rattle.hir_captures.specs.internal.Reading.{with_uses, with_code, ReadsTask};
 
-use crate::binding_list::BindingList;
 use crate::captured_binding::captured_binding;
+use crate::distinct::DistinctBindings;
 use crate::fault::CapturesFault;
 use crate::tasks::{Task, Tasks};
 use hir_base::HygieneId;
 use hir_node::{Expr, ExprId, Pat, PatId, Path};
-use hir_scope::{ExprScopes, local_name};
+use hir_scope::{ExprScopes, Form, local_name};
 use hir_store_core::ExpressionStore;
 use hir_store_core::laws::rank_decreases;
 
@@ -29,7 +29,7 @@ pub(crate) struct Code<'a> {
 
 /// Returns the assignment in whose target the patterns of an expression are: the expression itself, where it
 /// is one.
-fn if_assignment(id: ExprId, expr: &Expr) -> Option<ExprId>
+pub fn if_assignment(id: ExprId, expr: &Expr) -> Option<ExprId>
     ensures { result ≡ if_assignment id (Some expr.now) }
 {
     if let Expr::Assignment { .. } = expr {
@@ -43,7 +43,7 @@ impl<'a> Code<'a> {
     /// this expression.
     fn ask(
         &self,
-        found: &mut BindingList,
+        found: &mut DistinctBindings,
         expr: ExprId,
         path: &Path,
         hygiene: HygieneId,
@@ -59,14 +59,17 @@ impl<'a> Code<'a> {
             return Ok(());
         };
         match captured_binding(self.scopes, scope, name, hygiene, self.outermost) {
-            Some(binding) => found.add(binding),
+            Some(binding) => {
+                found.add(binding)?;
+                Ok(())
+            }
             None => Ok(()),
         }
     }
 
     /// Adds the binding that an expression itself captures: where it is a path, it is resolved in its own
     /// chain.
-    fn ask_expr(&self, found: &mut BindingList, id: ExprId) -> Result<(), CapturesFault>
+    fn ask_expr(&self, found: &mut DistinctBindings, id: ExprId) -> Result<(), CapturesFault>
         requires in_range { id < length self.now.store.now.nodes.exprs }
         ensures found { OnOk result (found.new ≡ with_uses self.now found.old
             (uses_at self.now.store.now (node.Expr id) None)) }
@@ -82,7 +85,7 @@ impl<'a> Code<'a> {
     /// resolved in the assignment's chain.
     fn ask_pat(
         &self,
-        found: &mut BindingList,
+        found: &mut DistinctBindings,
         id: PatId,
         assignment: Option<ExprId>,
     ) -> Result<(), CapturesFault>
@@ -104,7 +107,7 @@ impl<'a> Code<'a> {
     fn read_expr(
         &self,
         unread: &mut Tasks,
-        found: &mut BindingList,
+        found: &mut DistinctBindings,
         id: ExprId,
     ) -> Result<(), CapturesFault>
         requires in_range { AreInRange self.now.store.now.nodes (Task.Expr id ∷ unread.old.stack.items) }
@@ -116,7 +119,8 @@ impl<'a> Code<'a> {
         rank_decreases();
         self.ask_expr(found, id)?;
         let expr = &self.store[id];
-        unread.push_expr(expr, if_assignment(id, expr))?;
+        let form = Form::of_expr(expr);
+        unread.push_in(&form, if_assignment(id, expr))?;
         Ok(())
     }
 
@@ -124,7 +128,7 @@ impl<'a> Code<'a> {
     fn read_pat(
         &self,
         unread: &mut Tasks,
-        found: &mut BindingList,
+        found: &mut DistinctBindings,
         id: PatId,
         assignment: Option<ExprId>,
     ) -> Result<(), CapturesFault>
@@ -139,7 +143,8 @@ impl<'a> Code<'a> {
         // (a copy: the prover's borrow checker takes an option that was passed on for one without a value)
         let target = assignment;
         self.ask_pat(found, id, assignment)?;
-        unread.push_pat(&self.store[id], target)?;
+        let form = Form::of_pat(&self.store[id]);
+        unread.push_in(&form, target)?;
         Ok(())
     }
 
@@ -147,7 +152,7 @@ impl<'a> Code<'a> {
     fn read(
         &self,
         unread: &mut Tasks,
-        found: &mut BindingList,
+        found: &mut DistinctBindings,
         task: Task,
     ) -> Result<(), CapturesFault>
         requires in_range { AreInRange self.now.store.now.nodes (task ∷ unread.old.stack.items) }
@@ -166,7 +171,7 @@ impl<'a> Code<'a> {
     pub(crate) fn read_all(
         &self,
         unread: &mut Tasks,
-        found: &mut BindingList,
+        found: &mut DistinctBindings,
     ) -> Result<(), CapturesFault>
         requires in_range { AreInRange self.now.store.now.nodes unread.old.stack.items }
         ensures found { OnOk result (found.new ≡ with_code self.now found.old unread.old.stack.items) }

@@ -2,16 +2,15 @@
 #![tactic(auto, using(hir_node::proofs::RunLemmas::freely))]
 
 ghost use Rattle.std.specs.Prelude.{◌≡◌, [], ◌∷◌, ◌++◌, Err, None, OnErr, OnOk};
-ghost use Rattle.hir_node.specs.ChildCalls.{pat_calls};
 ghost use Rattle.hir_collections.specs.Stacks.{Defers};
-ghost use Rattle.hir_scope.specs.ScopingForms.{expr_form};
+ghost use Rattle.hir_scope.specs.ScopingForms.{form_model};
 ghost use Rattle.hir_scope.specs.Order.{met_in_form};
 ghost use Rattle.hir_captures.specs.internal.Pending.{task_of, tasks_of};
 
 use crate::fault::CapturesFault;
 use hir_collections::Stack;
-use hir_node::{Expr, ExprId, LifetimeRefId, Pat, PatId, StoreVisitor, TypeRefId};
-use hir_scope::visit_in_scope_order;
+use hir_node::{ExprId, LifetimeRefId, PatId, StoreVisitor, TypeRefId};
+use hir_scope::{Form, visit_form};
 use std::alloc::Global;
 
 /// A node of a closure's code that is still to be read.
@@ -68,37 +67,20 @@ impl Tasks {
         }
     }
 
-    /// Pushes what is in an expression, the first on top. Its patterns are in the target of this assignment,
-    /// or in none.
-    pub(crate) fn push_expr(
+    /// Pushes what is in a node of this form, the first on top. Its patterns are in the target of this
+    /// assignment, or in none.
+    pub(crate) fn push_in(
         &mut self,
-        expr: &Expr,
+        form: &Form<'_>,
         assignment: Option<ExprId>,
     ) -> Result<(), CapturesFault>
         ensures ok { OnOk result (self.new.stack.items
-            ≡ tasks_of assignment (met_in_form (expr_form expr.now)) ++ self.old.stack.items) }
+            ≡ tasks_of assignment (met_in_form (form_model form.now)) ++ self.old.stack.items) }
         ensures memory { OnErr result (result ≡ Err CapturesFault.Memory) }
     {
         let below = self.stack.len();
         self.assignment = assignment;
-        visit_in_scope_order(expr, self);
-        self.stack.push_deferred(below)?;
-        Ok(())
-    }
-
-    /// Pushes what is in a pattern, the first on top. It is in the target of this assignment, or in none.
-    pub(crate) fn push_pat(
-        &mut self,
-        pat: &Pat,
-        assignment: Option<ExprId>,
-    ) -> Result<(), CapturesFault>
-        ensures ok { OnOk result (self.new.stack.items
-            ≡ tasks_of assignment (pat_calls pat.now) ++ self.old.stack.items) }
-        ensures memory { OnErr result (result ≡ Err CapturesFault.Memory) }
-    {
-        let below = self.stack.len();
-        self.assignment = assignment;
-        pat.visit_children(self);
+        visit_form(form, self);
         self.stack.push_deferred(below)?;
         Ok(())
     }

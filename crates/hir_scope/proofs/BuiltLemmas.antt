@@ -1,5 +1,6 @@
 -- What a whole walk made.
-use Rattle.std.proofs.Common.{◌≡◌, ℕ, List, [], ◌∷◌, refl, sym, ap, ◌∙◌, subst, Option, Some, None, inl, inr, ◌⊎◌, ⊎_elim, Bool, true, false, cond, ◌↔◌, ◌+◌, ◌++◌, map, length, arith, append-nil, ◌<◌}
+use Rattle.std.proofs.Common.{◌≡◌, ℕ, List, [], ◌∷◌, refl, sym, ap, ◌∙◌, subst, Option, Some, None, inl, inr, ◌⊎◌, ⊎_elim, Bool, true}
+use Rattle.std.proofs.Common.{false, cond, ◌↔◌, ◌+◌, ◌++◌, map, length, arith, append-nil, ◌<◌}
 use Rattle.std.proofs.lemmas.{List.length-map, List.Elements.All-contains}
 use Rattle.std.specs.Cmp.{nat_cmp_total, tied_itself}
 use Rattle.std.specs.FinMap.{get-insert, get-empty, nat_cmp-IsAntisymmetric}
@@ -12,13 +13,17 @@ use Rattle.hir_validate.specs.declared.node_arenas.Nodes.{Nodes}
 use Rattle.hir_store_core.specs.{Contents.Contents, Under.IsReached, Under.reached_nodes}
 use Rattle.hir_body.specs.{Bodies.BodyContents, Bodies.body_nodes, Bodies.entry_nodes}
 use Rattle.hir_signature.specs.{Signatures.root_entry_nodes}
-use Rattle.hir_scope.specs.BodyScopes.{ChainsAreFrames, expr_count, entry_nodes_of_body, entry_nodes_of_signature, AreBodyScopes, AreSignatureScopes, BodyIsTooLarge, SignatureIsTooLarge, limit}
+use Rattle.hir_scope.specs.BodyScopes.{ChainsAreFrames, expr_count, entry_nodes_of_body, entry_nodes_of_signature, AreBodyScopes}
+use Rattle.hir_scope.specs.BodyScopes.{AreSignatureScopes, BodyIsTooLarge, SignatureIsTooLarge, limit}
 use Rattle.hir_scope.specs.{Chains.InContext, Chains.Occurs, Chains.within_own, ScopingForms.form_of, Scopes.entry_count}
 use Rattle.hir_scope.specs.internal.Begins.{IsSound, IsSoundBody, IsSoundStore, root_entries, body_begins, signature_begins}
-use Rattle.hir_scope.specs.internal.WalkState.{ScopeAssigned, write_all, WalkState, WalkSteps, IsRight, context_assigned, future_of, chain_of, IsReady, Exceeds, one, count_entries, weight, weight_left}
+use Rattle.hir_scope.specs.internal.WalkState.{ScopeAssigned, write_all, WalkState, WalkSteps, IsRight, context_assigned, future_of}
+use Rattle.hir_scope.specs.internal.WalkState.{chain_of, IsReady, Exceeds, one, count_entries, weight, weight_left}
 use Rattle.hir_scope.specs.internal.Pending.{future}
 use Rattle.hir_scope.specs.internal.ContextsUnder.{exprs_under}
-use Rattle.hir_scope.proofs.BeginLemmas.{body_ready, body_exceeds, root_exceeds, signature_ready, signature_exceeds, body_same, body_whole, body_scopes_weigh, body_entries_weigh, signature_same, signature_whole, signature_scopes_weigh, signature_entries_weigh, roots_in, entry_nodes_in_range}
+use Rattle.hir_scope.proofs.BeginLemmas.{body_ready, body_exceeds, root_exceeds, signature_ready, signature_exceeds, body_same}
+use Rattle.hir_scope.proofs.BeginLemmas.{body_whole, body_scopes_weigh, body_entries_weigh, signature_same, signature_whole}
+use Rattle.hir_scope.proofs.BeginLemmas.{signature_scopes_weigh, signature_entries_weigh, roots_in, entry_nodes_in_range}
 use Rattle.hir_scope.proofs.CountLemmas.{exprs_counted}
 use Rattle.hir_scope.proofs.MemberLemmas.{In, contains_in, in_map, map_in}
 use Rattle.hir_scope.proofs.{MovingLemmas.scopes_weigh, MovingLemmas.entries_weigh, SameLemmas.at_or_before}
@@ -37,21 +42,26 @@ tied_same q k e = nat_cmp-IsAntisymmetric q k (is_equal (nat_cmp q k) e) where
   is_equal Ordering.Greater e = absurd cc
 
 -- a value that exists was there before, or was written
-pub written_or : (m : ScopesById) (gs : List ScopeAssigned) (expr scope : ℕ) → finmap.get (write_all m gs) expr ≡ Some scope → (finmap.get m expr ≡ Some scope) ⊎ ((g : ScopeAssigned) × In g gs × (g.expr ≡ expr) × (g.assigned ≡ scope))
+pub written_or : (m : ScopesById) (gs : List ScopeAssigned) (expr scope : ℕ) → finmap.get (write_all m gs) expr
+    ≡ Some scope → (finmap.get m expr
+    ≡ Some scope) ⊎ ((g : ScopeAssigned) × In g gs × (g.expr ≡ expr) × (g.assigned ≡ scope))
 written_or m [] expr scope e = inl e
 written_or m (g ∷ gs) expr scope e =
     ⊎_elim
     (λ q. ⊎_elim
     (λ t. inr (g, inl refl, sym (tied_same expr g.expr t.0), t.1))
     (λ o. inl o)
-    (at_or_before (eq_by_cmp nat_cmp expr g.expr) g.assigned (finmap.get m expr) scope (sym (get-insert nat_cmp_total m g.expr g.assigned expr) ∙ q)))
+    (at_or_before (eq_by_cmp nat_cmp expr g.expr) g.assigned (finmap.get m expr) scope
+    (sym (get-insert nat_cmp_total m g.expr g.assigned expr) ∙ q)))
     (λ r. inr (r.0, inr r.1, r.2, r.3))
     (written_or (finmap.insert m g.expr g.assigned) gs expr scope e)
 
 -- into nothing, it was written
-pub written_once : (gs : List ScopeAssigned) (expr scope : ℕ) → finmap.get (write_all finmap.empty gs) expr ≡ Some scope → (g : ScopeAssigned) × In g gs × (g.expr ≡ expr) × (g.assigned ≡ scope)
+pub written_once : (gs : List ScopeAssigned) (expr scope : ℕ) → finmap.get (write_all finmap.empty gs) expr
+    ≡ Some scope → (g : ScopeAssigned) × In g gs × (g.expr ≡ expr) × (g.assigned ≡ scope)
 written_once gs expr scope e =
-    ⊎_elim (λ q. absurd (let none : finmap.get {K = ℕ} {X = ℕ} {R = nat_cmp} finmap.empty expr ≡ None = get-empty nat_cmp expr in cc)) (λ r. r)
+    ⊎_elim (λ q. absurd (let none : finmap.get {K = ℕ} {X = ℕ} {R = nat_cmp} finmap.empty expr
+    ≡ None = get-empty nat_cmp expr in cc)) (λ r. r)
     (written_or finmap.empty gs expr scope e)
 
 some_if : (b : Bool) (v : ℕ) (o : Option ℕ) → (b ≡ true) ⊎ IsSome o → IsSome (cond b (Some v) o)
@@ -64,16 +74,20 @@ stays : (m : ScopesById) (gs : List ScopeAssigned) (expr : ℕ) → IsSome (finm
 stays m [] expr h = h
 stays m (g ∷ gs) expr h =
     stays (finmap.insert m g.expr g.assigned) gs expr
-    (subst IsSome (sym (get-insert nat_cmp_total m g.expr g.assigned expr)) (some_if (eq_by_cmp nat_cmp expr g.expr) g.assigned (finmap.get m expr) (inr h)))
+    (subst IsSome (sym (get-insert nat_cmp_total m g.expr g.assigned expr))
+    (some_if (eq_by_cmp nat_cmp expr g.expr) g.assigned (finmap.get m expr) (inr h)))
 
 -- what was written exists
-pub written_in_range : (m : ScopesById) (gs : List ScopeAssigned) (g : ScopeAssigned) → In g gs → IsSome (finmap.get (write_all m gs) g.expr)
+pub written_in_range : (m : ScopesById) (gs : List ScopeAssigned) (g : ScopeAssigned) → In g gs →
+    IsSome (finmap.get (write_all m gs) g.expr)
 written_in_range m [] g h = absurd h
 written_in_range m (f ∷ gs) g h =
     ⊎_elim
     (λ e. stays (finmap.insert m f.expr f.assigned) gs g.expr
     (subst IsSome (sym (get-insert nat_cmp_total m f.expr f.assigned g.expr))
-    (some_if (eq_by_cmp nat_cmp g.expr f.expr) f.assigned (finmap.get m g.expr) (inl (ap (λ (x : ScopeAssigned). eq_by_cmp nat_cmp g.expr x.expr) e ∙ ap is_eq (tied_itself nat_cmp_total g.expr))))))
+    (some_if (eq_by_cmp nat_cmp g.expr f.expr) f.assigned (finmap.get m g.expr)
+    (inl (ap (λ (x : ScopeAssigned). eq_by_cmp nat_cmp g.expr x.expr) e
+    ∙ ap is_eq (tied_itself nat_cmp_total g.expr))))))
     (λ i. written_in_range (finmap.insert m f.expr f.assigned) gs g i)
     h
 
@@ -83,19 +97,24 @@ some_is : (o : Option ℕ) → IsSome o → (v : ℕ) × (o ≡ Some v)
 some_is None h = absurd cc
 some_is (Some v) h = (v, refl)
 
-module _ (s : Nodes) (sound : IsSound s) (entry_nodes : List InContext) (nodes : List NodeId) (same : map (λ (p : InContext). p.node) entry_nodes ≡ nodes) (in_range : (n : NodeId) → In n nodes → Has s n) where
+module _ (s : Nodes) (sound : IsSound s) (entry_nodes : List InContext) (nodes : List NodeId)
+    (same : map (λ (p : InContext). p.node) entry_nodes ≡ nodes) (in_range : (n : NodeId) → In n nodes →
+    Has s n) where
   contexts_in_range : (p : InContext) → In p entry_nodes → Has s p.node
   contexts_in_range p i = in_range p.node (subst (In p.node) same (map_in (λ (q : InContext). q.node) p entry_nodes i))
 
   pub counted : length (exprs_under s entry_nodes) ≡ expr_count (reached_nodes s nodes)
   counted = exprs_counted s sound.fall sound.under entry_nodes nodes (sym same) contexts_in_range in_range
 
-  module _ (old new : WalkState) (before after : ℕ) (gone : WalkSteps s old new before after) (whole : future_of s old ≡ exprs_under s entry_nodes) (none : old.scopes.scope_by_expr ≡ finmap.empty) (done : new.tasks ≡ []) where
+  module _ (old new : WalkState) (before after : ℕ) (gone : WalkSteps s old new before after) (whole : future_of s old
+      ≡ exprs_under s entry_nodes) (none : old.scopes.scope_by_expr ≡ finmap.empty) (done : new.tasks ≡ []) where
     contexts : map context_assigned gone.given ≡ exprs_under s entry_nodes
     unfolding future
     contexts =
         let scopes = new.scopes.scopes in
-        let last : future_of s new ≡ [] = ap (λ ts. future s (chain_of scopes) (chain_of scopes new.current.scope) (chain_of scopes new.current.const_scope) ts) done in
+        let last : future_of s new ≡ [] =
+        ap (λ ts. future s (chain_of scopes) (chain_of scopes new.current.scope)
+        (chain_of scopes new.current.const_scope) ts) done in
         sym (append-nil (map context_assigned gone.given))
         ∙ (ap (λ (ps : List InContext). map context_assigned gone.given ++ ps) (sym last)
         ∙ (sym gone.in_order ∙ whole))
@@ -104,9 +123,12 @@ module _ (s : Nodes) (sound : IsSound s) (entry_nodes : List InContext) (nodes :
     written = gone.written ∙ ap (λ m. write_all m gone.given) none
 
     given_occurs : (g : ScopeAssigned) → In g gone.given → Occurs s entry_nodes (context_assigned g)
-    given_occurs g i = exprs_stand s sound.fall entry_nodes contexts_in_range (context_assigned g) (subst (In (context_assigned g)) contexts (map_in context_assigned g gone.given i))
+    given_occurs g i =
+        exprs_stand s sound.fall entry_nodes contexts_in_range (context_assigned g)
+        (subst (In (context_assigned g)) contexts (map_in context_assigned g gone.given i))
 
-    was_given : (expr scope : ℕ) → finmap.get new.scopes.scope_by_expr expr ≡ Some scope → (g : ScopeAssigned) × In g gone.given × (g.expr ≡ expr) × (g.assigned ≡ scope)
+    was_given : (expr scope : ℕ) → finmap.get new.scopes.scope_by_expr expr ≡ Some scope →
+        (g : ScopeAssigned) × In g gone.given × (g.expr ≡ expr) × (g.assigned ≡ scope)
     was_given expr scope e = written_once gone.given expr scope (sym (ap (λ m. finmap.get m expr) written) ∙ e)
 
     to_reached : (expr : ℕ) → IsSome (finmap.get new.scopes.scope_by_expr expr) → IsReached s nodes (NodeId.Expr expr)
@@ -114,7 +136,8 @@ module _ (s : Nodes) (sound : IsSound s) (entry_nodes : List InContext) (nodes :
         let v = some_is (finmap.get new.scopes.scope_by_expr expr) h in
         let g = was_given expr v.0 v.1 in
         subst (λ (x : ℕ). IsReached s nodes (NodeId.Expr x)) g.2
-        (subst (λ ns. IsReached s ns (NodeId.Expr g.0.expr)) same (occurs_reached s entry_nodes (context_assigned g.0) (given_occurs g.0 g.1)))
+        (subst (λ ns. IsReached s ns (NodeId.Expr g.0.expr)) same
+        (occurs_reached s entry_nodes (context_assigned g.0) (given_occurs g.0 g.1)))
 
     from_reached : (expr : ℕ) → IsReached s nodes (NodeId.Expr expr) → IsSome (finmap.get new.scopes.scope_by_expr expr)
     from_reached expr h =
@@ -137,13 +160,15 @@ module _ (s : Nodes) (sound : IsSound s) (entry_nodes : List InContext) (nodes :
           at = context_assigned g.0;
           occurs = given_occurs g.0 g.1;
           is_node = ap NodeId.Expr g.2;
-          is_chain = ap (chain_of new.scopes.scopes) (sym g.3) ∙ (right.is ∙ ap (λ (x : ℕ). within_own (form_of s (NodeId.Expr x)) g.0.scope) g.2);
+          is_chain = ap (chain_of new.scopes.scopes) (sym g.3)
+              ∙ (right.is ∙ ap (λ (x : ℕ). within_own (form_of s (NodeId.Expr x)) g.0.scope) g.2);
         }
 
     pub ticked : after ≡ before + expr_count (reached_nodes s nodes)
     ticked = omega (arith, length-map gone.given context_assigned, ap (λ (ps : List InContext). length ps) contexts, counted, gone.ticks)
 
--- 3. What the whole walk over a body or a signature has made: its scopes, with the counts of scopes and entries, in a step for each expression.
+-- 3. What the whole walk over a body or a signature has made: its scopes, with the counts of scopes and entries, in a
+-- step for each expression.
 
 -- at the end all that was weighed is in scopes
 module _ (s : Nodes) (old new : WalkState) (done : new.tasks ≡ []) where
@@ -175,7 +200,8 @@ module _ (b : BodyContents) (sound : IsSoundBody b) where
     pub body_at_most : length (future_of c.nodes start) ≡ expr_count (body_nodes b)
     body_at_most =
         ap (λ (x : Contents). length (future_of x.nodes start)) same
-        ∙ (ap (λ ps. length ps) whole ∙ counted nodes sound.nodes (entry_nodes_of_body b) (entry_nodes b) (body_same b) (entry_nodes_in_range b sound))
+        ∙ (ap (λ ps. length ps) whole ∙ counted nodes sound.nodes (entry_nodes_of_body b) (entry_nodes b)
+        (body_same b) (entry_nodes_in_range b sound))
 
     pub body_fails : Exceeds c.nodes start → BodyIsTooLarge b
     body_fails h = body_exceeds b sound (subst (Exceeds nodes) is (subst (λ (x : Contents). Exceeds x.nodes start) same h))
@@ -188,14 +214,19 @@ module _ (b : BodyContents) (sound : IsSoundBody b) where
       none = ap (λ m. m.scopes.scope_by_expr) is
 
       pub body_ticks : after ≡ before + expr_count (body_nodes b)
-      body_ticks = ticked nodes sound.nodes (entry_nodes_of_body b) (entry_nodes b) (body_same b) (entry_nodes_in_range b sound) start new before after gone whole none done
+      body_ticks =
+          ticked nodes sound.nodes (entry_nodes_of_body b) (entry_nodes b) (body_same b)
+          (entry_nodes_in_range b sound) start new before after gone whole none done
 
       pub body_made : AreBodyScopes b new.scopes
       body_made = record {
-        reached = reached nodes sound.nodes (entry_nodes_of_body b) (entry_nodes b) (body_same b) (entry_nodes_in_range b sound) start new before after gone whole none done;
-        chains = chains nodes sound.nodes (entry_nodes_of_body b) (entry_nodes b) (body_same b) (entry_nodes_in_range b sound) start new before after gone whole none done;
+        reached = reached nodes sound.nodes (entry_nodes_of_body b) (entry_nodes b) (body_same b)
+            (entry_nodes_in_range b sound) start new before after gone whole none done;
+        chains = chains nodes sound.nodes (entry_nodes_of_body b) (entry_nodes b) (body_same b)
+            (entry_nodes_in_range b sound) start new before after gone whole none done;
         scopes = all_scopes nodes start new done (gone.weights one) ∙ (ap (weight nodes one) is ∙ body_scopes_weigh b sound);
-        entries = all_entries nodes start new done (gone.weights count_entries) ∙ (ap (weight nodes count_entries) is ∙ body_entries_weigh b sound);
+        entries = all_entries nodes start new done (gone.weights count_entries)
+            ∙ (ap (weight nodes count_entries) is ∙ body_entries_weigh b sound);
       }
 
 module _ (c : Contents) (sound : IsSoundStore c) (start : WalkState) (is : start ≡ signature_begins c) where
@@ -214,8 +245,11 @@ module _ (c : Contents) (sound : IsSoundStore c) (start : WalkState) (is : start
 
     pub signature_made : AreSignatureScopes c new.scopes
     signature_made = record {
-      reached = reached c.nodes sound.nodes (entry_nodes_of_signature c) (root_entry_nodes c) (signature_same c) (roots_in c sound) start new before after gone met_all no_scope done;
-      chains = chains c.nodes sound.nodes (entry_nodes_of_signature c) (root_entry_nodes c) (signature_same c) (roots_in c sound) start new before after gone met_all no_scope done;
+      reached = reached c.nodes sound.nodes (entry_nodes_of_signature c) (root_entry_nodes c) (signature_same c)
+          (roots_in c sound) start new before after gone met_all no_scope done;
+      chains = chains c.nodes sound.nodes (entry_nodes_of_signature c) (root_entry_nodes c) (signature_same c)
+          (roots_in c sound) start new before after gone met_all no_scope done;
       scopes = all_scopes c.nodes start new done (gone.weights one) ∙ (ap (weight c.nodes one) is ∙ signature_scopes_weigh c sound);
-      entries = all_entries c.nodes start new done (gone.weights count_entries) ∙ (ap (weight c.nodes count_entries) is ∙ signature_entries_weigh c sound);
+      entries = all_entries c.nodes start new done (gone.weights count_entries)
+          ∙ (ap (weight c.nodes count_entries) is ∙ signature_entries_weigh c sound);
     }

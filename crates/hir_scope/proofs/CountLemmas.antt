@@ -1,5 +1,6 @@
 -- Sums: over tasks and all nodes under those that they are about, over what is reached, and over frames, as scopes and as entries.
-use Rattle.std.proofs.Common.{◌≡◌, ℕ, zero, suc, ◌+◌, ◌<◌, List, [], ◌∷◌, map, length, refl, sym, ap, ◌∙◌, arith, Bool, cond, ◌++◌, append-nil, Option, Some, None}
+use Rattle.std.proofs.Common.{◌≡◌, ℕ, zero, suc, ◌+◌, ◌<◌, List, [], ◌∷◌, map, length, refl, sym, ap, ◌∙◌, arith, Bool, cond, ◌++◌}
+use Rattle.std.proofs.Common.{append-nil, Option, Some, None}
 use Rattle.std.proofs.lemmas.List.Concat.{flat_map-append, length-flat_map}
 use Rattle.std.proofs.lemmas.List.Sorted.{sum_by-IsPermutation}
 use Rattle.std.proofs.lemmas.List.Sums.{length-filter, sum_by-append, sum_by-cons}
@@ -7,7 +8,8 @@ use Rattle.std.specs.List.{flat_map, sum_by}
 use Rattle.hir_base.specs.declared.mod_path.PathKind.TheVariants.{Plain}
 use Rattle.hir_path.specs.declared.bound.{TypeBound.TypeBound, UseArgRef.UseArgRef}
 use Rattle.hir_path.specs.declared.path.{GenericArgs.GenericArgs, Path.Path}
-use Rattle.hir_node.specs.ChildCalls.{Call, OnLifetime, e, p, t, l, opt, pat_of_call, use_calls, bound_calls, args_calls, path_calls, spread_calls, array_calls, children}
+use Rattle.hir_node.specs.ChildCalls.{Call, OnLifetime, e, p, t, l, opt, pat_of_call, use_calls, bound_calls, args_calls, path_calls}
+use Rattle.hir_node.specs.ChildCalls.{spread_calls, array_calls, children}
 use Rattle.hir_node.specs.declared.expr.Expr.{Expr}
 use Rattle.hir_node.specs.declared.expr_types.{Array.Array, Item.Item, MatchArm.MatchArm}
 use Rattle.hir_node.specs.declared.expr_types.{RecordSpread.RecordSpread, Statement.Statement}
@@ -24,8 +26,10 @@ use Rattle.hir_scope.specs.ScopingForms as form
 use Rattle.hir_scope.specs.{Frames.Frame, Frames.binds, Frames.frame, Order.met_in_closure, Order.met_in_form}
 use Rattle.hir_scope.specs.ChildContexts.{ChildContext, child_contexts, block_const_frames}
 use Rattle.hir_scope.specs.declared.tasks.{CurrentScopes.CurrentScopes, Task.Task}
-use Rattle.hir_scope.specs.internal.WalkState.{total, about, one, count_entries, total_step, tasks_weight, node_tasks, node_frames, weight_left, task_turns, node_turns, turns_left}
-use Rattle.hir_scope.specs.internal.Pending.{task_of, tasks_of, one_arm, guarded_task, leave, statement_tasks, form_tasks, opened_frames, opened_const_frames, task_children, task_frames}
+use Rattle.hir_scope.specs.internal.WalkState.{total, about, one, count_entries, total_step, tasks_weight, node_tasks, node_frames}
+use Rattle.hir_scope.specs.internal.WalkState.{weight_left, task_turns, node_turns, turns_left}
+use Rattle.hir_scope.specs.internal.Pending.{task_of, tasks_of, one_arm, guarded_task, leave, statement_tasks, form_tasks, opened_frames}
+use Rattle.hir_scope.specs.internal.Pending.{opened_const_frames, task_children, task_frames}
 use Rattle.hir_scope.specs.internal.ContextsUnder.{contexts_under, exprs_under}
 use Rattle.hir_scope.proofs.ChildLemmas.{children_in, child_contexts_children, children_of_form, about_form}
 use Rattle.hir_scope.proofs.MemberLemmas.{In, contains_in, sum_flat, sum_same, sum_mapped, sum_plus, sum_none, sum_ones, agree_in}
@@ -36,7 +40,10 @@ use Rattle.hir_scope.proofs.UnderLemmas.{under_at, child_in_range, child_lower}
 module _ (s : Nodes) (fall : RankDecreases s) (u : NodeId → ℕ) where
   pub total_at : (n : NodeId) → Has s n → total s u n ≡ u n + sum_by (total s u) (children_of s n)
   unfolding total
-  total_at n h = fold_down_at s fall (total_step s u) 0 (λ f g m agree. ap (λ (x : ℕ). u m + x) (sum_same f g (children_of s m) (agree_in f g (children_of s m) agree))) n
+  total_at n h =
+      fold_down_at s fall (total_step s u) 0
+      (λ f g m agree. ap (λ (x : ℕ). u m + x) (sum_same f g (children_of s m) (agree_in f g (children_of s m) agree)))
+      n
 
   met_total : (n : NodeId) → sum_by (total s u) (children (met_in_form (form_of s n))) ≡ sum_by (total s u) (children_of s n)
   unfolding child_contexts
@@ -45,18 +52,31 @@ module _ (s : Nodes) (fall : RankDecreases s) (u : NodeId → ℕ) where
       ∙ sum_by-IsPermutation (total s u) (children_of s n) (children_in (child_contexts s n)) (child_contexts_children s n)
 
   -- a node is met: its own weight goes, and what is inside it comes
-  pub left_met : (v : Task → ℕ) (a : CurrentScopes) (n : NodeId) (ts : List Task) → Has s n → let inside = form_tasks a (form_of s n) in (total s u n + tasks_weight s u v ts) + sum_by v inside ≡ u n + tasks_weight s u v (inside ++ ts)
+  pub left_met : (v : Task → ℕ) (a : CurrentScopes) (n : NodeId) (ts : List Task) → Has s n →
+      let inside = form_tasks a (form_of s n) in (total s u n + tasks_weight s u v ts) + sum_by v inside
+      ≡ u n + tasks_weight s u v (inside ++ ts)
   left_met v a n ts h =
       let inside = form_tasks a (form_of s n) in
-      let b = ap (λ (ns : List NodeId). sum_by (total s u) ns) (flat_map-append task_children inside ts) ∙ sum_by-append (total s u) (about inside) (about ts) in
-      omega (arith, total_at n h, met_total n, ap (λ (ns : List NodeId). sum_by (total s u) ns) (about_form a (form_of s n)), sum_by-append v inside ts, b)
+      let b =
+      ap (λ (ns : List NodeId). sum_by (total s u) ns) (flat_map-append task_children inside ts)
+      ∙ sum_by-append (total s u) (about inside) (about ts) in
+      omega (
+        arith,
+        total_at n h,
+        met_total n,
+        ap (λ (ns : List NodeId). sum_by (total s u) ns)
+            (about_form a (form_of s n)),
+        sum_by-append v inside ts,
+        b,
+      )
 
 -- 2. What is still to come, as sums: a node that is met leaves what its tasks weigh, less what it opens itself.
 
 -- Sums over tasks
 
 module _ (s : Nodes) (u : NodeId → ℕ) (v : Task → ℕ) where
-  pub left_cons : (t : Task) (ts : List Task) → tasks_weight s u v (t ∷ ts) ≡ v t + (sum_by (total s u) (task_children t) + tasks_weight s u v ts)
+  pub left_cons : (t : Task) (ts : List Task) → tasks_weight s u v (t ∷ ts)
+      ≡ v t + (sum_by (total s u) (task_children t) + tasks_weight s u v ts)
   left_cons t ts = omega (arith, sum_by-cons v t ts, sum_by-append (total s u) (task_children t) (about ts))
 
 -- what is left with one scope weighs as much as what is left with another
@@ -68,7 +88,14 @@ module _ (v : Task → ℕ) (a b : CurrentScopes) (same : v (leave a) ≡ v (lea
   around_same (form.If c y f) =
       let us = tasks_of (e c ++ e y) in
       let ts = tasks_of (opt e f) in
-      omega (arith, sum_by-append v us (leave a ∷ ts), sum_by-append v us (leave b ∷ ts), sum_by-cons v (leave a) ts, sum_by-cons v (leave b) ts, same)
+      omega (
+        arith,
+        sum_by-append v us (leave a ∷ ts),
+        sum_by-append v us (leave b ∷ ts),
+        sum_by-cons v (leave a) ts,
+        sum_by-cons v (leave b) ts,
+        same,
+      )
   around_same (form.Let pat x) = refl
   around_same (form.Block id label xs tail) =
       let us = flat_map statement_tasks xs in
@@ -86,7 +113,8 @@ module _ (v : Task → ℕ) (a b : CurrentScopes) (same : v (leave a) ≡ v (lea
 module _ (s : Nodes) (fall : RankDecreases s) where
   -- a node is entered: the frames that it opens exist, those of its tasks are still to come
   pub weight_met : (w : Frame → ℕ) (a : CurrentScopes) (n : NodeId) (ts : List Task) → Has s n → let x = form_of s n in
-      total s (λ (m : NodeId). sum_by w (node_frames s m)) n + weight_left s w ts ≡ sum_by w (opened_frames s x ++ opened_const_frames x) + weight_left s w (form_tasks a x ++ ts)
+      total s (λ (m : NodeId). sum_by w (node_frames s m)) n + weight_left s w ts
+      ≡ sum_by w (opened_frames s x ++ opened_const_frames x) + weight_left s w (form_tasks a x ++ ts)
   weight_met w a n ts h =
       let x = form_of s n in
       let v : Task → ℕ = λ t. sum_by w (task_frames s t) in
@@ -94,9 +122,15 @@ module _ (s : Nodes) (fall : RankDecreases s) where
       let b = sum_by-append w (opened_frames s x ++ opened_const_frames x) (flat_map (task_frames s) (node_tasks s n)) in
       omega (arith, d, b, sum_flat w (task_frames s) (node_tasks s n), around_same v a (record { scope = 0; const_scope = 0 }) refl x)
 
-  pub turns_met : (a : CurrentScopes) (n : NodeId) (ts : List Task) → Has s n → total s (node_turns s) n + turns_left s ts ≡ 2 + turns_left s (form_tasks a (form_of s n) ++ ts)
+  pub turns_met : (a : CurrentScopes) (n : NodeId) (ts : List Task) → Has s n →
+      total s (node_turns s) n + turns_left s ts ≡ 2 + turns_left s (form_tasks a (form_of s n) ++ ts)
   turns_met a n ts h =
-      omega (arith, left_met s fall (node_turns s) task_turns a n ts h, around_same task_turns a (record { scope = 0; const_scope = 0 }) refl (form_of s n))
+      omega (
+        arith,
+        left_met s fall (node_turns s) task_turns a n ts h,
+        around_same task_turns a
+            (record { scope = 0; const_scope = 0 }) refl (form_of s n),
+      )
 
 -- 3. Sums over what is reached, however it is listed: by nodes, by places, or told from each node by its children.
 
@@ -105,7 +139,8 @@ one_if b = cond b 1 0
 
 -- Sums over what is under nodes
 
-module _ (s : Nodes) (fall : RankDecreases s) (listing : (n : NodeId) → nodes_under s n ≡ n ∷ flat_map (nodes_under s) (children_of s n)) (f : NodeId → ℕ) where
+module _ (s : Nodes) (fall : RankDecreases s) (listing : (n : NodeId) → nodes_under s n
+    ≡ n ∷ flat_map (nodes_under s) (children_of s n)) (f : NodeId → ℕ) where
   nodes_total : (n : ℕ) (m : NodeId) → rank s m < n → Has s m → sum_by f (nodes_under s m) ≡ total s f m
   nodes_total zero m l h = absurd (omega (arith, l))
   nodes_total (suc n) m l h =
@@ -117,16 +152,19 @@ module _ (s : Nodes) (fall : RankDecreases s) (listing : (n : NodeId) → nodes_
       nodes_total n k (let low = fall.lower m h k c in omega (arith, low, l)) (fall.in_range m h k c)) in
       omega (arith, a, b, d, r, total_at s fall f m h)
 
-  pub reached_total : (entry_nodes : List NodeId) → ((n : NodeId) → In n entry_nodes → Has s n) → sum_by f (reached_nodes s entry_nodes) ≡ sum_by (total s f) entry_nodes
+  pub reached_total : (entry_nodes : List NodeId) → ((n : NodeId) → In n entry_nodes → Has s n) →
+      sum_by f (reached_nodes s entry_nodes) ≡ sum_by (total s f) entry_nodes
   reached_total entry_nodes in_range =
       sum_flat f (nodes_under s) entry_nodes
-      ∙ sum_same (λ k. sum_by f (nodes_under s k)) (total s f) entry_nodes (λ k i. nodes_total (suc (rank s k)) k (omega arith) (in_range k i))
+      ∙ sum_same (λ k. sum_by f (nodes_under s k)) (total s f) entry_nodes
+      (λ k i. nodes_total (suc (rank s k)) k (omega arith) (in_range k i))
 
 module _ (s : Nodes) (fall : RankDecreases s) (f : NodeId → ℕ) where
   abbrev at_context : InContext → ℕ
   at_context p = f p.node
 
-  children_sum : (p : InContext) → sum_by (λ (q : InContext). total s f q.node) (children_in_context s p) ≡ sum_by (total s f) (children_of s p.node)
+  children_sum : (p : InContext) → sum_by (λ (q : InContext). total s f q.node) (children_in_context s p)
+      ≡ sum_by (total s f) (children_of s p.node)
   children_sum p =
       sum_mapped (λ (q : InContext). total s f q.node) (child_in_context p.scope p.const_scope) (child_contexts s p.node)
       ∙ (sym (sum_mapped (total s f) (λ (x : ChildContext). x.child) (child_contexts s p.node))
@@ -142,10 +180,13 @@ module _ (s : Nodes) (fall : RankDecreases s) (f : NodeId → ℕ) where
       contexts_total n q (let low = child_lower s fall p q h i in omega (arith, low, l)) (child_in_range s fall p q h i)) in
       omega (arith, a, b, d, r, children_sum p, total_at s fall f p.node h)
 
-  pub context_total : (entry_nodes : List InContext) → ((p : InContext) → In p entry_nodes → Has s p.node) → sum_by at_context (flat_map (contexts_under s) entry_nodes) ≡ sum_by (total s f) (map (λ (p : InContext). p.node) entry_nodes)
+  pub context_total : (entry_nodes : List InContext) → ((p : InContext) → In p entry_nodes → Has s p.node) →
+      sum_by at_context (flat_map (contexts_under s) entry_nodes)
+      ≡ sum_by (total s f) (map (λ (p : InContext). p.node) entry_nodes)
   context_total entry_nodes in_range =
       sum_flat at_context (contexts_under s) entry_nodes
-      ∙ (sum_same (λ q. sum_by at_context (contexts_under s q)) (λ (q : InContext). total s f q.node) entry_nodes (λ q i. contexts_total (suc (rank s q.node)) q (omega arith) (in_range q i))
+      ∙ (sum_same (λ q. sum_by at_context (contexts_under s q)) (λ (q : InContext). total s f q.node) entry_nodes
+      (λ q i. contexts_total (suc (rank s q.node)) q (omega arith) (in_range q i))
       ∙ sym (sum_mapped (total s f) (λ (p : InContext). p.node) entry_nodes))
 
 -- As many expressions are listed by places as by nodes
@@ -153,7 +194,11 @@ module _ (s : Nodes) (fall : RankDecreases s) (f : NodeId → ℕ) where
 abbrev expr_one : NodeId → ℕ
 expr_one n = one_if (is_expr n)
 
-pub exprs_counted : (s : Nodes) → RankDecreases s → ((n : NodeId) → nodes_under s n ≡ n ∷ flat_map (nodes_under s) (children_of s n)) → (entry_nodes : List InContext) (nodes : List NodeId) → nodes ≡ map (λ (p : InContext). p.node) entry_nodes → ((p : InContext) → In p entry_nodes → Has s p.node) → ((n : NodeId) → In n nodes → Has s n) → length (exprs_under s entry_nodes) ≡ expr_count (reached_nodes s nodes)
+pub exprs_counted : (s : Nodes) → RankDecreases s →
+    ((n : NodeId) → nodes_under s n ≡ n ∷ flat_map (nodes_under s) (children_of s n)) →
+    (entry_nodes : List InContext) (nodes : List NodeId) → nodes ≡ map (λ (p : InContext). p.node) entry_nodes →
+    ((p : InContext) → In p entry_nodes → Has s p.node) → ((n : NodeId) → In n nodes → Has s n) →
+    length (exprs_under s entry_nodes) ≡ expr_count (reached_nodes s nodes)
 unfolding exprs_under
 exprs_counted s fall listing entry_nodes nodes same in_range in_range_too =
     length-filter (λ (p : InContext). is_expr p.node) (flat_map (contexts_under s) entry_nodes)
@@ -168,7 +213,9 @@ exprs_counted s fall listing entry_nodes nodes same in_range in_range_too =
 abbrev pub form_frames : Nodes → CurrentScopes → ScopingForm → List Frame
 form_frames s current x = (opened_frames s x ++ opened_const_frames x) ++ flat_map (task_frames s) (form_tasks current x)
 
-frames_split : (s : Nodes) (w : Frame → ℕ) (current : CurrentScopes) (x : ScopingForm) → sum_by w (form_frames s current x) ≡ (sum_by w (opened_frames s x) + sum_by w (opened_const_frames x)) + sum_by (λ t. sum_by w (task_frames s t)) (form_tasks current x)
+frames_split : (s : Nodes) (w : Frame → ℕ) (current : CurrentScopes) (x : ScopingForm) →
+    sum_by w (form_frames s current x) ≡ (sum_by w (opened_frames s x) + sum_by w (opened_const_frames x)) + sum_by
+    (λ t. sum_by w (task_frames s t)) (form_tasks current x)
 frames_split s w current x =
     let b = sum_by-append w (opened_frames s x ++ opened_const_frames x) (flat_map (task_frames s) (form_tasks current x)) in
     omega (arith, b, sum_by-append w (opened_frames s x) (opened_const_frames x), sum_flat w (task_frames s) (form_tasks current x))
@@ -185,7 +232,9 @@ module _ (s : Nodes) where
   call_opens w _ = refl
 
   pub calls_open : (w : Frame → ℕ) (cs : List Call) → sum_by (λ x. sum_by w (task_frames s x)) (tasks_of cs) ≡ 0
-  calls_open w cs = sum_flat (λ x. sum_by w (task_frames s x)) task_of cs ∙ sum_none (λ c. sum_by (λ x. sum_by w (task_frames s x)) (task_of c)) cs (call_opens w)
+  calls_open w cs =
+      sum_flat (λ x. sum_by w (task_frames s x)) task_of cs
+      ∙ sum_none (λ c. sum_by (λ x. sum_by w (task_frames s x)) (task_of c)) cs (call_opens w)
 
   statement_ones : (x : Statement) → sum_by (ones s) (statement_tasks x) ≡ statement_scopes x
   statement_ones (Statement.Let pat ty x y) =
@@ -196,27 +245,40 @@ module _ (s : Nodes) where
   statement_ones (Statement.Item Item.Other) = refl
 
   statements_ones : (xs : List Statement) → sum_by (ones s) (flat_map statement_tasks xs) ≡ sum_by statement_scopes xs
-  statements_ones xs = sum_flat (ones s) statement_tasks xs ∙ sum_same (λ x. sum_by (ones s) (statement_tasks x)) statement_scopes xs (λ x i. statement_ones x)
+  statements_ones xs =
+      sum_flat (ones s) statement_tasks xs ∙ sum_same (λ x. sum_by (ones s) (statement_tasks x)) statement_scopes xs
+      (λ x i. statement_ones x)
 
   guarded_one : (pat expr : ℕ) (guard : Option ℕ) → ones s (guarded_task pat expr guard) ≡ 1
   guarded_one pat expr None = refl
   guarded_one pat expr (Some guard) = refl
 
   arms_ones : (arms : List MatchArm) → sum_by (ones s) (flat_map one_arm arms) ≡ length arms
-  arms_ones arms = sum_flat (ones s) one_arm arms ∙ sum_ones (λ arm. sum_by (ones s) (one_arm arm)) arms (λ arm i. let r = guarded_one arm.pat arm.expr arm.guard in omega (arith, r))
+  arms_ones arms =
+      sum_flat (ones s) one_arm arms ∙ sum_ones (λ arm. sum_by (ones s) (one_arm arm)) arms
+      (λ arm i. let r = guarded_one arm.pat arm.expr arm.guard in omega (arith, r))
 
   constants_one : (id : Option ℕ) → sum_by one (block_const_frames id) ≡ count_if_some id
   constants_one None = refl
   constants_one (Some id) = refl
 
   -- the tasks of a form and what it opens as it is met, counted
-  tasks_ones : (current : CurrentScopes) (x : ScopingForm) → (sum_by one (opened_frames s x) + sum_by one (opened_const_frames x)) + sum_by (ones s) (form_tasks current x) ≡ form_scopes x
+  tasks_ones : (current : CurrentScopes) (x : ScopingForm) →
+      (sum_by one (opened_frames s x) + sum_by one (opened_const_frames x)) + sum_by (ones s) (form_tasks current x)
+      ≡ form_scopes x
   tasks_ones current (form.If c y f) =
       let b = sum_by-append (ones s) (tasks_of (e c ++ e y)) (leave current ∷ tasks_of (opt e f)) in
       omega (arith, b, sum_by-cons (ones s) (leave current) (tasks_of (opt e f)), calls_open one (e c ++ e y), calls_open one (opt e f))
   tasks_ones current (form.Block id label xs tail) =
       let b = sum_by-append (ones s) (flat_map statement_tasks xs) (tasks_of (opt e tail) ++ leave current ∷ []) in
-      omega (arith, b, sum_by-append (ones s) (tasks_of (opt e tail)) (leave current ∷ []), statements_ones xs, calls_open one (opt e tail), constants_one id)
+      omega (
+        arith,
+        b,
+        sum_by-append (ones s) (tasks_of (opt e tail)) (leave current ∷ []),
+        statements_ones xs,
+        calls_open one (opt e tail),
+        constants_one id,
+      )
   tasks_ones current (form.Closure types ret args body) =
       let b = sum_by-append (ones s) (tasks_of (met_in_closure types ret args body)) (leave current ∷ []) in
       omega (arith, b, calls_open one (met_in_closure types ret args body))
@@ -286,7 +348,8 @@ expr_meets (Expr.Yield x) = none-opt e (λ y. refl) x
 expr_meets (Expr.Yeet x) = none-opt e (λ y. refl) x
 expr_meets (Expr.RecordLit path fields spread) =
     none-append (flat_map (λ field. e field.expr) fields ++ spread_calls spread) (path_calls path)
-    (none-append (flat_map (λ field. e field.expr) fields) (spread_calls spread) (none-each (λ field. e field.expr) (λ x. refl) fields) (none-spread spread)) (none-path path)
+    (none-append (flat_map (λ field. e field.expr) fields) (spread_calls spread)
+    (none-each (λ field. e field.expr) (λ x. refl) fields) (none-spread spread)) (none-path path)
 expr_meets (Expr.Array x) = none-array x
 expr_meets (Expr.Tuple exprs) = none-each e (λ x. refl) exprs
 expr_meets (Expr.Path path) = none-path path
@@ -295,7 +358,8 @@ expr_meets _ = refl
 pub type_meets : (x : TypeRef) → MeetsNone (type_form x)
 type_meets (TypeRef.Tuple types) = none-each t (λ x. refl) types
 type_meets (TypeRef.Path path) = none-path path
-type_meets (TypeRef.Reference reference) = none-append (t reference.ty) (opt l reference.lifetime) refl (none-opt l (λ x. refl) reference.lifetime)
+type_meets (TypeRef.Reference reference) =
+    none-append (t reference.ty) (opt l reference.lifetime) refl (none-opt l (λ x. refl) reference.lifetime)
 type_meets (TypeRef.Fn function) = none-each (λ entry. t entry.1) (λ x. refl) function.params
 type_meets (TypeRef.ImplTrait bounds) = none-each bound_calls none-bound bounds
 type_meets (TypeRef.DynTrait bounds) = none-each bound_calls none-bound bounds
@@ -356,7 +420,10 @@ module _ (s : Nodes) where
   statement_rest : (x : Statement) → sum_by rest_of (statement_tasks x) ≡ 0
   statement_rest (Statement.Let pat ty x y) =
       let cs = opt t ty ++ opt e x ++ opt e y in
-      let a = calls_none cs (none-append (opt t ty ++ opt e x) (opt e y) (none-append (opt t ty) (opt e x) (none-opt t (λ i. refl) ty) (none-opt e (λ i. refl) x)) (none-opt e (λ i. refl) y)) in
+      let a = calls_none cs
+      (none-append (opt t ty ++ opt e x) (opt e y)
+      (none-append (opt t ty) (opt e x) (none-opt t (λ i. refl) ty) (none-opt e (λ i. refl) x))
+      (none-opt e (λ i. refl) y)) in
       omega (arith, sum_by-append rest_of (tasks_of cs) (Task.Bound pat ∷ []), a)
   statement_rest (Statement.Expr x semi) = refl
   statement_rest (Statement.Item (Item.MacroDef id)) = refl
@@ -370,26 +437,40 @@ module _ (s : Nodes) where
   guarded_rest pat expr (Some guard) = refl
 
   arms_rest : (arms : List MatchArm) → sum_by rest_of (flat_map one_arm arms) ≡ 0
-  arms_rest arms = sum_flat rest_of one_arm arms ∙ sum_none (λ arm. sum_by rest_of (one_arm arm)) arms (λ arm. let r = guarded_rest arm.pat arm.expr arm.guard in omega (arith, r))
+  arms_rest arms =
+      sum_flat rest_of one_arm arms ∙ sum_none (λ arm. sum_by rest_of (one_arm arm)) arms
+      (λ arm. let r = guarded_rest arm.pat arm.expr arm.guard in omega (arith, r))
 
   constants_empty : (id : Option ℕ) → sum_by count_entries (block_const_frames id) ≡ 0
   constants_empty None = refl
   constants_empty (Some id) = refl
 
-  closure_pats : (types : List (Option ℕ)) (ret : Option ℕ) (args : List ℕ) (body : ℕ) → flat_map pat_of_call (met_in_closure types ret args body) ≡ args
+  closure_pats : (types : List (Option ℕ)) (ret : Option ℕ) (args : List ℕ) (body : ℕ) →
+      flat_map pat_of_call (met_in_closure types ret args body) ≡ args
   closure_pats types ret args body =
       flat_map-append pat_of_call (flat_map (opt t) types ++ opt t ret) (flat_map p args ++ e body)
-      ∙ (ap (λ (ps : List ℕ). ps ++ flat_map pat_of_call (flat_map p args ++ e body)) (none-append (flat_map (opt t) types) (opt t ret) (none-each (opt t) (none-opt t (λ i. refl)) types) (none-opt t (λ i. refl) ret))
+      ∙ (ap (λ (ps : List ℕ). ps ++ flat_map pat_of_call (flat_map p args ++ e body))
+      (none-append (flat_map (opt t) types) (opt t ret) (none-each (opt t) (none-opt t (λ i. refl)) types)
+      (none-opt t (λ i. refl) ret))
       ∙ (flat_map-append pat_of_call (flat_map p args) (e body) ∙ (ap (λ (ps : List ℕ). ps ++ []) (pats-list args) ∙ append-nil args)))
 
   -- what the frames hold that are opened as a node is met is what patterns among its tasks bind that open none
-  opens_rest : (current : CurrentScopes) (x : ScopingForm) → MeetsNone x → sum_by count_entries (opened_frames s x) + sum_by count_entries (opened_const_frames x) ≡ sum_by rest_of (form_tasks current x)
+  opens_rest : (current : CurrentScopes) (x : ScopingForm) → MeetsNone x →
+      sum_by count_entries (opened_frames s x) + sum_by count_entries (opened_const_frames x)
+      ≡ sum_by rest_of (form_tasks current x)
   opens_rest current (form.If c y f) h =
       let b = sum_by-append rest_of (tasks_of (e c ++ e y)) (leave current ∷ tasks_of (opt e f)) in
       omega (arith, b, sum_by-cons rest_of (leave current) (tasks_of (opt e f)), calls_none (e c ++ e y) refl, opt_none f)
   opens_rest current (form.Block id label xs tail) h =
       let b = sum_by-append rest_of (flat_map statement_tasks xs) (tasks_of (opt e tail) ++ leave current ∷ []) in
-      omega (arith, b, sum_by-append rest_of (tasks_of (opt e tail)) (leave current ∷ []), statements_rest xs, opt_none tail, constants_empty id)
+      omega (
+        arith,
+        b,
+        sum_by-append rest_of (tasks_of (opt e tail)) (leave current ∷ []),
+        statements_rest xs,
+        opt_none tail,
+        constants_empty id,
+      )
   opens_rest current (form.Closure types ret args body) h =
       let cs = met_in_closure types ret args body in
       let b = calls_rest cs ∙ ap (λ (ps : List ℕ). sum_by (λ q. length (binds s q)) ps) (closure_pats types ret args body) in
@@ -400,8 +481,16 @@ module _ (s : Nodes) where
   opens_rest current _ h = refl
 
   -- so a node's frames hold what the patterns among its children bind
-  pub form_entries : (current : CurrentScopes) (x : ScopingForm) → MeetsNone x → sum_by count_entries (form_frames s current x) ≡ sum_by bound_by (about (form_tasks current x))
-  form_entries current x h = omega (arith, frames_split s count_entries current x, opens_rest current x h, tasks_bound (form_tasks current x))
+  pub form_entries : (current : CurrentScopes) (x : ScopingForm) → MeetsNone x →
+      sum_by count_entries (form_frames s current x) ≡ sum_by bound_by (about (form_tasks current x))
+  form_entries current x h =
+      omega (
+        arith,
+        frames_split s count_entries current x,
+        opens_rest current x h,
+        tasks_bound
+            (form_tasks current x),
+      )
 
   -- what is met in turn opens no frame
   pub turn_entries : (current : CurrentScopes) (cs : List Call) → sum_by count_entries (form_frames s current (form.InTurn cs)) ≡ 0

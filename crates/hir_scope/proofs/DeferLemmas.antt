@@ -18,7 +18,10 @@ pub through : {v w : Tasks} {cs : List Call} → Runs Calls v cs w → Runs Defe
 through r = runs_through DefersTask (λ (v : Tasks). v.stack) task_of (λ v w c s. s) r
 
 -- the tasks of a `let`
-pub defer_let : {u v w x : Tasks} {y : StackItems Task} (ty first other : Option ℕ) (bound : Task) → Runs Calls u (opt t ty) v → Runs Calls v (opt e first) w → Runs Calls w (opt e other) x → DefersTask x.stack bound y → Runs DefersTask u.stack (tasks_of (opt t ty ++ opt e first ++ opt e other) ++ bound ∷ []) y
+pub defer_let : {u v w x : Tasks} {y : StackItems Task} (ty first other : Option ℕ) (bound : Task) →
+    Runs Calls u (opt t ty) v → Runs Calls v (opt e first) w → Runs Calls w (opt e other) x →
+    DefersTask x.stack bound y →
+    Runs DefersTask u.stack (tasks_of (opt t ty ++ opt e first ++ opt e other) ++ bound ∷ []) y
 defer_let ty first other bound a b c d = runs_append (through (runs_append (runs_append a b) c)) (runs_one d)
 
 -- On the stack
@@ -29,7 +32,8 @@ defers_all {v} {w} (a_call {v = u} {c = task} {cs = ts} step rest) = defers_two 
 
 -- what was put is turned over
 pub turned : {below : ℕ} {v w x : StackItems Task} {ts : List Task} → Runs DefersTask v ts w → below ≡ length v.items →
-    ((before : StackItems Task) (items : List Task) → length before.items ≡ below → Defers before items w → x ≡ record { items = items ++ before.items; refused = false }) → x.items ≡ ts ++ v.items
+    ((before : StackItems Task) (items : List Task) → length before.items ≡ below → Defers before items w → x
+    ≡ record { items = items ++ before.items; refused = false }) → x.items ≡ ts ++ v.items
 turned {v = v} {ts = ts} runs long over = ap (λ (s : StackItems Task). s.items) (over v ts (sym long) (defers_all runs))
 
 pub ruleset defers = (may_freely, runs_one, runs_append, no_call, through, defer_let, defers_all)

@@ -1,5 +1,7 @@
--- Each entry is in one frame: what is told of entries over all nodes under a node is what its frames hold, and, of a pattern, what it binds.
-use Rattle.std.proofs.Common.{◌≡◌, ℕ, zero, suc, ◌+◌, ◌<◌, List, [], ◌∷◌, ◌++◌, length, refl, sym, ap, ◌∙◌, arith, Option, Some, None, true, length-append}
+-- Each entry is in one frame: what is told of entries over all nodes under a node is what its frames hold, and, of a
+-- pattern, what it binds.
+use Rattle.std.proofs.Common.{◌≡◌, ℕ, zero, suc, ◌+◌, ◌<◌, List, [], ◌∷◌, ◌++◌, length, refl, sym, ap, ◌∙◌, arith, Option, Some, None}
+use Rattle.std.proofs.Common.{true, length-append}
 use Rattle.std.proofs.lemmas.{Bool.ltb-true, List.Concat.length-flat_map, List.Elements.All-contains}
 use Rattle.std.proofs.lemmas.List.{Sorted.sum_by-IsPermutation, Sums.AllPass-from_list_all}
 use Rattle.std.specs.Cmp.{first_so, second_so}
@@ -7,7 +9,8 @@ use Rattle.std.specs.{List.flat_map, List.slice_get, List.sum_by, List.list_all,
 use Rattle.hir_node.specs.ChildCalls.{Call, OnLifetime, child, children, pat_of_call, pat_calls}
 use Rattle.hir_node.specs.{OtherIds.pat_bindings, declared.binding.Binding.Binding, declared.expr.Expr.Expr}
 use Rattle.hir_node.specs.declared.{node_id.NodeId.NodeId, pat.Pat.Pat, type_ref.TypeRef.TypeRef}
-use Rattle.hir_validate.specs.{Recursion.rank, Recursion.RankDecreases, declared.node_arenas.Nodes.Nodes, Nodes.Has, Nodes.children_of, Nodes.calls_of}
+use Rattle.hir_validate.specs.{Recursion.rank, Recursion.RankDecreases, declared.node_arenas.Nodes.Nodes, Nodes.Has, Nodes.children_of}
+use Rattle.hir_validate.specs.{Nodes.calls_of}
 use Rattle.hir_validate.specs.{Sound.IsSoundNode, TestedParts.all_of, TestedParts.tested_pat}
 use Rattle.hir_validate.proofs.SoundLemmas.{item_at}
 use Rattle.hir_store_core.specs.PatLists.{pats, bindings_at, bindings_in, child_pats_of}
@@ -24,7 +27,9 @@ use Rattle.hir_scope.proofs.MemberLemmas.{In, contains_in, flat_map_in, sum_flat
 -- 1. Each binding of a pattern exists, and is one entry
 
 all_below : (n : ℕ) (xs : List ℕ) → list_all (λ id. nat_lt id n) xs ≡ true → (b : ℕ) → In b xs → b < n
-all_below n xs t b i = ltb-true b n (All-contains (λ id. nat_lt id n ≡ true) xs b (AllPass-from_list_all (λ id. nat_lt id n) xs t) (contains_in xs b i))
+all_below n xs t b i =
+    ltb-true b n (All-contains (λ id. nat_lt id n ≡ true) xs b (AllPass-from_list_all (λ id. nat_lt id n) xs t)
+    (contains_in xs b i))
 
 abbrev pub PatsSound : Nodes → Type 0
 PatsSound s = (id : ℕ) (x : Pat) → slice_get s.pats id ≡ Some x → IsSoundNode s (tested_pat x)
@@ -90,21 +95,39 @@ module _ (s : Nodes) (fall : RankDecreases s) where
     at None = turn_entries s no_around []
     at (Some x) = turn_entries s no_around (pat_calls x)
 
-  module _ (sound : PatsSound s) (told : (id : ℕ) → id < length s.pats → bindings_in s id ≡ bindings_at s id ++ flat_map (bindings_in s) (child_pats_of s id)) where
-    bound_told : (id : ℕ) → id < length s.pats → length (binds s id) ≡ length (bindings_at s id) + sum_by (λ q. length (binds s q)) (child_pats_of s id)
+  module _ (sound : PatsSound s) (told : (id : ℕ) → id < length s.pats → bindings_in s id
+      ≡ bindings_at s id ++ flat_map (bindings_in s) (child_pats_of s id)) where
+    bound_told : (id : ℕ) → id < length s.pats → length (binds s id)
+        ≡ length (bindings_at s id) + sum_by (λ q. length (binds s q)) (child_pats_of s id)
     bound_told id h =
-        let a = ap (λ (bs : List ℕ). length bs) (told id h) ∙ length-append (bindings_at s id) (flat_map (bindings_in s) (child_pats_of s id)) in
-        let b = sum_same (λ q. length (bindings_in s q)) (λ q. length (binds s q)) (child_pats_of s id) (λ q i. sym (binds_length s sound q)) in
+        let a =
+        ap (λ (bs : List ℕ). length bs) (told id h) ∙ length-append (bindings_at s id)
+        (flat_map (bindings_in s) (child_pats_of s id)) in
+        let b = sum_same (λ q. length (bindings_in s q)) (λ q. length (binds s q)) (child_pats_of s id)
+        (λ q i. sym (binds_length s sound q)) in
         omega (arith, binds_length s sound id, a, length-flat_map (bindings_in s) (child_pats_of s id), b)
 
     node_told : (n : NodeId) → Has s n → node_entries s n + sum_by (bound_by s) (children_of s n) ≡ bound_by s n + entries_of_node s n
-    node_told (NodeId.Expr id) h = omega (arith, form_entries s no_around (form_of s (NodeId.Expr id)) (expr_meets_at id), children_bound (NodeId.Expr id))
-    node_told (NodeId.TypeRef id) h = omega (arith, form_entries s no_around (form_of s (NodeId.TypeRef id)) (type_meets_at id), children_bound (NodeId.TypeRef id))
+    node_told (NodeId.Expr id) h =
+        omega (
+          arith,
+          form_entries s no_around (form_of s (NodeId.Expr id)) (expr_meets_at id),
+          children_bound
+              (NodeId.Expr id),
+        )
+    node_told (NodeId.TypeRef id) h =
+        omega (
+          arith,
+          form_entries s no_around (form_of s (NodeId.TypeRef id)) (type_meets_at id),
+          children_bound
+              (NodeId.TypeRef id),
+        )
     node_told (NodeId.Pat id) h = omega (arith, bound_told id h, calls_bound (calls_of s (NodeId.Pat id)), pat_empty id)
 
     -- 3. With all nodes under it
 
-    entries_under : (n : ℕ) (m : NodeId) → rank s m < n → Has s m → total s (node_entries s) m ≡ bound_by s m + total s (entries_of_node s) m
+    entries_under : (n : ℕ) (m : NodeId) → rank s m < n → Has s m → total s (node_entries s) m
+        ≡ bound_by s m + total s (entries_of_node s) m
     entries_under zero m l h = absurd (omega (arith, l))
     entries_under (suc n) m l h =
         let a = total_at s fall (node_entries s) m h in
@@ -116,7 +139,10 @@ module _ (s : Nodes) (fall : RankDecreases s) where
         omega (arith, a, b, d, r, sum_plus (bound_by s) (total s (entries_of_node s)) (children_of s m))
 
     -- over some entry nodes: what they bind themselves, and what is in the frames of all nodes under them
-    pub entries_total : (entry_nodes : List NodeId) → ((n : NodeId) → In n entry_nodes → Has s n) → sum_by (total s (node_entries s)) entry_nodes ≡ sum_by (bound_by s) entry_nodes + sum_by (total s (entries_of_node s)) entry_nodes
+    pub entries_total : (entry_nodes : List NodeId) → ((n : NodeId) → In n entry_nodes → Has s n) →
+        sum_by (total s (node_entries s)) entry_nodes
+        ≡ sum_by (bound_by s) entry_nodes + sum_by (total s (entries_of_node s)) entry_nodes
     entries_total entry_nodes in_range =
-        sum_same (total s (node_entries s)) (λ k. bound_by s k + total s (entries_of_node s) k) entry_nodes (λ k i. entries_under (suc (rank s k)) k (omega arith) (in_range k i))
+        sum_same (total s (node_entries s)) (λ k. bound_by s k + total s (entries_of_node s) k) entry_nodes
+        (λ k i. entries_under (suc (rank s k)) k (omega arith) (in_range k i))
         ∙ sum_plus (bound_by s) (total s (entries_of_node s)) entry_nodes

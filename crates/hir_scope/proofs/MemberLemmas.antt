@@ -1,5 +1,6 @@
 -- Members of lists: what is in a list that is joined, mapped or filtered; and sums over lists.
-use Rattle.std.proofs.Common.{◌≡◌, ℕ, suc, zero, ◌<◌, List, [], ◌∷◌, ◌++◌, ◌+◌, map, length, refl, sym, ap, ◌∙◌, arith, Some, subst, inl, inr, ◌⊎◌, ⊎_elim, Bool, true, false, cond, Contains}
+use Rattle.std.proofs.Common.{◌≡◌, ℕ, suc, zero, ◌<◌, List, [], ◌∷◌, ◌++◌, ◌+◌, map, length, refl, sym, ap, ◌∙◌, arith, Some, subst, inl}
+use Rattle.std.proofs.Common.{inr, ◌⊎◌, ⊎_elim, Bool, true, false, cond, Contains}
 use Rattle.std.proofs.lemmas.List.Sums.{sum_by-append, sum_by-cons}
 use Rattle.std.specs.List.{flat_map, filter, slice_get, slice_index_or, sum_by}
 use Rattle.hir_node.specs.declared.node_id.NodeId.{NodeId}
@@ -35,11 +36,14 @@ in_append x (y ∷ xs) ys h = ⊎_elim (λ e. inl (inl e)) (λ r. ⊎_elim (λ a
 pub in_flat_map : {X Y : Type 0} (f : X → List Y) (x : X) (y : Y) (xs : List X) → In x xs → In y (f x) → In y (flat_map f xs)
 in_flat_map f x y [] h i = absurd h
 in_flat_map f x y (z ∷ xs) h i =
-    ⊎_elim (λ e. in_left y (f z) (flat_map f xs) (subst (λ w. In y (f w)) (sym e) i)) (λ r. in_right y (f z) (flat_map f xs) (in_flat_map f x y xs r i)) h
+    ⊎_elim (λ e. in_left y (f z) (flat_map f xs) (subst (λ w. In y (f w)) (sym e) i))
+    (λ r. in_right y (f z) (flat_map f xs) (in_flat_map f x y xs r i)) h
 
 pub flat_map_in : {X Y : Type 0} (f : X → List Y) (y : Y) (xs : List X) → In y (flat_map f xs) → (x : X) × In x xs × In y (f x)
 flat_map_in f y [] h = absurd h
-flat_map_in f y (z ∷ xs) h = ⊎_elim (λ a. (z, inl refl, a)) (λ b. let r = flat_map_in f y xs b in (r.0, inr r.1, r.2)) (in_append y (f z) (flat_map f xs) h)
+flat_map_in f y (z ∷ xs) h =
+    ⊎_elim (λ a. (z, inl refl, a)) (λ b. let r = flat_map_in f y xs b in (r.0, inr r.1, r.2))
+    (in_append y (f z) (flat_map f xs) h)
 
 pub get_in : {X : Type 0} (xs : List X) (x : X) → In x xs → (k : ℕ) × (slice_get xs k ≡ Some x)
 get_in [] x h = absurd h
@@ -53,15 +57,18 @@ pub map_in : {X Y : Type 0} (f : X → Y) (x : X) (xs : List X) → In x xs → 
 map_in f x [] h = absurd h
 map_in f x (y ∷ xs) h = ⊎_elim (λ e. inl (ap f e)) (λ r. inr (map_in f x xs r)) h
 
-in_kept : {X : Type 0} (test : X → Bool) (x y : X) (ys : List X) (b : Bool) → test y ≡ b → (y ≡ x) ⊎ In x ys → test x ≡ true → In x (cond b (y ∷ ys) ys)
+in_kept : {X : Type 0} (test : X → Bool) (x y : X) (ys : List X) (b : Bool) → test y ≡ b → (y ≡ x) ⊎ In x ys → test x
+    ≡ true → In x (cond b (y ∷ ys) ys)
 in_kept test x y ys true e h t = h
 in_kept test x y ys false e h t = ⊎_elim (λ q. absurd (let r : test y ≡ true = ap test q ∙ t in cc)) (λ r. r) h
 
 pub in_filter : {X : Type 0} (test : X → Bool) (x : X) (xs : List X) → In x xs → test x ≡ true → In x (filter test xs)
 in_filter test x [] h t = absurd h
-in_filter test x (y ∷ xs) h t = in_kept test x y (filter test xs) (test y) refl (⊎_elim (λ e. inl e) (λ r. inr (in_filter test x xs r t)) h) t
+in_filter test x (y ∷ xs) h t =
+    in_kept test x y (filter test xs) (test y) refl (⊎_elim (λ e. inl e) (λ r. inr (in_filter test x xs r t)) h) t
 
-kept_in : {X : Type 0} (test : X → Bool) (x y : X) (ys : List X) (b : Bool) → test y ≡ b → In x (cond b (y ∷ ys) ys) → ((y ≡ x) × (test x ≡ true)) ⊎ In x ys
+kept_in : {X : Type 0} (test : X → Bool) (x y : X) (ys : List X) (b : Bool) → test y ≡ b → In x (cond b (y ∷ ys) ys) →
+    ((y ≡ x) × (test x ≡ true)) ⊎ In x ys
 kept_in test x y ys true t h = ⊎_elim (λ e. inl (e, ap test (sym e) ∙ t)) (λ r. inr r) h
 kept_in test x y ys false t h = inr h
 

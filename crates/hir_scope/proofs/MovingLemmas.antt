@@ -1,5 +1,6 @@
 -- How a walk goes on: scopes that are added and opened, a task that is done, and what is done in all.
-use Rattle.std.proofs.Common.{◌≡◌, ℕ, suc, ◌+◌, ◌<◌, ◌≤◌, List, [], ◌∷◌, ◌++◌, Option, Some, None, map, length, refl, ap, ◌∙◌, arith, sym, append_assoc, subst, length-append, inl, inr, ◌⊎◌, ⊎_elim}
+use Rattle.std.proofs.Common.{◌≡◌, ℕ, suc, ◌+◌, ◌<◌, ◌≤◌, List, [], ◌∷◌, ◌++◌, Option, Some, None, map, length, refl, ap, ◌∙◌, arith, sym}
+use Rattle.std.proofs.Common.{append_assoc, subst, length-append, inl, inr, ◌⊎◌, ⊎_elim}
 use Rattle.std.proofs.lemmas.List.{get_or_append_left, get_or_push, length_push, append-nil, length-map, map-append}
 use Rattle.std.proofs.lemmas.List.Elements.{All-nil, All-cons, All-append, All-weaker}
 use Rattle.std.proofs.lemmas.List.Sums.{sum_by-append, sum_by-cons}
@@ -13,12 +14,15 @@ use Rattle.hir_validate.proofs.SoundLemmas.{item_at}
 use Rattle.hir_scope.specs.Chains.{InContext, child_in_context, within_own}
 use Rattle.hir_scope.specs.ScopingForms.{ScopingForm, form_of}
 use Rattle.hir_scope.specs.ScopingForms as form
-use Rattle.hir_scope.specs.Frames.{Frame, Chain, frame, of_kind}
+use Rattle.hir_scope.specs.Frames.{Frame, Chain, frame, of_kind, empty}
 use Rattle.hir_scope.specs.{OpenFrames.open_frames, Paths.path, Paths.frame_at, Paths.chain}
 use Rattle.hir_scope.specs.{Scopes.Scope, Scopes.frame_of, Scopes.Scopes, Scopes.entry_count, ChildContexts.arm_child_contexts}
 use Rattle.hir_scope.specs.declared.scope.{ScopeEntry.ScopeEntry, ScopeKind.ScopeKind}
 use Rattle.hir_scope.specs.declared.{tasks.CurrentScopes.CurrentScopes, tasks.Task.Task, walk.Walk.Walk}
-use Rattle.hir_scope.specs.internal.WalkState.{with_next, chain_of, LeavesWithin, HasFrames, WalkState, frames_of_scope, frames_of_const_scope, future_of, about, AreInRange, IsReady, weight_left, one, count_entries, Over, Exceeds, turns_left, OpensScopes, Step, scope_within, ScopeAssigned, context_assigned, write_all, IsRight, WalkSteps, CountedStep}
+use Rattle.hir_scope.specs.internal.WalkState.{with_next, chain_of, LeavesWithin, HasFrames, WalkState, frames_of_scope}
+use Rattle.hir_scope.specs.internal.WalkState.{frames_of_const_scope, future_of, about, AreInRange, IsReady, weight_left, one}
+use Rattle.hir_scope.specs.internal.WalkState.{count_entries, Over, Exceeds, turns_left, Opens, OpensScopes, Step, scope_within}
+use Rattle.hir_scope.specs.internal.WalkState.{ScopeAssigned, context_assigned, write_all, IsRight, WalkSteps, CountedStep}
 use Rattle.hir_scope.specs.internal.Pending.{future, arm_with, opened_frames}
 use Rattle.hir_scope.specs.internal.ContextsUnder.{in_context, exprs_under}
 use Rattle.hir_scope.proofs.MemberLemmas.{sum_mapped, sum_ones}
@@ -31,7 +35,8 @@ use Rattle.hir_scope.proofs.PathLemmas.{path_kept, path_new, path_members}
 slice_kept : {X : Type 0} (xs ys : List X) (i : ℕ) → i < length xs → slice_get (xs ++ ys) i ≡ slice_get xs i
 slice_kept xs ys i h =
     let x = (item_at xs i h).0 in
-    slice_get-get_or (xs ++ ys) i x (omega (arith, h, length-append xs ys)) ∙ (ap Some (get_or_append_left xs ys x i h) ∙ sym (slice_get-get_or xs i x h))
+    slice_get-get_or (xs ++ ys) i x (omega (arith, h, length-append xs ys))
+    ∙ (ap Some (get_or_append_left xs ys x i h) ∙ sym (slice_get-get_or xs i x h))
 
 slice_last : {X : Type 0} (xs : List X) (x : X) (i : ℕ) → i ≡ length xs → slice_get (xs ++ x ∷ []) i ≡ Some x
 slice_last xs x i h = slice_get-get_or (xs ++ x ∷ []) i x (omega (arith, h, length_push xs x)) ∙ ap Some (get_or_push xs x x i (sym h))
@@ -39,7 +44,8 @@ slice_last xs x i h = slice_get-get_or (xs ++ x ∷ []) i x (omega (arith, h, le
 abbrev frames_of : Option Scope → List Frame
 frames_of o = all_of (λ s. frame_of s ∷ []) o
 
-frames_kept : (scopes more : List Scope) (p : List ℕ) → All (λ x. x < length scopes) p → flat_map (frame_at (scopes ++ more)) p ≡ flat_map (frame_at scopes) p
+frames_kept : (scopes more : List Scope) (p : List ℕ) → All (λ x. x < length scopes) p →
+    flat_map (frame_at (scopes ++ more)) p ≡ flat_map (frame_at scopes) p
 frames_kept scopes more [] h = refl
 frames_kept scopes more (x ∷ p) h =
     let r = frames_kept scopes more p (λ k d l. h (suc k) d (omega (arith, l))) in
@@ -51,16 +57,20 @@ path_frames_kept scopes more o = frames_kept scopes more (path scopes o) (path_m
 
 -- later scopes change no chain
 pub chain_kept : (scopes more : List Scope) (s : ℕ) → s < length scopes → chain_of (scopes ++ more) s ≡ chain_of scopes s
-chain_kept scopes more s h = ap (flat_map (frame_at (scopes ++ more))) (path_kept scopes more (Some s) h) ∙ path_frames_kept scopes more (Some s)
+chain_kept scopes more s h =
+    ap (flat_map (frame_at (scopes ++ more))) (path_kept scopes more (Some s) h) ∙ path_frames_kept scopes more
+    (Some s)
 
 -- the chain of one scope more
-pub chain_new : (scopes : List Scope) (x : Scope) (s : ℕ) → s ≡ length scopes → chain_of (scopes ++ x ∷ []) s ≡ frame_of x ∷ chain scopes x.parent
+pub chain_new : (scopes : List Scope) (x : Scope) (s : ℕ) → s ≡ length scopes → chain_of (scopes ++ x ∷ []) s
+    ≡ frame_of x ∷ chain scopes x.parent
 chain_new scopes x s e =
     ap (flat_map (frame_at (scopes ++ x ∷ []))) (path_new scopes x s e)
     ∙ (ap (λ (o : Option Scope). frames_of o ++ flat_map (frame_at (scopes ++ x ∷ [])) (path scopes x.parent)) (slice_last scopes x s e)
     ∙ ap (λ (c : Chain). frame_of x ∷ c) (path_frames_kept scopes (x ∷ []) x.parent))
 
-pub frames_grown : (scopes grown more : List Scope) (s : ℕ) (frames : Chain) → grown ≡ scopes ++ more → HasFrames scopes s frames → HasFrames grown s frames
+pub frames_grown : (scopes grown more : List Scope) (s : ℕ) (frames : Chain) → grown ≡ scopes ++ more →
+    HasFrames scopes s frames → HasFrames grown s frames
 frames_grown scopes grown more s frames e h =
     rw e (record { within = omega (arith, h.within, length-append scopes more); is = chain_kept scopes more s h.within ∙ h.is })
 
@@ -68,24 +78,47 @@ frames_grown scopes grown more s frames e h =
 
 pub leaves_more : (m n : ℕ) (ts : List Task) → m ≤ n → LeavesWithin m ts → LeavesWithin n ts
 leaves_more m n [] l h = tt
+leaves_more m n (Task.Root id ∷ ts) l h = (omega (arith, l, h.0), leaves_more m n ts l h.1)
 leaves_more m n (Task.Leave a b ∷ ts) l h = (omega (arith, l, h.0), omega (arith, l, h.1), leaves_more m n ts l h.2)
 leaves_more m n (_ ∷ ts) l h = leaves_more m n ts l h
 
 -- the chains of scopes that are taken back are all that is asked of them
-pub future_agrees : (s : Nodes) (f g : ℕ → Chain) (n : ℕ) → ((i : ℕ) → i < n → f i ≡ g i) → (h k : Chain) (ts : List Task) → LeavesWithin n ts → future s f h k ts ≡ future s g h k ts
+pub future_agrees : (s : Nodes) (f g : ℕ → Chain) (n : ℕ) → ((i : ℕ) → i < n → f i ≡ g i) →
+    (h k : Chain) (ts : List Task) → LeavesWithin n ts → future s f h k ts ≡ future s g h k ts
 unfolding future
 future_agrees s f g n agree h k [] l = refl
-future_agrees s f g n agree h k (Task.Expr id ∷ ts) l = ap (λ (ps : List InContext). exprs_under s (in_context (NodeId.Expr id) h k ∷ []) ++ ps) (future_agrees s f g n agree (open_frames s (NodeId.Expr id) ++ h) k ts l)
-future_agrees s f g n agree h k (Task.Constant id ∷ ts) l = ap (λ (ps : List InContext). exprs_under s (in_context (NodeId.Expr id) k k ∷ []) ++ ps) (future_agrees s f g n agree h k ts l)
-future_agrees s f g n agree h k (Task.Pat id ∷ ts) l = ap (λ (ps : List InContext). exprs_under s (in_context (NodeId.Pat id) h k ∷ []) ++ ps) (future_agrees s f g n agree (open_frames s (NodeId.Pat id) ++ h) k ts l)
-future_agrees s f g n agree h k (Task.TypeRef id ∷ ts) l = ap (λ (ps : List InContext). exprs_under s (in_context (NodeId.TypeRef id) k k ∷ []) ++ ps) (future_agrees s f g n agree h k ts l)
+future_agrees s f g n agree h k (Task.Expr id ∷ ts) l =
+    ap (λ (ps : List InContext). exprs_under s (in_context (NodeId.Expr id) h k ∷ []) ++ ps)
+    (future_agrees s f g n agree (open_frames s (NodeId.Expr id) ++ h) k ts l)
+future_agrees s f g n agree h k (Task.Constant id ∷ ts) l =
+    ap (λ (ps : List InContext). exprs_under s (in_context (NodeId.Expr id) k k ∷ []) ++ ps)
+    (future_agrees s f g n agree h k ts l)
+future_agrees s f g n agree h k (Task.Pat id ∷ ts) l =
+    ap (λ (ps : List InContext). exprs_under s (in_context (NodeId.Pat id) h k ∷ []) ++ ps)
+    (future_agrees s f g n agree (open_frames s (NodeId.Pat id) ++ h) k ts l)
+future_agrees s f g n agree h k (Task.TypeRef id ∷ ts) l =
+    ap (λ (ps : List InContext). exprs_under s (in_context (NodeId.TypeRef id) k k ∷ []) ++ ps)
+    (future_agrees s f g n agree h k ts l)
 future_agrees s f g n agree h k (Task.Bound id ∷ ts) l =
-    ap (λ (ps : List InContext). exprs_under s (in_context (NodeId.Pat id) (frame s (id ∷ []) ∷ h) k ∷ []) ++ ps) (future_agrees s f g n agree (open_frames s (NodeId.Pat id) ++ (frame s (id ∷ []) ∷ h)) k ts l)
+    ap (λ (ps : List InContext). exprs_under s (in_context (NodeId.Pat id) (frame s (id ∷ []) ∷ h) k ∷ []) ++ ps)
+    (future_agrees s f g n agree (open_frames s (NodeId.Pat id) ++ (frame s (id ∷ []) ∷ h)) k ts l)
 future_agrees s f g n agree h k (Task.Arm p x ∷ ts) l =
-    ap (λ (ps : List InContext). exprs_under s (map (child_in_context h k) (arm_child_contexts s [] (arm_with p x None))) ++ ps) (future_agrees s f g n agree h k ts l)
+    ap (λ (ps : List InContext). exprs_under s
+    (map (child_in_context h k) (arm_child_contexts s [] (arm_with p x None))) ++ ps)
+    (future_agrees s f g n agree h k ts l)
 future_agrees s f g n agree h k (Task.GuardedArm p y x ∷ ts) l =
-    ap (λ (ps : List InContext). exprs_under s (map (child_in_context h k) (arm_child_contexts s [] (arm_with p x (Some y)))) ++ ps) (future_agrees s f g n agree h k ts l)
-future_agrees s f g n agree h k (Task.MacroDef id ∷ ts) l = future_agrees s f g n agree (of_kind (ScopeKind.MacroDef id) ∷ h) (of_kind (ScopeKind.MacroDef id) ∷ k) ts l
+    ap (λ (ps : List InContext). exprs_under s
+    (map (child_in_context h k) (arm_child_contexts s [] (arm_with p x (Some y)))) ++ ps)
+    (future_agrees s f g n agree h k ts l)
+future_agrees s f g n agree h k (Task.MacroDef id ∷ ts) l =
+    future_agrees s f g n agree (of_kind (ScopeKind.MacroDef id) ∷ h) (of_kind (ScopeKind.MacroDef id) ∷ k) ts l
+future_agrees s f g n agree h k (Task.Root id ∷ ts) l =
+    let next = λ (c : Chain). exprs_under s (in_context (NodeId.Expr id) (empty ∷ c) (empty ∷ c) ∷ [])
+    ++ future s f (open_frames s (NodeId.Expr id) ++ (empty ∷ c)) (empty ∷ c) ts in
+    let outer = empty ∷ g 0 in
+    ap next (agree 0 l.0)
+    ∙ ap (λ (ps : List InContext). exprs_under s (in_context (NodeId.Expr id) outer outer ∷ []) ++ ps)
+    (future_agrees s f g n agree (open_frames s (NodeId.Expr id) ++ outer) outer ts l.1)
 future_agrees s f g n agree h k (Task.Leave a b ∷ ts) l =
     ap (λ (c : Chain). future s f c (f b) ts) (agree a l.0)
     ∙ (ap (λ (c : Chain). future s f (g a) c ts) (agree b l.1)
@@ -101,11 +134,17 @@ at scopes current tasks = record { scopes = scopes; current = current; tasks = t
 abbrev pub child : ℕ → ScopeKind → List ScopeEntry → Scope
 child parent kind entries = record { parent = Some parent; kind = kind; entries = entries }
 
-child_frames : (scopes grown : List Scope) (p s : ℕ) (k : ScopeKind) (es : List ScopeEntry) → grown ≡ scopes ++ child p k es ∷ [] → s ≡ length scopes → HasFrames grown s (record { kind = k; entries = es } ∷ chain_of scopes p)
+child_frames : (scopes grown : List Scope) (p s : ℕ) (k : ScopeKind) (es : List ScopeEntry) → grown
+    ≡ scopes ++ child p k es ∷ [] → s ≡ length scopes →
+    HasFrames grown s (record { kind = k; entries = es } ∷ chain_of scopes p)
 child_frames scopes grown p s k es g i =
     rw g (record { within = omega (arith, i, length_push scopes (child p k es)); is = chain_new scopes (child p k es) s i })
 
-pub opened_frames_are : (old new : WalkState) (k : ScopeKind) (es : List ScopeEntry) → new.scopes.scopes ≡ old.scopes.scopes ++ child old.current.scope k es ∷ [] → new.scopes.scope_by_expr ≡ old.scopes.scope_by_expr → new.current.scope ≡ length old.scopes.scopes → new.current.const_scope ≡ old.current.const_scope → new.tasks ≡ old.tasks → old.current.const_scope < length old.scopes.scopes → OpensScopes old new (record { kind = k; entries = es } ∷ []) []
+pub opened_frames_are : (old new : WalkState) (k : ScopeKind) (es : List ScopeEntry) → new.scopes.scopes
+    ≡ old.scopes.scopes ++ child old.current.scope k es ∷ [] → new.scopes.scope_by_expr ≡ old.scopes.scope_by_expr →
+    new.current.scope ≡ length old.scopes.scopes → new.current.const_scope ≡ old.current.const_scope → new.tasks
+    ≡ old.tasks → old.current.const_scope < length old.scopes.scopes →
+    OpensScopes old new (record { kind = k; entries = es } ∷ []) []
 opened_frames_are old new k es g same i c ts l =
     record {
       more = child old.current.scope k es ∷ [];
@@ -114,11 +153,16 @@ opened_frames_are old new k es g same i c ts l =
       tasks = ts;
       frames = λ w. refl;
       scope = child_frames old.scopes.scopes new.scopes.scopes old.current.scope new.current.scope k es g i;
-      const_scope = frames_grown old.scopes.scopes new.scopes.scopes (child old.current.scope k es ∷ []) new.current.const_scope (frames_of_const_scope old) g
+      const_scope = frames_grown old.scopes.scopes new.scopes.scopes
+          (child old.current.scope k es ∷ []) new.current.const_scope (frames_of_const_scope old) g
           (subst (λ (s : ℕ). HasFrames old.scopes.scopes s (frames_of_const_scope old)) (sym c) (record { within = l; is = refl }));
     }
 
-pub opened_const_frames_are : (old new : WalkState) (k : ScopeKind) (es : List ScopeEntry) → new.scopes.scopes ≡ old.scopes.scopes ++ child old.current.const_scope k es ∷ [] → new.scopes.scope_by_expr ≡ old.scopes.scope_by_expr → new.current.const_scope ≡ length old.scopes.scopes → new.current.scope ≡ old.current.scope → new.tasks ≡ old.tasks → old.current.scope < length old.scopes.scopes → OpensScopes old new [] (record { kind = k; entries = es } ∷ [])
+pub opened_const_frames_are : (old new : WalkState) (k : ScopeKind) (es : List ScopeEntry) → new.scopes.scopes
+    ≡ old.scopes.scopes ++ child old.current.const_scope k es ∷ [] → new.scopes.scope_by_expr
+    ≡ old.scopes.scope_by_expr → new.current.const_scope ≡ length old.scopes.scopes → new.current.scope
+    ≡ old.current.scope → new.tasks ≡ old.tasks → old.current.scope < length old.scopes.scopes →
+    OpensScopes old new [] (record { kind = k; entries = es } ∷ [])
 opened_const_frames_are old new k es g same i h ts l =
     record {
       more = child old.current.const_scope k es ∷ [];
@@ -127,15 +171,19 @@ opened_const_frames_are old new k es g same i h ts l =
       tasks = ts;
       frames = λ w. refl;
       const_scope = child_frames old.scopes.scopes new.scopes.scopes old.current.const_scope new.current.const_scope k es g i;
-      scope = frames_grown old.scopes.scopes new.scopes.scopes (child old.current.const_scope k es ∷ []) new.current.scope (frames_of_scope old) g
+      scope = frames_grown old.scopes.scopes new.scopes.scopes
+          (child old.current.const_scope k es ∷ []) new.current.scope (frames_of_scope old) g
           (subst (λ (s : ℕ). HasFrames old.scopes.scopes s (frames_of_scope old)) (sym h) (record { within = l; is = refl }));
     }
 
-frames_sum_grown : (w : Frame → ℕ) (scopes grown more : List Scope) → grown ≡ scopes ++ more → sum_by w (map frame_of grown) ≡ sum_by w (map frame_of scopes) + sum_by w (map frame_of more)
+frames_sum_grown : (w : Frame → ℕ) (scopes grown more : List Scope) → grown ≡ scopes ++ more →
+    sum_by w (map frame_of grown) ≡ sum_by w (map frame_of scopes) + sum_by w (map frame_of more)
 frames_sum_grown w scopes grown more g =
-    ap (λ (xs : List Scope). sum_by w (map frame_of xs)) g ∙ (ap (sum_by w) (map-append frame_of scopes more) ∙ sum_by-append w (map frame_of scopes) (map frame_of more))
+    ap (λ (xs : List Scope). sum_by w (map frame_of xs)) g
+    ∙ (ap (sum_by w) (map-append frame_of scopes more) ∙ sum_by-append w (map frame_of scopes) (map frame_of more))
 
-pub opened_then : (old mid new : WalkState) (f : Frame) (gs : Chain) → OpensScopes old mid (f ∷ []) [] → OpensScopes mid new [] gs → OpensScopes old new (f ∷ []) gs
+pub opened_then : (old mid new : WalkState) (f : Frame) (gs : Chain) → OpensScopes old mid (f ∷ []) [] →
+    OpensScopes mid new [] gs → OpensScopes old new (f ∷ []) gs
 opened_then old mid new f gs a b =
     record {
       more = a.more ++ b.more;
@@ -149,7 +197,8 @@ opened_then old mid new f gs a b =
     }
 
 -- the same machine, where none is opened
-pub opened_none : (m : WalkState) → m.current.scope < length m.scopes.scopes → m.current.const_scope < length m.scopes.scopes → OpensScopes m m [] []
+pub opened_none : (m : WalkState) → m.current.scope < length m.scopes.scopes →
+    m.current.const_scope < length m.scopes.scopes → OpensScopes m m [] []
 opened_none m h c =
     record {
       more = [];
@@ -162,7 +211,9 @@ opened_none m h c =
     }
 
 -- the scope of an expression is that of its chain
-pub own_frames : (s : Nodes) (x : ScopingForm) (scopes : List Scope) (inside outside : ℕ) (h : Chain) → HasFrames scopes inside (opened_frames s x ++ h) → HasFrames scopes outside h → HasFrames scopes (scope_within x inside outside) (within_own x h)
+pub own_frames : (s : Nodes) (x : ScopingForm) (scopes : List Scope) (inside outside : ℕ) (h : Chain) →
+    HasFrames scopes inside (opened_frames s x ++ h) → HasFrames scopes outside h →
+    HasFrames scopes (scope_within x inside outside) (within_own x h)
 own_frames s (form.Block id label xs tail) scopes inside outside h i o = i
 own_frames s _ scopes inside outside h i o = o
 
@@ -175,13 +226,17 @@ pub entries_weigh : (scopes : List Scope) → sum_by count_entries (map frame_of
 entries_weigh scopes = sum_mapped count_entries frame_of scopes
 
 -- what a refusal says of the lists is over
-pub over_new : (scopes : List Scope) (f : Frame) → (4294967295 < length scopes + 1) ⊎ (4294967295 < entry_count scopes + length f.entries) → Over (map frame_of scopes ++ f ∷ [])
+pub over_new : (scopes : List Scope) (f : Frame) →
+    (4294967295 < length scopes + 1) ⊎ (4294967295 < entry_count scopes + length f.entries) →
+    Over (map frame_of scopes ++ f ∷ [])
 over_new scopes f o =
     ⊎_elim (λ l. inl (let a = sum_by-append one (map frame_of scopes) (f ∷ []) in let b = scopes_weigh scopes in omega (arith, l, a, b)))
-    (λ l. inr (let a = sum_by-append count_entries (map frame_of scopes) (f ∷ []) in let b = entries_weigh scopes in omega (arith, l, a, b))) o
+    (λ l. inr (let a = sum_by-append count_entries (map frame_of scopes) (f ∷ []) in let b = entries_weigh scopes in
+    omega (arith, l, a, b))) o
 
 -- what is over with the frames so far is over with those from before
-pub over_after : (old mid : WalkState) (f : Frame) (gs : List Frame) → OpensScopes old mid (f ∷ []) [] → Over (map frame_of mid.scopes.scopes ++ gs) → Over (map frame_of old.scopes.scopes ++ f ∷ gs)
+pub over_after : (old mid : WalkState) (f : Frame) (gs : List Frame) → OpensScopes old mid (f ∷ []) [] →
+    Over (map frame_of mid.scopes.scopes ++ gs) → Over (map frame_of old.scopes.scopes ++ f ∷ gs)
 over_after old mid f gs a o =
     ⊎_elim (λ l. inl (let x = same one in omega (arith, l, x))) (λ l. inr (let x = same count_entries in omega (arith, l, x))) o where
       same : (w : Frame → ℕ) → sum_by w (map frame_of mid.scopes.scopes ++ gs) ≡ sum_by w (map frame_of old.scopes.scopes ++ f ∷ gs)
@@ -198,60 +253,54 @@ over_more fs f gs o =
       rises w = omega (arith, sum_by-append w fs (f ∷ []), sum_by-append w fs (f ∷ gs), sum_by-cons w f gs)
 
 module _ (s : Nodes) where
-  pub over_exceeds : (S : Scopes) (a : CurrentScopes) (ts : List Task) (fs : List Frame) → ((w : Frame → ℕ) → sum_by w fs ≤ weight_left s w ts) → Over (map frame_of S.scopes ++ fs) → Exceeds s (at S a ts)
-  over_exceeds S a ts fs h o =
-      ⊎_elim (λ l. inl (let x = h one in let y = sum_by-append one (map frame_of S.scopes) fs in omega (arith, l, x, y)))
-      (λ l. inr (let x = h count_entries in let y = sum_by-append count_entries (map frame_of S.scopes) fs in omega (arith, l, x, y))) o
+  pub over_exceeds : (m : WalkState) (fs : List Frame) → Over (map frame_of m.scopes.scopes ++ fs) →
+      ((w : Frame → ℕ) → sum_by w fs ≤ weight_left s w m.tasks) → Exceeds s m
+  over_exceeds m fs o h =
+      let all = λ (w : Frame → ℕ). sum_by-append w (map frame_of m.scopes.scopes) fs in
+      ⊎_elim (λ l. inl (let x = h one in let y = all one in omega (arith, l, x, y)))
+      (λ l. inr (let x = h count_entries in let y = all count_entries in omega (arith, l, x, y))) o
 
-  -- A task that is done
+  -- A task that is done, and leaves these tasks
 
   -- one that opens scopes
-  pub moves_opened : (S : Scopes) (a : CurrentScopes) (t : Task) (ts us : List Task) (new : WalkState) (fs gs : Chain) (met : List InContext) →
-      OpensScopes (at S a us) new fs gs → IsReady s (at S a (t ∷ ts)) → LeavesWithin (length S.scopes) us → AreInRange s (about us) →
-      future_of s (at S a (t ∷ ts)) ≡ met ++ future s (chain_of S.scopes) (fs ++ chain_of S.scopes a.scope) (gs ++ chain_of S.scopes a.const_scope) us →
-      ((w : Frame → ℕ) → weight_left s w (t ∷ ts) ≡ sum_by w (fs ++ gs) + weight_left s w us) →
-      turns_left s us < turns_left s (t ∷ ts) → Step s (at S a (t ∷ ts)) new met
-  moves_opened S a t ts us new fs gs met o r l k f w d =
-      let h = fs ++ chain_of S.scopes a.scope in
-      let c = gs ++ chain_of S.scopes a.const_scope in
+  pub moves_opened : {S : Scopes} {a b : CurrentScopes} {ts us vs : List Task} {new : WalkState}
+      {fs gs : Chain} {made : List Frame} {met : List InContext} →
+      us ≡ vs → Opens (at S b us) new made fs gs → LeavesWithin (length S.scopes) vs → AreInRange s (about vs) →
+      future_of s (at S a ts) ≡ met ++ future s (chain_of S.scopes) (fs ++ chain_of S.scopes b.scope)
+      (gs ++ chain_of S.scopes b.const_scope) vs →
+      ((w : Frame → ℕ) → weight_left s w ts ≡ sum_by w made + weight_left s w vs) →
+      turns_left s vs < turns_left s ts → Step s (at S a ts) new met
+  moves_opened {S} {a} {b} {ts} {us} {vs} {new} {fs} {gs} {made} {met} e o l k f w d =
+      let h = fs ++ chain_of S.scopes b.scope in
+      let c = gs ++ chain_of S.scopes b.const_scope in
       let N = new.scopes.scopes in
+      let left : new.tasks ≡ vs = o.tasks ∙ e in
+      let now : future_of s new ≡ future s (chain_of (S.scopes ++ o.more)) h c vs =
+      λ i. future s (chain_of (o.grows i)) (o.scope.is i) (o.const_scope.is i) (left i) in
       let long : length S.scopes ≤ length N = omega (arith, length-append S.scopes o.more, ap (length {A = Scope}) o.grows) in
       record {
         ready = record {
           scope = o.scope.within;
           const_scope = o.const_scope.within;
-          leaves = subst (LeavesWithin (length N)) (sym o.tasks) (leaves_more (length S.scopes) (length N) us long l);
-          known = subst (λ (ts : List Task). AreInRange s (about ts)) (sym o.tasks) k;
+          leaves = subst (LeavesWithin (length N)) (sym left) (leaves_more (length S.scopes) (length N) vs long l);
+          known = subst (λ (xs : List Task). AreInRange s (about xs)) (sym left) k;
         };
         more = o.more;
         grows = o.grows;
         same = o.same;
-        in_order = f ∙ ap (λ (ps : List InContext). met ++ ps)
-            (sym (future_agrees s (chain_of (S.scopes ++ o.more)) (chain_of S.scopes) (length S.scopes) (chain_kept S.scopes o.more) h c us l)
-            ∙ (ap (λ (xs : List Scope). future s (chain_of xs) h c us) (sym o.grows)
-            ∙ (ap (λ (x : Chain). future s (chain_of N) x c us) (sym o.scope.is)
-            ∙ (ap (λ (x : Chain). future s (chain_of N) (frames_of_scope new) x us) (sym o.const_scope.is)
-            ∙ ap (λ (vs : List Task). future s (chain_of N) (frames_of_scope new) (frames_of_const_scope new) vs) (sym o.tasks)))));
-        weights = λ v.
-            omega (arith, w v, o.frames v, frames_sum_grown v S.scopes N o.more o.grows, ap (weight_left s v) o.tasks);
-        shorter = subst (λ (vs : List Task). turns_left s vs < turns_left s (t ∷ ts)) (sym o.tasks) d;
+        in_order = f ∙ ap (λ (ps : List InContext). met ++ ps) (sym (now
+            ∙ future_agrees s (chain_of (S.scopes ++ o.more)) (chain_of S.scopes) (length S.scopes) (chain_kept S.scopes o.more) h c vs l));
+        weights = λ v. omega (arith, w v, o.frames v, frames_sum_grown v S.scopes N o.more o.grows, ap (weight_left s v) left);
+        shorter = subst (λ (xs : List Task). turns_left s xs < turns_left s ts) (sym left) d;
       }
 
   -- one that opens none
-  pub moves_still : (S : Scopes) (a b : CurrentScopes) (t : Task) (ts us : List Task) → IsReady s (at S a (t ∷ ts)) →
-      b.scope < length S.scopes → b.const_scope < length S.scopes → LeavesWithin (length S.scopes) us → AreInRange s (about us) →
-      future_of s (at S a (t ∷ ts)) ≡ future_of s (at S b us) → ((w : Frame → ℕ) → weight_left s w (t ∷ ts) ≡ weight_left s w us) →
-      turns_left s us < turns_left s (t ∷ ts) → Step s (at S a (t ∷ ts)) (at S b us) []
-  moves_still S a b t ts us r h c l k f w d =
-      record {
-        ready = record { scope = h; const_scope = c; leaves = l; known = k };
-        more = [];
-        grows = sym (append-nil S.scopes);
-        same = refl;
-        in_order = f;
-        weights = λ v. let e = w v in omega (arith, e);
-        shorter = d;
-      }
+  pub moves_still : {S : Scopes} {a b : CurrentScopes} {ts us vs : List Task} → us ≡ vs →
+      b.scope < length S.scopes → b.const_scope < length S.scopes → LeavesWithin (length S.scopes) vs → AreInRange s (about vs) →
+      future_of s (at S a ts) ≡ future_of s (at S b vs) → ((w : Frame → ℕ) → weight_left s w ts ≡ weight_left s w vs) →
+      turns_left s vs < turns_left s ts → Step s (at S a ts) (at S b us) []
+  moves_still {S} {b = b} {us = us} e h c l k f w d =
+      moves_opened e (opened_none (at S b us) h c) l k f (λ v. let x = w v in omega (arith, x)) d
 
 -- 3. What a walk has done, from its start on.
 
@@ -289,7 +338,8 @@ module _ (s : Nodes) where
       }
 
   -- an expression is met, and then given its scope
-  pub gone_given : (old new : WalkState) (last : Scopes) (id scope : ℕ) (h k : Chain) (n : ℕ) → Step s old new (in_context (NodeId.Expr id) h k ∷ []) →
+  pub gone_given : (old new : WalkState) (last : Scopes) (id scope : ℕ) (h k : Chain) (n : ℕ) →
+      Step s old new (in_context (NodeId.Expr id) h k ∷ []) →
       HasFrames new.scopes.scopes scope (within_own (form_of s (NodeId.Expr id)) h) →
       last ≡ record { scopes = new.scopes.scopes; scope_by_expr = finmap.insert new.scopes.scope_by_expr id scope } →
       WalkSteps s old (at last new.current new.tasks) n (n + 1)
@@ -310,15 +360,20 @@ module _ (s : Nodes) where
       })
 
   -- a task that is known to be this one, where what it calls returns
-  pub goes_task : {E : Type 0} (w : Walk) (t u : Task) (n : ℕ) (r : Result (Unit {0}) E) (new : WalkState) → t ≡ u → OnOk r (Step s (with_next w u) new []) → OnOk r (CountedStep s (with_next w t) new n n)
+  pub goes_task : {E : Type 0} (w : Walk) (t u : Task) (n : ℕ) (r : Result (Unit {0}) E) (new : WalkState) → t ≡ u →
+      OnOk r (Step s (with_next w u) new []) → OnOk r (CountedStep s (with_next w t) new n n)
   goes_task w t u n r new e moves =
       let P : Task → Type 0 = λ x. CountedStep s (with_next w x) new n n in
-      on_ok_weaker r (λ (m : Step s (with_next w u) new []). subst P (sym e) (record { gone = gone_moved (with_next w u) new n m; shorter = m.shorter })) moves
+      on_ok_weaker r (λ (m : Step s (with_next w u) new []). subst P (sym e)
+      (record { gone = gone_moved (with_next w u) new n m; shorter = m.shorter })) moves
 
-  pub goes_given : (S : Scopes) (a : CurrentScopes) (t : Task) (ts : List Task) (mid : WalkState) (last : Scopes) (current : CurrentScopes) (tasks : List Task) (id scope : ℕ) (n m : ℕ) → t ≡ Task.Expr id →
-      Step s (at S a (Task.Expr id ∷ ts)) mid (in_context (NodeId.Expr id) (chain_of S.scopes a.scope) (chain_of S.scopes a.const_scope) ∷ []) →
+  pub goes_given : (S : Scopes) (a : CurrentScopes) (t : Task) (ts : List Task) (mid : WalkState) (last : Scopes)
+      (current : CurrentScopes) (tasks : List Task) (id scope : ℕ) (n m : ℕ) → t ≡ Task.Expr id →
+      Step s (at S a (Task.Expr id ∷ ts)) mid
+      (in_context (NodeId.Expr id) (chain_of S.scopes a.scope) (chain_of S.scopes a.const_scope) ∷ []) →
       HasFrames mid.scopes.scopes scope (within_own (form_of s (NodeId.Expr id)) (chain_of S.scopes a.scope)) →
-      last ≡ record { scopes = mid.scopes.scopes; scope_by_expr = finmap.insert mid.scopes.scope_by_expr id scope } → current ≡ mid.current → tasks ≡ mid.tasks → m ≡ n + 1 →
+      last ≡ record { scopes = mid.scopes.scopes; scope_by_expr = finmap.insert mid.scopes.scope_by_expr id scope } →
+      current ≡ mid.current → tasks ≡ mid.tasks → m ≡ n + 1 →
       CountedStep s (at S a (t ∷ ts)) (at last current tasks) n m
   goes_given S a t ts mid last current tasks id scope n m is moves has e ea et i =
       let old = at S a (Task.Expr id ∷ ts) in
@@ -331,22 +386,28 @@ module _ (s : Nodes) where
       (subst (λ (x : CurrentScopes). CountedStep s old (at last x tasks) n m) (sym ea)
       (subst (λ (x : List Task). CountedStep s old (at last mid.current x) n m) (sym et) goes))
 
-  right_grown : (scopes grown more : List Scope) (gs : List ScopeAssigned) → grown ≡ scopes ++ more → All (IsRight s scopes) gs → All (IsRight s grown) gs
+  right_grown : (scopes grown more : List Scope) (gs : List ScopeAssigned) → grown ≡ scopes ++ more →
+      All (IsRight s scopes) gs → All (IsRight s grown) gs
   right_grown scopes grown more gs e h =
-      All-weaker (IsRight s scopes) (IsRight s grown) (λ g i. frames_grown scopes grown more g.assigned (within_own (form_of s (NodeId.Expr g.expr)) g.scope) e i) gs h
+      All-weaker (IsRight s scopes) (IsRight s grown)
+      (λ g i. frames_grown scopes grown more g.assigned (within_own (form_of s (NodeId.Expr g.expr)) g.scope) e i) gs
+      h
 
-  pub gone_then : (old mid new : WalkState) (n0 n1 n2 : ℕ) → WalkSteps s old mid n0 n1 → WalkSteps s mid new n1 n2 → WalkSteps s old new n0 n2
+  pub gone_then : (old mid new : WalkState) (n0 n1 n2 : ℕ) → WalkSteps s old mid n0 n1 → WalkSteps s mid new n1 n2 →
+      WalkSteps s old new n0 n2
   gone_then old mid new n0 n1 n2 a b =
       record {
         ready = b.ready;
         given = a.given ++ b.given;
         written =
-            b.written ∙ (ap (λ (m : finmap.FinMap nat_cmp ℕ). write_all m b.given) a.written ∙ sym (write_all-append old.scopes.scope_by_expr a.given b.given));
+            b.written ∙ (ap (λ (m : finmap.FinMap nat_cmp ℕ). write_all m b.given) a.written
+            ∙ sym (write_all-append old.scopes.scope_by_expr a.given b.given));
         in_order =
             a.in_order ∙ (ap (λ (ps : List InContext). map context_assigned a.given ++ ps) b.in_order
             ∙ (sym (append_assoc (map context_assigned a.given) (map context_assigned b.given) (future_of s new))
             ∙ ap (λ (ps : List InContext). ps ++ future_of s new) (sym (map-append context_assigned a.given b.given))));
-        right = All-append (IsRight s new.scopes.scopes) a.given b.given (right_grown mid.scopes.scopes new.scopes.scopes b.more a.given b.grows a.right) b.right;
+        right = All-append (IsRight s new.scopes.scopes) a.given b.given
+            (right_grown mid.scopes.scopes new.scopes.scopes b.more a.given b.grows a.right) b.right;
         ticks = omega (arith, a.ticks, b.ticks, length-append a.given b.given);
         weights = λ w. a.weights w ∙ b.weights w;
         more = a.more ++ b.more;

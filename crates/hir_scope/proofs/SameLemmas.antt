@@ -1,6 +1,8 @@
 -- How scopes are kept, and when they are the same.
-use Rattle.std.proofs.Common.{◌≡◌, ℕ, zero, suc, ◌+◌, ◌-◌, ◌<◌, ◌≤◌, ◌⊎◌, inl, inr, List, [], ◌∷◌, ◌++◌, Option, Some, None, length, take, drop, refl, ap, sym, ◌∙◌, subst, arith, Bool, true, false, cond, get_or, length-append, ◌&&◌, Decides}
-use Rattle.std.proofs.lemmas.List.{take-append-le, drop-append-le, drop_at, take_all, length-drop, length-take-le, length_push, map-append, drop_all}
+use Rattle.std.proofs.Common.{◌≡◌, ℕ, zero, suc, ◌+◌, ◌-◌, ◌<◌, ◌≤◌, ◌⊎◌, inl, inr, List, [], ◌∷◌, ◌++◌, Option, Some, None, length, take}
+use Rattle.std.proofs.Common.{drop, refl, ap, sym, ◌∙◌, subst, arith, Bool, true, false, cond, get_or, length-append, ◌&&◌, Decides}
+use Rattle.std.proofs.lemmas.List.{take-append-le, drop-append-le, drop_at, take_all, length-drop, length-take-le, length_push}
+use Rattle.std.proofs.lemmas.List.{map-append, drop_all}
 use Rattle.std.proofs.lemmas.List.{Folds.drop_split, Sums.sum_by-append}
 use Rattle.std.proofs.lemmas.Option.{none-some, slice_get-map, slice_get_read}
 use Rattle.std.specs.Cmp.{nat_cmp_total, unsigned_Decides}
@@ -25,24 +27,28 @@ follow_rises from [] last h = omega (arith, h)
 follow_rises from (row ∷ rows) last h = let r = follow_rises row.end rows last h.2 in omega (arith, h.1, r)
 
 -- a range begins before it ends, and ends within the list
-pub range_at : (from : ℕ) (rows : List ScopeData) (last i : ℕ) (row : ScopeData) → FollowEachOther from rows last → slice_get rows i ≡ Some row → (row.start ≤ row.end) × (row.end ≤ last)
+pub range_at : (from : ℕ) (rows : List ScopeData) (last i : ℕ) (row : ScopeData) → FollowEachOther from rows last →
+    slice_get rows i ≡ Some row → (row.start ≤ row.end) × (row.end ≤ last)
 range_at from [] last i row h e = absurd cc
 range_at from (first ∷ rows) last zero row h e =
     let q : first ≡ row = cc in
     subst (λ (x : ScopeData). (x.start ≤ x.end) × (x.end ≤ last)) q (omega (arith, h.0, h.1), follow_rises first.end rows last h.2)
 range_at from (first ∷ rows) last (suc i) row h e = range_at first.end rows last i row h.2 e
 
-pub follow_push : (from : ℕ) (rows : List ScopeData) (last : ℕ) (row : ScopeData) → FollowEachOther from rows last → row.start ≡ last → last ≤ row.end → FollowEachOther from (rows ++ row ∷ []) row.end
+pub follow_push : (from : ℕ) (rows : List ScopeData) (last : ℕ) (row : ScopeData) → FollowEachOther from rows last →
+    row.start ≡ last → last ≤ row.end → FollowEachOther from (rows ++ row ∷ []) row.end
 follow_push from [] last row h s e = (omega (arith, h, s), omega (arith, h, e), refl)
 follow_push from (first ∷ rows) last row h s e = (h.0, h.1, follow_push first.end rows last row h.2 s e)
 
 -- the entries of a range are those between its ends
-pub range_kept : (xs ys : List ScopeEntry) (row : ScopeData) → row.start ≤ row.end → row.end ≤ length xs → entries_in (xs ++ ys) row ≡ entries_in xs row
+pub range_kept : (xs ys : List ScopeEntry) (row : ScopeData) → row.start ≤ row.end → row.end ≤ length xs →
+    entries_in (xs ++ ys) row ≡ entries_in xs row
 range_kept xs ys row b w =
     ap (take (row.end - row.start)) (drop-append-le row.start xs ys (omega (arith, b, w)))
     ∙ take-append-le (row.end - row.start) (drop row.start xs) ys (omega (arith, b, w, length-drop row.start xs))
 
-pub scopes_kept : (xs ys : List ScopeEntry) (from : ℕ) (rows : List ScopeData) → FollowEachOther from rows (length xs) → scopes_of (xs ++ ys) rows ≡ scopes_of xs rows
+pub scopes_kept : (xs ys : List ScopeEntry) (from : ℕ) (rows : List ScopeData) →
+    FollowEachOther from rows (length xs) → scopes_of (xs ++ ys) rows ≡ scopes_of xs rows
 scopes_kept xs ys from [] h = refl
 scopes_kept xs ys from (row ∷ rows) h =
     let k = range_kept xs ys row (omega (arith, h.0, h.1)) (follow_rises row.end rows (length xs) h.2) in
@@ -50,14 +56,19 @@ scopes_kept xs ys from (row ∷ rows) h =
     rw (k, r)
 
 -- the entries of the range at the end
-pub range_new : (xs ys : List ScopeEntry) (row : ScopeData) → row.start ≡ length xs → row.end ≡ length xs + length ys → entries_in (xs ++ ys) row ≡ ys
-range_new xs ys row s e = ap (take (row.end - row.start)) (drop_at xs ys row.start (sym s)) ∙ take_all (row.end - row.start) ys (omega (arith, s, e))
+pub range_new : (xs ys : List ScopeEntry) (row : ScopeData) → row.start ≡ length xs → row.end
+    ≡ length xs + length ys → entries_in (xs ++ ys) row ≡ ys
+range_new xs ys row s e =
+    ap (take (row.end - row.start)) (drop_at xs ys row.start (sym s)) ∙ take_all (row.end - row.start) ys
+    (omega (arith, s, e))
 
-pub length_in : (xs : List ScopeEntry) (row : ScopeData) → row.start ≤ row.end → row.end ≤ length xs → length (entries_in xs row) ≡ row.end - row.start
+pub length_in : (xs : List ScopeEntry) (row : ScopeData) → row.start ≤ row.end → row.end ≤ length xs →
+    length (entries_in xs row) ≡ row.end - row.start
 length_in xs row b w = length-take-le (row.end - row.start) (drop row.start xs) (omega (arith, b, w, length-drop row.start xs))
 
 -- all entries are in the ranges
-pub entries_are_counted : (xs : List ScopeEntry) (from : ℕ) (rows : List ScopeData) → FollowEachOther from rows (length xs) → entry_count (scopes_of xs rows) + from ≡ length xs
+pub entries_are_counted : (xs : List ScopeEntry) (from : ℕ) (rows : List ScopeData) →
+    FollowEachOther from rows (length xs) → entry_count (scopes_of xs rows) + from ≡ length xs
 entries_are_counted xs from [] h = omega (arith, h)
 entries_are_counted xs from (row ∷ rows) h =
     let l = length_in xs row (omega (arith, h.0, h.1)) (follow_rises row.end rows (length xs) h.2) in
@@ -69,14 +80,17 @@ entries_are_counted xs from (row ∷ rows) h =
 
 -- what scopes are seen as
 
-pub parents_seen : (es : List ScopeEntry) (rows : List ScopeData) → ((i : ℕ) (row : ScopeData) → slice_get rows i ≡ Some row → IsBelow i row.parent) → ParentsStandEarlier (scopes_of es rows)
+pub parents_seen : (es : List ScopeEntry) (rows : List ScopeData) →
+    ((i : ℕ) (row : ScopeData) → slice_get rows i ≡ Some row → IsBelow i row.parent) →
+    ParentsStandEarlier (scopes_of es rows)
 parents_seen es rows h i s e = at (slice_get rows i) refl (sym (slice_get-map (scope_of es) rows i) ∙ e) where
   at : (o : Option ScopeData) → slice_get rows i ≡ o → option_map (scope_of es) o ≡ Some s → IsBelow i s.parent
   at None q f = absurd cc
   at (Some row) q f = let k : scope_of es row ≡ s = cc in subst (λ (x : Scope). IsBelow i x.parent) k (h i row q)
 
 -- a scope that exists is seen by its range
-pub scope_seen : (es : List ScopeEntry) (rows : List ScopeData) (i : ℕ) (row : ScopeData) → slice_get rows i ≡ Some row → slice_get (scopes_of es rows) i ≡ Some (scope_of es row)
+pub scope_seen : (es : List ScopeEntry) (rows : List ScopeData) (i : ℕ) (row : ScopeData) → slice_get rows i
+    ≡ Some row → slice_get (scopes_of es rows) i ≡ Some (scope_of es row)
 scope_seen es rows i row e = slice_get-map (scope_of es) rows i ∙ ap (option_map (scope_of es)) e
 
 pub length_seen : (es : List ScopeEntry) (rows : List ScopeData) → length (scopes_of es rows) ≡ length rows
@@ -84,7 +98,9 @@ length_seen es [] = refl
 length_seen es (row ∷ rows) = ap suc (length_seen es rows)
 
 -- a scope that is seen has a range
-pub row_seen : (es : List ScopeEntry) (rows : List ScopeData) (m : finmap.FinMap nat_cmp ℕ) (seen : Scopes) (scope i : ℕ) (row : ScopeData) → record { scopes = scopes_of es rows; scope_by_expr = m } ≡ seen → scope < length seen.scopes → i ≡ scope → row ≡ get_or rows i row → slice_get rows i ≡ Some row
+pub row_seen : (es : List ScopeEntry) (rows : List ScopeData) (m : finmap.FinMap nat_cmp ℕ) (seen : Scopes)
+    (scope i : ℕ) (row : ScopeData) → record { scopes = scopes_of es rows; scope_by_expr = m } ≡ seen →
+    scope < length seen.scopes → i ≡ scope → row ≡ get_or rows i row → slice_get rows i ≡ Some row
 row_seen es rows m seen scope i row view l is e =
     slice_get_read rows (length rows) i row refl (omega (arith, is, l, ap (λ (x : Scopes). length x.scopes) view, length_seen es rows)) e
 
@@ -92,7 +108,8 @@ row_seen es rows m seen scope i row view l is e =
 abbrev pub AreBelow : finmap.FinMap nat_cmp ℕ → ℕ → Type 0
 AreBelow m n = (expr scope : ℕ) → finmap.get m expr ≡ Some scope → scope < n
 
-pub in_range_seen : (es : List ScopeEntry) (rows : List ScopeData) (m : finmap.FinMap nat_cmp ℕ) → AreBelow m (length rows) → AreBelow m (length (scopes_of es rows))
+pub in_range_seen : (es : List ScopeEntry) (rows : List ScopeData) (m : finmap.FinMap nat_cmp ℕ) →
+    AreBelow m (length rows) → AreBelow m (length (scopes_of es rows))
 in_range_seen es rows m h expr scope e = subst (λ n. scope < n) (sym (length_seen es rows)) (h expr scope e)
 
 -- a value that was written is the one written, or that from before
@@ -116,25 +133,38 @@ flat_empty = record {
   few_entries = omega arith;
 }
 
-pub flat_set : (es : List ScopeEntry) (rows : List ScopeData) (m : finmap.FinMap nat_cmp ℕ) (e s : ℕ) → IsFlat es rows m → s < length rows → IsFlat es rows (finmap.insert m e s)
+pub flat_set : (es : List ScopeEntry) (rows : List ScopeData) (m : finmap.FinMap nat_cmp ℕ) (e s : ℕ) →
+    IsFlat es rows m → s < length rows → IsFlat es rows (finmap.insert m e s)
 flat_set es rows m e s f l =
-    record { fill = f.fill; parents = f.parents; in_range = below_inserted m (length rows) e s f.in_range l; few_scopes = f.few_scopes; few_entries = f.few_entries }
+    record {
+      fill = f.fill;
+      parents = f.parents;
+      in_range = below_inserted m
+          (length rows) e s f.in_range l;
+      few_scopes = f.few_scopes;
+      few_entries = f.few_entries;
+    }
 
-below_with_one : (rows : List ScopeData) (row : ScopeData) (n : ℕ) → ((i : ℕ) (x : ScopeData) → slice_get rows i ≡ Some x → IsBelow (n + i) x.parent) → IsBelow (n + length rows) row.parent → (i : ℕ) (x : ScopeData) → slice_get (rows ++ row ∷ []) i ≡ Some x → IsBelow (n + i) x.parent
+below_with_one : (rows : List ScopeData) (row : ScopeData) (n : ℕ) →
+    ((i : ℕ) (x : ScopeData) → slice_get rows i ≡ Some x → IsBelow (n + i) x.parent) →
+    IsBelow (n + length rows) row.parent → (i : ℕ) (x : ScopeData) → slice_get (rows ++ row ∷ []) i ≡ Some x →
+    IsBelow (n + i) x.parent
 below_with_one [] row n h b zero x q = let k : row ≡ x = cc in subst (λ (y : ScopeData). IsBelow (n + 0) y.parent) k b
 below_with_one [] row n h b (suc i) x q = absurd cc
 below_with_one (first ∷ rows) row n h b zero x q = h zero x q
 below_with_one (first ∷ rows) row n h b (suc i) x q =
     let shift : (j : ℕ) → suc n + j ≡ n + suc j = λ j. omega arith in
     subst (λ m. IsBelow m x.parent) (shift i)
-    (below_with_one rows row (suc n) (λ j y r. subst (λ m. IsBelow m y.parent) (sym (shift j)) (h (suc j) y r)) (subst (λ m. IsBelow m row.parent) (sym (shift (length rows))) b) i x q)
+    (below_with_one rows row (suc n) (λ j y r. subst (λ m. IsBelow m y.parent) (sym (shift j)) (h (suc j) y r))
+    (subst (λ m. IsBelow m row.parent) (sym (shift (length rows))) b) i x q)
 
 -- one scope more, of entries that are put last
 pub flat_push : (es more : List ScopeEntry) (rows : List ScopeData) (m : finmap.FinMap nat_cmp ℕ) (row : ScopeData) → IsFlat es rows m →
     row.start ≡ length es → row.end ≡ length es + length more → IsBelow (length rows) row.parent →
     length rows < 4294967295 → length es + length more ≤ 4294967295 → IsFlat (es ++ more) (rows ++ row ∷ []) m
 flat_push es more rows m row f s e b n k = record {
-  fill = subst (FollowEachOther 0 (rows ++ row ∷ [])) (e ∙ sym (length-append es more)) (follow_push 0 rows (length es) row f.fill s (omega (arith, e)));
+  fill = subst (FollowEachOther 0 (rows ++ row ∷ [])) (e ∙ sym (length-append es more))
+      (follow_push 0 rows (length es) row f.fill s (omega (arith, e)));
   parents = λ i x q. parent_pushed i x q;
   in_range = λ expr scope q. let l = f.in_range expr scope q in omega (arith, l, length_push rows row);
   few_scopes = omega (arith, n, length_push rows row);
@@ -144,7 +174,8 @@ flat_push es more rows m row f s e b n k = record {
   parent_pushed i x q =
       let from_zero : (j : ℕ) → 0 + j ≡ j = λ j. omega arith in
       subst (λ m. IsBelow m x.parent) (from_zero i)
-      (below_with_one rows row 0 (λ j y r. subst (λ m. IsBelow m y.parent) (sym (from_zero j)) (f.parents j y r)) (subst (λ m. IsBelow m row.parent) (sym (from_zero (length rows))) b) i x q)
+      (below_with_one rows row 0 (λ j y r. subst (λ m. IsBelow m y.parent) (sym (from_zero j)) (f.parents j y r))
+      (subst (λ m. IsBelow m row.parent) (sym (from_zero (length rows))) b) i x q)
 
 pub seen_pushed : (es more : List ScopeEntry) (rows : List ScopeData) (row : ScopeData) → FollowEachOther 0 rows (length es) →
     row.start ≡ length es → row.end ≡ length es + length more →
@@ -161,16 +192,19 @@ TooMany scopes n = (4294967295 < length scopes + 1) ⊎ (4294967295 < entry_coun
 pub scopes_too_many : (es : List ScopeEntry) (rows : List ScopeData) (n : ℕ) → 4294967295 ≤ length rows → TooMany (scopes_of es rows) n
 scopes_too_many es rows n h = inl (omega (arith, h, length_seen es rows))
 
-pub entries_too_many : (es : List ScopeEntry) (rows : List ScopeData) (n : ℕ) → FollowEachOther 0 rows (length es) → 4294967295 < length es + n → TooMany (scopes_of es rows) n
+pub entries_too_many : (es : List ScopeEntry) (rows : List ScopeData) (n : ℕ) → FollowEachOther 0 rows (length es) →
+    4294967295 < length es + n → TooMany (scopes_of es rows) n
 entries_too_many es rows n f h = inr (omega (arith, h, entries_are_counted es 0 rows f))
 
-pub not_too_many : (es : List ScopeEntry) (rows : List ScopeData) (n : ℕ) → FollowEachOther 0 rows (length es) → length rows < 4294967295 → length es + n ≤ 4294967295 → TooMany (scopes_of es rows) n → ⊥
+pub not_too_many : (es : List ScopeEntry) (rows : List ScopeData) (n : ℕ) → FollowEachOther 0 rows (length es) →
+    length rows < 4294967295 → length es + n ≤ 4294967295 → TooMany (scopes_of es rows) n → ⊥
 not_too_many es rows n f h k (inl w) = absurd (omega (arith, h, w, length_seen es rows))
 not_too_many es rows n f h k (inr w) = absurd (omega (arith, k, w, entries_are_counted es 0 rows f))
 
 -- 2. Scopes are the same exactly where what keeps them is.
 
-pub kept_once : (xs ys : List ScopeEntry) (from : ℕ) (rows others : List ScopeData) → FollowEachOther from rows (length xs) → FollowEachOther from others (length ys) →
+pub kept_once : (xs ys : List ScopeEntry) (from : ℕ) (rows others : List ScopeData) →
+    FollowEachOther from rows (length xs) → FollowEachOther from others (length ys) →
     scopes_of xs rows ≡ scopes_of ys others → (rows ≡ others) × (drop from xs ≡ drop from ys)
 kept_once xs ys from [] [] f g e = (refl, drop_all from xs (omega (arith, f)) ∙ sym (drop_all from ys (omega (arith, g))))
 kept_once xs ys from [] (other ∷ others) f g e = absurd cc
@@ -202,11 +236,14 @@ one_test true false p q to from = let r : false ≡ true = q.1 (to (p.0 refl)) i
 one_test false true p q to from = let r : false ≡ true = p.1 (from (q.0 refl)) in absurd cc
 
 -- tests of the three parts of what keeps scopes are, one after the other, the test of the scopes
-pub all_tests : (xs ys : List ScopeEntry) (rows others : List ScopeData) (m n : finmap.FinMap nat_cmp ℕ) → IsFlat xs rows m → IsFlat ys others n →
+pub all_tests : (xs ys : List ScopeEntry) (rows others : List ScopeData) (m n : finmap.FinMap nat_cmp ℕ) →
+    IsFlat xs rows m → IsFlat ys others n →
     (a b c : Bool) → a ≡ pointwise row.ghosts.eq rows others → b ≡ pointwise entry.ghosts.eq xs ys → c ≡ same_maps nat_cmp eqb m n →
-    a && (b && c) ≡ same_scopes (record { scopes = scopes_of xs rows; scope_by_expr = m }) (record { scopes = scopes_of ys others; scope_by_expr = n })
+    a && (b && c) ≡ same_scopes (record { scopes = scopes_of xs rows; scope_by_expr = m })
+    (record { scopes = scopes_of ys others; scope_by_expr = n })
 all_tests xs ys rows others m n f g a b c p q r =
-    let maps = subst (λ t. Decides t (m ≡ n)) (sym r) (same_maps_decides nat_cmp_total eqb finmap.nat_cmp-IsAntisymmetric unsigned_Decides m n) in
+    let maps = subst (λ t. Decides t (m ≡ n)) (sym r)
+    (same_maps_decides nat_cmp_total eqb finmap.nat_cmp-IsAntisymmetric unsigned_Decides m n) in
     let lists = subst (λ t. Decides t (xs ≡ ys)) (sym q) (pointwise_decides entry_law.lawful.eq_decides xs ys) in
     let ranges = subst (λ t. Decides t (rows ≡ others)) (sym p) (pointwise_decides row_law.lawful.eq_decides rows others) in
     one_test (a && (b && c)) _ (both a (b && c) ranges (both b c lists maps))

@@ -1,6 +1,7 @@
 -- The scoping form of a node: which nodes give their children contexts by a rule of their own. Any other node
 -- visits its children in turn.
 use Rattle.hir_scope.specs.Prelude.{List, [], Option, Some, None, slice_get, BlockId, ExprId, PatId, LabelId, TypeRefId, Call, expr_calls, pat_calls, type_calls, Expr, MatchArm, Statement, NodeId, Pat, TypeRef, Nodes}
+use Rattle.hir_scope.specs.declared.form.Form.{Form}
 
 pub data ScopingForm : Type 0 where
   -- the condition, then, else
@@ -39,6 +40,21 @@ pat_form x = InTurn (pat_calls x)
 abbrev pub type_form : TypeRef → ScopingForm
 type_form (TypeRef.PatternType id pat) = PatternType id pat
 type_form x = InTurn (type_calls x)
+
+-- what a value of `Form` is modelled as
+abbrev pub form_model : Form → ScopingForm
+form_model (Form.If condition then_branch else_branch) = If condition then_branch else_branch
+form_model (Form.Let pat expr) = Let pat expr
+form_model (Form.Block id label statements tail) = Block id label statements.now tail
+form_model (Form.Loop label body) = Loop label body
+form_model (Form.Closure arg_types ret_type args body) = Closure arg_types.now ret_type args.now body
+form_model (Form.Match scrutinee arms) = Match scrutinee arms.now
+form_model (Form.Assignment target value) = Assignment target value
+form_model (Form.PatternType id pat) = PatternType id pat
+form_model Form.Leaf = InTurn []
+form_model (Form.Expr expr) = InTurn (expr_calls expr.now)
+form_model (Form.Pat pat) = InTurn (pat_calls pat.now)
+form_model (Form.TypeRef type) = InTurn (type_calls type.now)
 
 -- the form of a node, where it exists
 abbrev pub form_at : {X : Type 0} → (X → ScopingForm) → Option X → ScopingForm

@@ -107,13 +107,9 @@ impl Walk {
         ensures entries { IfOk result (λ walk. walk.entries.items ≡ []) }
         ensures memory { OnErr result (result ≡ Err ScopesFault.Memory) }
     {
-        let first = ScopeId::from_raw(0);
         Ok(Walk {
             scopes: ExprScopes::with_room(alloc, store.exprs().len(), store.bindings().len())?,
-            current: CurrentScopes {
-                scope: first,
-                const_scope: first,
-            },
+            current: CurrentScopes::both(ScopeId::from_raw(0)),
             tasks: Tasks {
                 stack: Stack::new(alloc),
             },
@@ -152,8 +148,7 @@ impl Walk {
         Ok(walk)
     }
 
-    /// Returns the walk over a signature, before its first step: it has a scope for each root in the root
-    /// scope, which is empty.
+    /// Returns the walk over a signature, before its first step: it has the root scope, which is empty.
     fn over_roots(alloc: Global, store: &ExpressionStore) -> Result<Walk, ScopesFault>
         ensures ok { IfOk result (λ walk. state walk ≡ signature_begins store.now) }
         ensures full { result ≡ Err ScopesFault.Full → MOST_ITEMS < 1 + length store.now.roots }
@@ -161,14 +156,10 @@ impl Walk {
     {
         let mut walk = Walk::new(alloc, store)?;
         let mut none = Vec::new(alloc);
-        let root_scope = walk.scopes.new_scope(None, ScopeKind::None, &mut none)?;
+        walk.scopes.new_scope(None, ScopeKind::None, &mut none)?;
         let mut roots = store.expr_roots();
         while let Some(root) = roots.next_back() {
-            let scope = walk
-                .scopes
-                .new_scope(Some(root_scope), ScopeKind::None, &mut none)?;
-            walk.tasks.push(Task::Expr(root))?;
-            walk.tasks.push(Task::Leave(scope, scope))?;
+            walk.tasks.push(Task::Root(root))?;
         }
         Ok(walk)
     }

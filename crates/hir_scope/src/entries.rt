@@ -11,6 +11,9 @@ use hir_node::{BindingId, PatId};
 use hir_store_core::ExpressionStore;
 
 /// Appends the entry of a binding, where the store has it.
+// Always inlined, as `add_pat` below and `new_scope` are: their calls for each binding are 2 % of what it takes
+// to build a small body and its scopes.
+#[inline(always)]
 pub(crate) fn add_entry(
     entries: &mut Vec<ScopeEntry>,
     store: &ExpressionStore,
@@ -30,6 +33,7 @@ pub(crate) fn add_entry(
 }
 
 /// Appends the entries of what a pattern binds.
+#[inline(always)]
 pub(crate) fn add_pat(
     entries: &mut Vec<ScopeEntry>,
     store: &ExpressionStore,

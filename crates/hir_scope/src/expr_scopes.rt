@@ -67,7 +67,7 @@ impl ExprScopes {
     ghost use Rattle.std.specs.List.{All, range_with_len};
 
     /// Returns no scopes, with room for the scopes of this number of expressions, for this number of entries,
-    /// and for as many scopes.
+    /// and for about as many scopes.
     ///
     /// Returns `Memory` where an allocation fails.
     pub(crate) fn with_room(
@@ -79,9 +79,9 @@ impl ExprScopes {
         ensures err { OnErr result (result ≡ Err ScopesFault.Memory) }
     {
         Ok(ExprScopes {
-            // Scopes aren't counted beforehand. Code has about one for each binding; where it has more, their
-            // list grows.
-            scopes: Vec::with_capacity(alloc, entries)?,
+            // Scopes aren't counted beforehand. Code has about one for each binding, beside that of the root and
+            // that of a body's block; where it has more, their list grows.
+            scopes: Vec::with_capacity(alloc, entries.saturating_add(2))?,
             entries: Vec::with_capacity(alloc, entries)?,
             scope_by_expr: ArenaMap::with_capacity(alloc, exprs)?,
         })
@@ -205,6 +205,8 @@ impl ExprScopes {
     ///
     /// Returns `Full` exactly where there would be more than `MOST_ITEMS` scopes or entries, and `Memory`
     /// where an allocation fails. Either leaves the scopes and the entries as they were.
+    // Always inlined: see `add_entry`.
+    #[inline(always)]
     pub(crate) fn new_scope(
         &mut self,
         parent: Option<ScopeId>,

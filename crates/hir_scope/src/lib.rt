@@ -7,6 +7,7 @@ mod constructors;
 mod entries;
 mod expr_scopes;
 mod fault;
+mod form;
 pub mod laws;
 mod lookups;
 pub mod macro_laws;
@@ -22,8 +23,9 @@ mod walk;
 
 pub use expr_scopes::{ExprScopes, ScopeData};
 pub use fault::ScopesFault;
+pub use form::Form;
 pub use macros::Expansion;
-pub use order::visit_in_scope_order;
+pub use order::{visit_form, visit_in_scope_order};
 pub use resolve::local_name;
 pub use scope::{ScopeEntry, ScopeId, ScopeKind, ScopeMarker};
 pub use scope_chain::ScopeChain;

@@ -2,7 +2,9 @@
 
 ghost use Rattle.std.specs.Prelude.{◌≡◌, ◌<◌, [], ◌∷◌, ◌++◌, length, map, Err, IfOk, OnOk};
 ghost use Rattle.hir_node.specs.declared.node_id.NodeId.TheVariants as node;
-ghost use Rattle.hir_scope.specs.ScopingForms.{form_of};
+ghost use Rattle.hir_node.specs.ChildCalls.{children};
+ghost use Rattle.hir_scope.specs.ScopingForms.{form_model};
+ghost use Rattle.hir_scope.specs.Order.{met_in_form};
 ghost use Rattle.hir_scope.specs.Frames.{frame_with, of_kind};
 ghost use Rattle.hir_scope.specs.ChildContexts.{block_const_frames, loop_kind, own_frame};
 ghost use Rattle.hir_scope.specs.Scopes.{frame_of};
@@ -11,12 +13,12 @@ ghost use Rattle.hir_scope.specs.internal.Pending.{opened_frames, opened_const_f
 
 use crate::entries::add_pats;
 use crate::fault::ScopesFault;
+use crate::form::Form;
 use crate::scope::ScopeKind;
 use crate::walk::Walk;
 use hir_base::BlockId;
-use hir_node::{Expr, ExprId, LabelId, PatId};
+use hir_node::{LabelId, PatId};
 use hir_store_core::ExpressionStore;
-use hir_store_core::laws::rank_decreases;
 
 fn loop_kind(label: Option<LabelId>) -> ScopeKind
     ensures { result ≡ loop_kind label }
@@ -100,58 +102,31 @@ impl Walk {
         }
     }
 
-    /// Opens the scopes that an expression has around what is inside it.
-    // One arm a form: split, the function would name variants twice.
+    /// Opens the scopes that a node of this form has around what is inside it. Its children have to exist.
     pub(crate) fn open_inside(
         &mut self,
         store: &ExpressionStore,
-        expr: ExprId,
+        form: &Form<'_>,
     ) -> Result<(), ScopesFault>
-        requires in_range { expr < length store.now.nodes.exprs }
+        requires in_range { AreInRange store.now.nodes (children (met_in_form (form_model form.now))) }
         requires scope { self.old.current.scope < length self.old.scopes.scopes }
         requires const_scope { self.old.current.const_scope < length self.old.scopes.scopes }
         ensures opened { IfOk result (λ _. OpensScopes (state self.old) (state self.new)
-            (opened_frames store.now.nodes (form_of store.now.nodes (node.Expr expr)))
-            (opened_const_frames (form_of store.now.nodes (node.Expr expr)))) }
+            (opened_frames store.now.nodes (form_model form.now))
+            (opened_const_frames (form_model form.now))) }
         ensures full { result ≡ Err ScopesFault.Full → Over (map frame_of self.old.scopes.scopes
-            ++ (opened_frames store.now.nodes (form_of store.now.nodes (node.Expr expr))
-            ++ opened_const_frames (form_of store.now.nodes (node.Expr expr)))) }
+            ++ (opened_frames store.now.nodes (form_model form.now)
+            ++ opened_const_frames (form_model form.now))) }
         ensures missing { result ≡ Err ScopesFault.Missing → ⊥ }
     {
-        store.has_no_fault();
-        rank_decreases();
-        match &store[expr] {
-            Expr::If { .. } => self.open(store, ScopeKind::None, &[]),
-            Expr::Block { id, label, .. } => self.open_block(store, *id, *label),
-            Expr::Loop { label, .. } => self.open(store, loop_kind(*label), &[]),
-            Expr::Closure { args, .. } => self.open(store, ScopeKind::None, args.as_slice()),
-            Expr::Assignment { target, .. } => self.open(store, ScopeKind::None, &[*target]),
-            Expr::Let { .. } | Expr::Match { .. } => Ok(()),
-            Expr::Missing
-            | Expr::Underscore
-            | Expr::IncludeBytes
-            | Expr::Literal(_)
-            | Expr::Continue { .. }
-            | Expr::Path(_)
-            | Expr::Array(_)
-            | Expr::OffsetOf(_)
-            | Expr::Const(_)
-            | Expr::Call { .. }
-            | Expr::MethodCall { .. }
-            | Expr::Break { .. }
-            | Expr::Return { .. }
-            | Expr::Yield { .. }
-            | Expr::Yeet { .. }
-            | Expr::Become { .. }
-            | Expr::Await { .. }
-            | Expr::Field { .. }
-            | Expr::Ref { .. }
-            | Expr::UnaryOp { .. }
-            | Expr::RecordLit { .. }
-            | Expr::Cast { .. }
-            | Expr::BinaryOp { .. }
-            | Expr::Index { .. }
-            | Expr::Tuple { .. } => Ok(()),
+        match form {
+            Form::If(_, _, _) => self.open(store, ScopeKind::None, &[]),
+            Form::Block(id, label, _, _) => self.open_block(store, *id, *label),
+            Form::Loop(label, _) => self.open(store, loop_kind(*label), &[]),
+            Form::Closure(_, _, args, _) => self.open(store, ScopeKind::None, *args),
+            Form::Assignment(target, _) => self.open(store, ScopeKind::None, &[*target]),
+            Form::Let(_, _) | Form::Match(_, _) | Form::PatternType(_, _) => Ok(()),
+            Form::Leaf | Form::Expr(_) | Form::Pat(_) | Form::TypeRef(_) => Ok(()),
         }
     }
 }

@@ -1,13 +1,14 @@
-//! The visit of an expression's children in the order in which scopes are made.
+//! The visit of a node's children in the order in which scopes are made.
 #![tactic(auto, using(hir_node::proofs::RunLemmas::runs))]
 
 ghost use Rattle.std.specs.Prelude.{List};
 ghost use Rattle.std.specs.List.{flat_map};
 ghost use Rattle.hir_node.specs.ChildCalls.{Call};
 ghost use Rattle.hir_node.specs.Runs.{Runs, MayRun};
-ghost use Rattle.hir_scope.specs.ScopingForms.{expr_form};
+ghost use Rattle.hir_scope.specs.ScopingForms.{expr_form, form_model};
 ghost use Rattle.hir_scope.specs.Order.{met_in_form};
 
+use crate::form::Form;
 use hir_node::{Expr, MatchArm, Statement, StoreVisitor, StoreVisitorExt, TypeRefId};
 
 /// A part of an expression whose children are visited.
@@ -76,81 +77,58 @@ impl Visit for MatchArm {
     }
 }
 
-/// Calls the visitor with each child of an expression, as `Expr::visit_children` does, in the order in which
-/// scopes are made: where a value is matched with a pattern it comes before the pattern, an arm's guard
-/// before its body, a closure's types before its arguments.
-// One arm a form: split, the function would name variants twice.
-pub fn visit_in_scope_order<V: StoreVisitor>(expr: &Expr, visitor: &mut V)
-    requires { MayRun V.may V.step visitor.old (met_in_form (expr_form expr.now)) }
-    ensures { Runs V.step visitor.old (met_in_form (expr_form expr.now)) visitor.new }
+/// Calls the visitor with each child of a node of this form, in the order in which scopes are made.
+pub fn visit_form<V: StoreVisitor>(form: &Form<'_>, visitor: &mut V)
+    requires { MayRun V.may V.step visitor.old (met_in_form (form_model form.now)) }
+    ensures { Runs V.step visitor.old (met_in_form (form_model form.now)) visitor.new }
 {
-    match expr {
-        Expr::If {
-            condition,
-            then_branch,
-            else_branch,
-        } => {
+    match form {
+        Form::If(condition, then_branch, else_branch) => {
             visitor.on_expr(*condition);
             visitor.on_expr(*then_branch);
             visitor.on_expr_opt(*else_branch);
         }
-        Expr::Let { pat, expr } => {
+        Form::Let(pat, expr) => {
             visitor.on_expr(*expr);
             visitor.on_pat(*pat);
         }
-        Expr::Block {
-            statements,
-            tail,
-            ..
-        } => {
-            visit_each(visitor, statements.as_slice());
+        Form::Block(_, _, statements, tail) => {
+            visit_each(visitor, *statements);
             visitor.on_expr_opt(*tail);
         }
-        Expr::Loop { body, .. } => visitor.on_expr(*body),
-        Expr::Closure {
-            args,
-            arg_types,
-            ret_type,
-            body,
-            ..
-        } => {
-            visit_each(visitor, arg_types.as_slice());
+        Form::Loop(_, body) => visitor.on_expr(*body),
+        Form::Closure(arg_types, ret_type, args, body) => {
+            visit_each(visitor, *arg_types);
             visitor.on_type_opt(*ret_type);
-            visitor.on_pats(args.as_slice());
+            visitor.on_pats(*args);
             visitor.on_expr(*body);
         }
-        Expr::Match { expr, arms } => {
-            visitor.on_expr(*expr);
-            visit_each(visitor, arms.as_slice());
+        Form::Match(scrutinee, arms) => {
+            visitor.on_expr(*scrutinee);
+            visit_each(visitor, *arms);
         }
-        Expr::Assignment { target, value } => {
+        Form::Assignment(target, value) => {
             visitor.on_pat(*target);
             visitor.on_expr(*value);
         }
-        Expr::Missing
-        | Expr::Underscore
-        | Expr::IncludeBytes
-        | Expr::Literal(_)
-        | Expr::Continue { .. }
-        | Expr::Path(_)
-        | Expr::Array(_)
-        | Expr::OffsetOf(_)
-        | Expr::Const(_)
-        | Expr::Call { .. }
-        | Expr::MethodCall { .. }
-        | Expr::Break { .. }
-        | Expr::Return { .. }
-        | Expr::Yield { .. }
-        | Expr::Yeet { .. }
-        | Expr::Become { .. }
-        | Expr::Await { .. }
-        | Expr::Field { .. }
-        | Expr::Ref { .. }
-        | Expr::UnaryOp { .. }
-        | Expr::RecordLit { .. }
-        | Expr::Cast { .. }
-        | Expr::BinaryOp { .. }
-        | Expr::Index { .. }
-        | Expr::Tuple { .. } => expr.visit_children(visitor),
+        Form::PatternType(inner, pat) => {
+            visitor.on_type(*inner);
+            visitor.on_pat(*pat);
+        }
+        Form::Leaf => {}
+        Form::Expr(expr) => expr.visit_children(visitor),
+        Form::Pat(pat) => pat.visit_children(visitor),
+        Form::TypeRef(type_ref) => type_ref.visit_children(visitor),
     }
+}
+
+/// Calls the visitor with each child of an expression, as `Expr::visit_children` does, in the order in which
+/// scopes are made: where a value is matched with a pattern it comes before the pattern, an arm's guard
+/// before its body, a closure's types before its arguments.
+pub fn visit_in_scope_order<V: StoreVisitor>(expr: &Expr, visitor: &mut V)
+    requires { MayRun V.may V.step visitor.old (met_in_form (expr_form expr.now)) }
+    ensures { Runs V.step visitor.old (met_in_form (expr_form expr.now)) visitor.new }
+{
+    let form = Form::of_expr(expr);
+    visit_form(&form, visitor);
 }

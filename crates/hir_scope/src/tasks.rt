@@ -3,20 +3,21 @@
 
 ghost use Rattle.std.specs.Prelude.{◌≡◌, List, [], ◌∷◌, ◌++◌, false, Err, None, OnErr, OnOk, IfSome};
 ghost use Rattle.std.specs.List.{flat_map};
-ghost use Rattle.hir_node.specs.ChildCalls.{e, opt, pat_calls};
+ghost use Rattle.hir_node.specs.ChildCalls.{e, opt};
 ghost use Rattle.hir_node.specs.Runs.{Runs};
 ghost use Rattle.hir_scope.specs.declared.tasks.Task.{Task};
-ghost use Rattle.hir_scope.specs.ScopingForms.{expr_form, type_form};
-ghost use Rattle.hir_scope.specs.internal.Pending.{DefersTask, task_of, tasks_of, form_tasks, leave};
+ghost use Rattle.hir_scope.specs.ScopingForms.{form_model};
+ghost use Rattle.hir_scope.specs.internal.Pending.{DefersTask, both, task_of, tasks_of, form_tasks, leave};
 
 use crate::fault::ScopesFault;
-use crate::order::visit_in_scope_order;
+use crate::form::Form;
+use crate::order::visit_form;
 use crate::scope::ScopeId;
 use hir_base::MacroDefId;
 use hir_collections::Stack;
 use hir_node::{
-    Expr, ExprId, Item, LifetimeRefId, MatchArm, Pat, PatId, Statement, StoreVisitor,
-    StoreVisitorExt, TypeRef, TypeRefId,
+    ExprId, Item, LifetimeRefId, MatchArm, PatId, Statement, StoreVisitor, StoreVisitorExt,
+    TypeRefId,
 };
 
 /// The scope around what is visited next, and that around the constants in it.
@@ -24,6 +25,18 @@ use hir_node::{
 pub(crate) struct CurrentScopes {
     pub(crate) scope: ScopeId,
     pub(crate) const_scope: ScopeId,
+}
+
+impl CurrentScopes {
+    /// Returns a scope as that around what is visited next, and around the constants in it.
+    pub(crate) fn both(scope: ScopeId) -> CurrentScopes
+        ensures { result ≡ both scope }
+    {
+        CurrentScopes {
+            scope,
+            const_scope: scope,
+        }
+    }
 }
 
 /// A task of a walk.
@@ -47,6 +60,8 @@ pub(crate) enum Task {
     GuardedArm(PatId, ExprId, ExprId),
     /// A macro's definition: a scope for what follows, and one for the constants in it.
     MacroDef(MacroDefId),
+    /// A root of a signature, in a scope of its own in the first scope, also for constants.
+    Root(ExprId),
     /// Restores the scopes that were current before: the current scope, and that around constants.
     Leave(ScopeId, ScopeId),
 }
@@ -168,147 +183,72 @@ impl Tasks {
             .defer(Task::Leave(current.scope, current.const_scope));
     }
 
-    /// Puts the tasks of what is inside an expression. Leaving the expression restores `current`.
-    // One arm a form: split, the function would name variants twice.
-    fn defer_in_expr(&mut self, expr: &Expr, current: CurrentScopes)
-        ensures { Runs DefersTask self.old.stack (form_tasks current (expr_form expr.now)) self.new.stack }
+    /// Puts the tasks of what is inside a node of this form. Leaving the node restores `current`.
+    fn defer_in(&mut self, form: &Form<'_>, current: CurrentScopes)
+        ensures { Runs DefersTask self.old.stack
+            (form_tasks current (form_model form.now)) self.new.stack }
     {
-        match expr {
-            Expr::If {
-                condition,
-                then_branch,
-                else_branch,
-            } => {
+        match form {
+            Form::If(condition, then_branch, else_branch) => {
                 self.on_expr(*condition);
                 self.on_expr(*then_branch);
                 self.defer_leave(current);
                 self.on_expr_opt(*else_branch);
             }
-            Expr::Let { pat, expr } => {
+            Form::Let(pat, expr) => {
                 self.on_expr(*expr);
                 self.stack.defer(Task::Bound(*pat));
             }
-            Expr::Block {
-                statements,
-                tail,
-                ..
-            } => {
-                defer_each(self, statements.as_slice());
+            Form::Block(_, _, statements, tail) => {
+                defer_each(self, *statements);
                 self.on_expr_opt(*tail);
                 self.defer_leave(current);
             }
-            Expr::Loop { body, .. } => {
+            Form::Loop(_, body) => {
                 self.on_expr(*body);
                 self.defer_leave(current);
             }
-            Expr::Closure { .. } => {
-                visit_in_scope_order(expr, self);
+            Form::Closure(_, _, _, _) => {
+                visit_form(form, self);
                 self.defer_leave(current);
             }
-            Expr::Match { expr, arms } => {
-                self.on_expr(*expr);
-                defer_each(self, arms.as_slice());
+            Form::Match(scrutinee, arms) => {
+                self.on_expr(*scrutinee);
+                defer_each(self, *arms);
             }
-            Expr::Assignment { target, value } => {
+            Form::Assignment(target, value) => {
                 self.on_pat(*target);
                 self.defer_leave(current);
                 self.on_expr(*value);
             }
-            Expr::Missing
-            | Expr::Underscore
-            | Expr::IncludeBytes
-            | Expr::Literal(_)
-            | Expr::Continue { .. }
-            | Expr::Path(_)
-            | Expr::Array(_)
-            | Expr::OffsetOf(_)
-            | Expr::Const(_)
-            | Expr::Call { .. }
-            | Expr::MethodCall { .. }
-            | Expr::Break { .. }
-            | Expr::Return { .. }
-            | Expr::Yield { .. }
-            | Expr::Yeet { .. }
-            | Expr::Become { .. }
-            | Expr::Await { .. }
-            | Expr::Field { .. }
-            | Expr::Ref { .. }
-            | Expr::UnaryOp { .. }
-            | Expr::RecordLit { .. }
-            | Expr::Cast { .. }
-            | Expr::BinaryOp { .. }
-            | Expr::Index { .. }
-            | Expr::Tuple { .. } => expr.visit_children(self),
-        }
-    }
-
-    /// Puts the tasks of what is inside a type. Leaving the type restores `current`.
-    fn defer_in_type(&mut self, type_ref: &TypeRef, current: CurrentScopes)
-        ensures { Runs DefersTask self.old.stack
-            (form_tasks current (type_form type_ref.now)) self.new.stack }
-    {
-        match type_ref {
-            TypeRef::PatternType(inner, pat) => {
+            Form::PatternType(inner, pat) => {
                 self.on_type(*inner);
                 self.stack.defer(Task::Bound(*pat));
                 self.defer_leave(current);
             }
-            TypeRef::Never
-            | TypeRef::Placeholder
-            | TypeRef::Error
-            | TypeRef::TypeParam(_)
-            | TypeRef::Tuple(_)
-            | TypeRef::Path(_)
-            | TypeRef::RawPtr(_, _)
-            | TypeRef::Reference(_)
-            | TypeRef::Array(_)
-            | TypeRef::Slice(_)
-            | TypeRef::Fn(_)
-            | TypeRef::ImplTrait(_)
-            | TypeRef::DynTrait(_) => type_ref.visit_children(self),
+            Form::Leaf => {}
+            Form::Expr(expr) => expr.visit_children(self),
+            Form::Pat(pat) => pat.visit_children(self),
+            Form::TypeRef(type_ref) => type_ref.visit_children(self),
         }
     }
 
-    /// Pushes the tasks of what is inside an expression, the first on top.
-    pub(crate) fn push_in_expr(
+    /// Pushes the tasks of what is inside a node of this form, the first on top. Leaving the node restores
+    /// `current`.
+    pub(crate) fn push_in(
         &mut self,
-        expr: &Expr,
+        form: &Form<'_>,
         current: CurrentScopes,
     ) -> Result<(), ScopesFault>
         ensures ok { OnOk result (self.new.stack.items
-            ≡ form_tasks current (expr_form expr.now) ++ self.old.stack.items) }
+            ≡ form_tasks current (form_model form.now) ++ self.old.stack.items) }
         ensures memory { OnErr result (result ≡ Err ScopesFault.Memory) }
     {
+        if let Form::Leaf = form {
+            return Ok(());
+        }
         let below = self.stack.len();
-        self.defer_in_expr(expr, current);
-        self.stack.push_deferred(below)?;
-        Ok(())
-    }
-
-    /// Pushes the tasks of what is inside a pattern, the first on top.
-    pub(crate) fn push_in_pat(&mut self, pat: &Pat) -> Result<(), ScopesFault>
-        ensures ok { OnOk result (self.new.stack.items
-            ≡ tasks_of (pat_calls pat.now) ++ self.old.stack.items) }
-        ensures memory { OnErr result (result ≡ Err ScopesFault.Memory) }
-    {
-        let below = self.stack.len();
-        pat.visit_children(self);
-        self.stack.push_deferred(below)?;
-        Ok(())
-    }
-
-    /// Pushes the tasks of what is inside a type, the first on top.
-    pub(crate) fn push_in_type(
-        &mut self,
-        type_ref: &TypeRef,
-        current: CurrentScopes,
-    ) -> Result<(), ScopesFault>
-        ensures ok { OnOk result (self.new.stack.items
-            ≡ form_tasks current (type_form type_ref.now) ++ self.old.stack.items) }
-        ensures memory { OnErr result (result ≡ Err ScopesFault.Memory) }
-    {
-        let below = self.stack.len();
-        self.defer_in_type(type_ref, current);
+        self.defer_in(form, current);
         self.stack.push_deferred(below)?;
         Ok(())
     }

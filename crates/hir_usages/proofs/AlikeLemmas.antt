@@ -1,5 +1,6 @@
 -- Nodes in which only names differ: the frames, the open frames and the child_contexts of each node are the same, with the entries renamed.
-use Rattle.std.proofs.Common.{◌≡◌, ℕ, zero, suc, List, [], ◌∷◌, ◌++◌, Option, Some, None, Bool, false, cond, map, refl, sym, ap, ◌∙◌, Contains, subst, length, fold, nat_eq, arith}
+use Rattle.std.proofs.Common.{◌≡◌, ℕ, zero, suc, List, [], ◌∷◌, ◌++◌, Option, Some, None, Bool, false, cond, map, refl, sym, ap, ◌∙◌}
+use Rattle.std.proofs.Common.{Contains, subst, length, fold, nat_eq, arith}
 use Rattle.std.proofs.Math.{Path.fun_ext, Dec.eqb-suc-suc, Dec.eqb-suc-zero, Dec.eqb-zero-suc}
 use Rattle.std.proofs.lemmas.{List.map-append, Option.slice_get-map}
 use Rattle.std.specs.List.{flat_map, slice_get}
@@ -7,29 +8,35 @@ use Rattle.std.specs.Option.{option_map}
 use Rattle.hir_path.specs.declared.ids.ExprOrPatId.{ExprOrPatId}
 use Rattle.hir_path.specs.declared.ids.ExprOrPatId.TheVariants.{ExprId, PatId}
 use Rattle.hir_path.specs.declared.path.Path.{Path}
-use Rattle.hir_node.specs.ChildCalls.{Call, OnExpr, OnAnonConst, OnPat, OnType, OnLifetime, e, p, t, opt, children, expr_calls, pat_calls, type_calls, pat_of_call}
+use Rattle.hir_node.specs.ChildCalls.{Call, OnExpr, OnAnonConst, OnPat, OnType, OnLifetime, e, p, t, opt, children, expr_calls, pat_calls}
+use Rattle.hir_node.specs.ChildCalls.{type_calls, pat_of_call}
 use Rattle.hir_node.specs.OtherIds.{pat_bindings}
 use Rattle.hir_node.specs.declared.{binding.Binding.Binding, expr.Expr.Expr, pat.Pat.Pat, node_id.NodeId.NodeId, type_ref.TypeRef.TypeRef}
 use Rattle.hir_node.specs.declared.expr_types.{Item.Item, MatchArm.MatchArm, Statement.Statement}
 use Rattle.hir_validate.specs.declared.sizes.Sizes.{Sizes}
 use Rattle.hir_validate.specs.Recursion.{rank, fold_down, fold_down_within}
-use Rattle.hir_validate.specs.{declared.node_arenas.Nodes.Nodes, Nodes.sizes_of, Nodes.calls_of, Nodes.children_of, Nodes.graph, Sizes.place, Sizes.places, TestedParts.all_of}
+use Rattle.hir_validate.specs.{declared.node_arenas.Nodes.Nodes, Nodes.sizes_of, Nodes.calls_of, Nodes.children_of, Nodes.graph}
+use Rattle.hir_validate.specs.{Sizes.place, Sizes.places, TestedParts.all_of}
 use Rattle.hir_forest.specs.Height.{height}
 use Rattle.hir_store_core.specs.PatLinks.{children_at}
 use Rattle.hir_store_core.specs.PatLists.{pats_step, pats, bindings_at, bindings_in}
-use Rattle.hir_scope.specs.Chains.{InContext, child_in_context, children_in_context, on_base, within_own, Occurs, entry_node, child, HasChain}
+use Rattle.hir_scope.specs.Chains.{InContext, child_in_context, children_in_context, on_base, within_own, Occurs, entry_node, child}
+use Rattle.hir_scope.specs.Chains.{HasChain}
 use Rattle.hir_scope.specs.ScopingForms.{ScopingForm, form_at, form_of, expr_form, pat_form, type_form}
 use Rattle.hir_scope.specs.ScopingForms as form
 use Rattle.hir_scope.specs.Frames.{Frame, Chain, entry_of, entry_at, binds, frame_with, frame, empty, of_kind}
 use Rattle.hir_scope.specs.OpenFrames.{open_frames, open_frames_of_calls, open_frames_step, open_frames_of_call, open_frames_of_form}
-use Rattle.hir_scope.specs.ChildContexts.{Base, Scope, ConstScope, ChildContext, call_child_context, in_turn, own_frame, block_const_frames, item_frames, frames_after, const_frames_after, statement_child_contexts, block_child_contexts, arm_child_contexts, loop_kind, child_contexts_of_form, child_contexts}
+use Rattle.hir_scope.specs.ChildContexts.{Base, Scope, ConstScope, ChildContext, call_child_context, in_turn, own_frame}
+use Rattle.hir_scope.specs.ChildContexts.{block_const_frames, item_frames, frames_after, const_frames_after, statement_child_contexts}
+use Rattle.hir_scope.specs.ChildContexts.{block_child_contexts, arm_child_contexts, loop_kind, child_contexts_of_form, child_contexts}
 use Rattle.hir_scope.specs.EntryNodes.{root_frame, body_entry_nodes}
 use Rattle.hir_scope.specs.declared.scope.{ScopeEntry.ScopeEntry, ScopeKind.ScopeKind}
 use Rattle.std.specs.FinMap as finmap
 use Rattle.hir_body.specs.{Bodies.BodyContents, Bodies.formals_of, Bodies.last_root, declared.formals.Param.Param}
 use Rattle.hir_scope.specs.{BodyScopes.ChainsAreFrames, BodyScopes.entry_nodes_of_body, Paths.chain, Scopes.Scopes}
 use Rattle.hir_usages.specs.Renames.{renamed_entry, renamed_chain}
-use Rattle.hir_usages.specs.Renamed.{change_at, renamed_expr, renamed_pat, renamed_binding, rename_path, rename_binding, renamed_nodes, renamed_body}
+use Rattle.hir_usages.specs.Renamed.{change_at, renamed_expr, renamed_pat, renamed_binding, rename_path, rename_binding, renamed_nodes}
+use Rattle.hir_usages.specs.Renamed.{renamed_body}
 use Rattle.hir_usages.specs.{Usages.usages_of, Usages.usages_of_body, declared.usage.Usage.Usage}
 
 -- 1. Lists
@@ -47,7 +54,8 @@ module _ {X Y : Type 0} (f : X → Y) where
       (suc m.0, omega (arith, m.1), m.2)
 
 module _ {X A B : Type 0} where
-  flat_map_mapped : (f : X → List B) (g : X → List A) (h : A → B) → ((x : X) → f x ≡ map h (g x)) → (xs : List X) → flat_map f xs ≡ map h (flat_map g xs)
+  flat_map_mapped : (f : X → List B) (g : X → List A) (h : A → B) → ((x : X) → f x ≡ map h (g x)) → (xs : List X) →
+      flat_map f xs ≡ map h (flat_map g xs)
   flat_map_mapped f g h same [] = refl
   flat_map_mapped f g h same (x ∷ xs) =
       let first = same x in
@@ -102,13 +110,19 @@ module _ (ren : ScopeEntry → ScopeEntry) (s u : Nodes) (a : Alike ren s u) whe
   R_two x y = map-append (mapped_frame ren) x y
 
   form_same : (n : NodeId) → form_of u n ≡ form_of s n
-  form_same (NodeId.Expr id) = form_told expr_form (slice_get u.exprs id) (slice_get s.exprs id) (same_at expr_form u.exprs s.exprs a.expr_forms id)
+  form_same (NodeId.Expr id) =
+      form_told expr_form (slice_get u.exprs id) (slice_get s.exprs id)
+      (same_at expr_form u.exprs s.exprs a.expr_forms id)
   form_same (NodeId.Pat id) = form_told pat_form (slice_get u.pats id) (slice_get s.pats id) (same_at pat_form u.pats s.pats a.pat_forms id)
   form_same (NodeId.TypeRef id) = ap (λ (ts : List TypeRef). form_at type_form (slice_get ts id)) a.types
 
   calls_same : (n : NodeId) → calls_of u n ≡ calls_of s n
-  calls_same (NodeId.Expr id) = calls_told expr_calls (slice_get u.exprs id) (slice_get s.exprs id) (same_at expr_calls u.exprs s.exprs a.expr_calls id)
-  calls_same (NodeId.Pat id) = calls_told pat_calls (slice_get u.pats id) (slice_get s.pats id) (same_at pat_calls u.pats s.pats a.pat_calls id)
+  calls_same (NodeId.Expr id) =
+      calls_told expr_calls (slice_get u.exprs id) (slice_get s.exprs id)
+      (same_at expr_calls u.exprs s.exprs a.expr_calls id)
+  calls_same (NodeId.Pat id) =
+      calls_told pat_calls (slice_get u.pats id) (slice_get s.pats id)
+      (same_at pat_calls u.pats s.pats a.pat_calls id)
   calls_same (NodeId.TypeRef id) = ap (λ (ts : List TypeRef). opt type_calls (slice_get ts id)) a.types
 
   pub children_same : (n : NodeId) → children_of u n ≡ children_of s n
@@ -127,7 +141,9 @@ module _ (ren : ScopeEntry → ScopeEntry) (s u : Nodes) (a : Alike ren s u) whe
   -- bindings and frames
 
   pats_steps : (self : NodeId → List ℕ) (n : NodeId) → pats_step u self n ≡ pats_step s self n
-  pats_steps self (NodeId.Pat q) = ap (λ (cs : List Call). q ∷ flat_map (λ r. self (NodeId.Pat r)) (flat_map pat_of_call cs)) (calls_same (NodeId.Pat q))
+  pats_steps self (NodeId.Pat q) =
+      ap (λ (cs : List Call). q ∷ flat_map (λ r. self (NodeId.Pat r)) (flat_map pat_of_call cs))
+      (calls_same (NodeId.Pat q))
   pats_steps self (NodeId.Expr q) = refl
   pats_steps self (NodeId.TypeRef q) = refl
 
@@ -184,15 +200,19 @@ module _ (ren : ScopeEntry → ScopeEntry) (s u : Nodes) (a : Alike ren s u) whe
     form_open_frames (form.PatternType ty pat) = refl
     form_open_frames (form.InTurn cs) = open_frames_of_calls_renamed cs
 
-  open_frames_within : (d : ℕ) (n : NodeId) → fold_down_within (open_frames_step u) [] d n ≡ R (fold_down_within (open_frames_step s) [] d n)
+  open_frames_within : (d : ℕ) (n : NodeId) → fold_down_within (open_frames_step u) [] d n
+      ≡ R (fold_down_within (open_frames_step s) [] d n)
   open_frames_within zero n = refl
   open_frames_within (suc d) n =
       ap (open_frames_of_form u (fold_down_within (open_frames_step u) [] d)) (form_same n)
-      ∙ form_open_frames (fold_down_within (open_frames_step u) [] d) (fold_down_within (open_frames_step s) [] d) (open_frames_within d) (form_of s n)
+      ∙ form_open_frames (fold_down_within (open_frames_step u) [] d) (fold_down_within (open_frames_step s) [] d)
+      (open_frames_within d) (form_of s n)
 
   open_frames_renamed : (n : NodeId) → open_frames u n ≡ R (open_frames s n)
   unfolding open_frames fold_down
-  open_frames_renamed n = ap (λ (r : ℕ). fold_down_within (open_frames_step u) [] (suc r) n) (rank_same n) ∙ open_frames_within (suc (rank s n)) n
+  open_frames_renamed n =
+      ap (λ (r : ℕ). fold_down_within (open_frames_step u) [] (suc r) n) (rank_same n)
+      ∙ open_frames_within (suc (rank s n)) n
 
   -- child_contexts
 
@@ -218,7 +238,8 @@ module _ (ren : ScopeEntry → ScopeEntry) (s u : Nodes) (a : Alike ren s u) whe
       let left = open_frames_of_call (open_frames s) c in
       let more : open_frames_of_call (open_frames u) c ++ R add ≡ R (left ++ add) =
       ap (λ (x : Chain). x ++ R add) (call_open_frames (open_frames u) (open_frames s) open_frames_renamed c) ∙ sym (R_two left add) in
-      two (call_child_context (R k) (R add) c) (in_turn u (R k) (open_frames_of_call (open_frames u) c ++ R add) cs) (call_child_context k add c) (in_turn s k (left ++ add) cs)
+      two (call_child_context (R k) (R add) c) (in_turn u (R k) (open_frames_of_call (open_frames u) c ++ R add) cs)
+      (call_child_context k add c) (in_turn s k (left ++ add) cs)
       (call_renamed k add c) (ap (λ (x : Chain). in_turn u (R k) x cs) more ∙ turn k (left ++ add) cs)
 
   item_renamed : (x : Item) → item_frames x ≡ R (item_frames x)
@@ -230,7 +251,9 @@ module _ (ren : ScopeEntry → ScopeEntry) (s u : Nodes) (a : Alike ren s u) whe
       let own = frame_renamed ScopeKind.None (pat ∷ []) in
       let inner = open_frames_renamed (NodeId.Pat pat) in
       let outer = open_frames_of_calls_renamed (open_frames u) (open_frames s) open_frames_renamed (opt e x ++ opt e y) in
-      (λ i. inner i ++ (own i ∷ outer i)) ∙ sym (R_two (open_frames s (NodeId.Pat pat)) (frame s (pat ∷ []) ∷ open_frames_of_calls (open_frames s) (opt e x ++ opt e y)))
+      (λ i. inner i ++ (own i ∷ outer i))
+      ∙ sym (R_two (open_frames s (NodeId.Pat pat))
+      (frame s (pat ∷ []) ∷ open_frames_of_calls (open_frames s) (opt e x ++ opt e y)))
   behind (Statement.Expr x semi) = open_frames_renamed (NodeId.Expr x)
   behind (Statement.Item item) = item_renamed item
 
@@ -240,7 +263,8 @@ module _ (ren : ScopeEntry → ScopeEntry) (s u : Nodes) (a : Alike ren s u) whe
   behind_constants (Statement.Item item) = item_renamed item
 
   -- a pattern after its frame
-  bound : (k outer outer_u : Chain) (ps : List ℕ) (cs : List Call) → outer_u ≡ R outer → in_turn u (R k) (frame u ps ∷ outer_u) cs ≡ S (in_turn s k (frame s ps ∷ outer) cs)
+  bound : (k outer outer_u : Chain) (ps : List ℕ) (cs : List Call) → outer_u ≡ R outer →
+      in_turn u (R k) (frame u ps ∷ outer_u) cs ≡ S (in_turn s k (frame s ps ∷ outer) cs)
   bound k outer outer_u ps cs h =
       let own = frame_renamed ScopeKind.None ps in
       (λ i. in_turn u (R k) (own i ∷ h i) cs) ∙ turn k (frame s ps ∷ outer) cs
@@ -251,20 +275,29 @@ module _ (ren : ScopeEntry → ScopeEntry) (s u : Nodes) (a : Alike ren s u) whe
       let all = opt t ty ++ opt e x ++ opt e y in
       let before = open_frames_of_calls (open_frames s) cs ++ add in
       let same : open_frames_of_calls (open_frames u) cs ++ R add ≡ R before =
-      ap (λ (c : Chain). c ++ R add) (open_frames_of_calls_renamed (open_frames u) (open_frames s) open_frames_renamed cs) ∙ sym (R_two (open_frames_of_calls (open_frames s) cs) add) in
-      two (in_turn u (R k) (R add) all) (in_turn u (R k) (frame u (pat ∷ []) ∷ (open_frames_of_calls (open_frames u) cs ++ R add)) (p pat)) (in_turn s k add all) (in_turn s k (frame s (pat ∷ []) ∷ before) (p pat))
+      ap (λ (c : Chain). c ++ R add)
+      (open_frames_of_calls_renamed (open_frames u) (open_frames s) open_frames_renamed cs)
+      ∙ sym (R_two (open_frames_of_calls (open_frames s) cs) add) in
+      two (in_turn u (R k) (R add) all)
+      (in_turn u (R k) (frame u (pat ∷ []) ∷ (open_frames_of_calls (open_frames u) cs ++ R add)) (p pat))
+      (in_turn s k add all) (in_turn s k (frame s (pat ∷ []) ∷ before) (p pat))
       (turn k add all) (bound k before (open_frames_of_calls (open_frames u) cs ++ R add) (pat ∷ []) (p pat) same)
   statement k add (Statement.Expr x semi) = turn k add (e x)
   statement k add (Statement.Item item) = refl
 
-  in_block : (k add : Chain) (xs : List Statement) (tail : Option ℕ) → block_child_contexts u (R k) (R add) xs tail ≡ S (block_child_contexts s k add xs tail)
+  in_block : (k add : Chain) (xs : List Statement) (tail : Option ℕ) → block_child_contexts u (R k) (R add) xs tail
+      ≡ S (block_child_contexts s k add xs tail)
   in_block k add [] tail = turn k add (opt e tail)
   in_block k add (x ∷ xs) tail =
-      let ck : const_frames_after x ++ R k ≡ R (const_frames_after x ++ k) = ap (λ (c : Chain). c ++ R k) (behind_constants x) ∙ sym (R_two (const_frames_after x) k) in
-      let ca : frames_after u x ++ R add ≡ R (frames_after s x ++ add) = ap (λ (c : Chain). c ++ R add) (behind x) ∙ sym (R_two (frames_after s x) add) in
-      two (statement_child_contexts u (R k) (R add) x) (block_child_contexts u (const_frames_after x ++ R k) (frames_after u x ++ R add) xs tail)
+      let ck : const_frames_after x ++ R k ≡ R (const_frames_after x ++ k) =
+      ap (λ (c : Chain). c ++ R k) (behind_constants x) ∙ sym (R_two (const_frames_after x) k) in
+      let ca : frames_after u x ++ R add ≡ R (frames_after s x ++ add) =
+      ap (λ (c : Chain). c ++ R add) (behind x) ∙ sym (R_two (frames_after s x) add) in
+      two (statement_child_contexts u (R k) (R add) x)
+      (block_child_contexts u (const_frames_after x ++ R k) (frames_after u x ++ R add) xs tail)
       (statement_child_contexts s k add x) (block_child_contexts s (const_frames_after x ++ k) (frames_after s x ++ add) xs tail)
-      (statement k add x) ((λ i. block_child_contexts u (ck i) (ca i) xs tail) ∙ in_block (const_frames_after x ++ k) (frames_after s x ++ add) xs tail)
+      (statement k add x) ((λ i. block_child_contexts u (ck i) (ca i) xs tail) ∙ in_block (const_frames_after x ++ k)
+      (frames_after s x ++ add) xs tail)
 
   in_arm : (add : Chain) (arm : MatchArm) → arm_child_contexts u (R add) arm ≡ S (arm_child_contexts s add arm)
   in_arm add arm = bound [] add (R add) (arm.pat ∷ []) (p arm.pat ++ opt e arm.guard ++ e arm.expr) refl
@@ -275,28 +308,38 @@ module _ (ren : ScopeEntry → ScopeEntry) (s u : Nodes) (a : Alike ren s u) whe
 
   form_contexts : (f : ScopingForm) → child_contexts_of_form u f ≡ S (child_contexts_of_form s f)
   form_contexts (form.If c y o) =
-      two (in_turn u [] (empty ∷ []) (e c ++ e y)) (in_turn u [] [] (opt e o)) (in_turn s [] (empty ∷ []) (e c ++ e y)) (in_turn s [] [] (opt e o))
+      two (in_turn u [] (empty ∷ []) (e c ++ e y)) (in_turn u [] [] (opt e o))
+      (in_turn s [] (empty ∷ []) (e c ++ e y)) (in_turn s [] [] (opt e o))
       (turn [] (empty ∷ []) (e c ++ e y)) (turn [] [] (opt e o))
   form_contexts (form.Let pat x) =
-      two (in_turn u [] [] (e x)) (in_turn u [] (frame u (pat ∷ []) ∷ open_frames u (NodeId.Expr x)) (p pat)) (in_turn s [] [] (e x)) (in_turn s [] (frame s (pat ∷ []) ∷ open_frames s (NodeId.Expr x)) (p pat))
-      (turn [] [] (e x)) (bound [] (open_frames s (NodeId.Expr x)) (open_frames u (NodeId.Expr x)) (pat ∷ []) (p pat) (open_frames_renamed (NodeId.Expr x)))
+      two (in_turn u [] [] (e x)) (in_turn u [] (frame u (pat ∷ []) ∷ open_frames u (NodeId.Expr x)) (p pat))
+      (in_turn s [] [] (e x)) (in_turn s [] (frame s (pat ∷ []) ∷ open_frames s (NodeId.Expr x)) (p pat))
+      (turn [] [] (e x)) (bound [] (open_frames s (NodeId.Expr x)) (open_frames u (NodeId.Expr x)) (pat ∷ []) (p pat)
+      (open_frames_renamed (NodeId.Expr x)))
   form_contexts (form.Block id label xs tail) =
-      ap (λ (k : Chain). block_child_contexts u k (own_frame id label ∷ []) xs tail) (of_block id) ∙ in_block (block_const_frames id) (own_frame id label ∷ []) xs tail
+      ap (λ (k : Chain). block_child_contexts u k (own_frame id label ∷ []) xs tail) (of_block id)
+      ∙ in_block (block_const_frames id) (own_frame id label ∷ []) xs tail
   form_contexts (form.Loop label x) = turn [] (of_kind (loop_kind label) ∷ []) (e x)
   form_contexts (form.Closure types ret args x) =
       let ts = flat_map (opt t) types ++ opt t ret in
       let cs = flat_map p args ++ e x in
-      two (in_turn u [] [] ts) (in_turn u [] (frame u args ∷ []) cs) (in_turn s [] [] ts) (in_turn s [] (frame s args ∷ []) cs) (turn [] [] ts) (bound [] [] [] args cs refl)
+      two (in_turn u [] [] ts) (in_turn u [] (frame u args ∷ []) cs) (in_turn s [] [] ts)
+      (in_turn s [] (frame s args ∷ []) cs) (turn [] [] ts) (bound [] [] [] args cs refl)
   form_contexts (form.Match x arms) =
-      two (in_turn u [] [] (e x)) (flat_map (arm_child_contexts u (open_frames u (NodeId.Expr x))) arms) (in_turn s [] [] (e x)) (flat_map (arm_child_contexts s (open_frames s (NodeId.Expr x))) arms)
+      two (in_turn u [] [] (e x)) (flat_map (arm_child_contexts u (open_frames u (NodeId.Expr x))) arms)
+      (in_turn s [] [] (e x)) (flat_map (arm_child_contexts s (open_frames s (NodeId.Expr x))) arms)
       (turn [] [] (e x))
       (ap (λ (c : Chain). flat_map (arm_child_contexts u c) arms) (open_frames_renamed (NodeId.Expr x))
-      ∙ flat_map_mapped (arm_child_contexts u (R (open_frames s (NodeId.Expr x)))) (arm_child_contexts s (open_frames s (NodeId.Expr x))) renamed_context (in_arm (open_frames s (NodeId.Expr x))) arms)
+      ∙ flat_map_mapped (arm_child_contexts u (R (open_frames s (NodeId.Expr x))))
+      (arm_child_contexts s (open_frames s (NodeId.Expr x))) renamed_context
+      (in_arm (open_frames s (NodeId.Expr x))) arms)
   form_contexts (form.Assignment target x) =
-      two (in_turn u [] (frame u (target ∷ []) ∷ []) (p target)) (in_turn u [] [] (e x)) (in_turn s [] (frame s (target ∷ []) ∷ []) (p target)) (in_turn s [] [] (e x))
+      two (in_turn u [] (frame u (target ∷ []) ∷ []) (p target)) (in_turn u [] [] (e x))
+      (in_turn s [] (frame s (target ∷ []) ∷ []) (p target)) (in_turn s [] [] (e x))
       (bound [] [] [] (target ∷ []) (p target) refl) (turn [] [] (e x))
   form_contexts (form.PatternType ty pat) =
-      two (in_turn u [] [] (t ty)) (in_turn u [] (frame u (pat ∷ []) ∷ []) (p pat)) (in_turn s [] [] (t ty)) (in_turn s [] (frame s (pat ∷ []) ∷ []) (p pat))
+      two (in_turn u [] [] (t ty)) (in_turn u [] (frame u (pat ∷ []) ∷ []) (p pat)) (in_turn s [] [] (t ty))
+      (in_turn s [] (frame s (pat ∷ []) ∷ []) (p pat))
       (turn [] [] (t ty)) (bound [] [] [] (pat ∷ []) (p pat) refl)
   form_contexts (form.InTurn cs) = turn [] [] cs
 
@@ -316,7 +359,8 @@ module _ (ren : ScopeEntry → ScopeEntry) (s u : Nodes) (a : Alike ren s u) whe
   abbrev in_context : NodeId → Chain → Chain → InContext
   in_context n h k = record { node = n; scope = h; const_scope = k }
 
-  child_renamed : (h k : Chain) (x : ChildContext) → child_in_context (R h) (R k) (renamed_context x) ≡ renamed_in_context (child_in_context h k x)
+  child_renamed : (h k : Chain) (x : ChildContext) → child_in_context (R h) (R k) (renamed_context x)
+      ≡ renamed_in_context (child_in_context h k x)
   child_renamed h k x =
       let ks : R x.const_frames ++ R k ≡ R (x.const_frames ++ k) = sym (R_two x.const_frames k) in
       let on : on_base x.base (R h) (R x.const_frames ++ R k) ≡ R (on_base x.base h (x.const_frames ++ k)) =
@@ -325,22 +369,27 @@ module _ (ren : ScopeEntry → ScopeEntry) (s u : Nodes) (a : Alike ren s u) whe
       ap (λ (c : Chain). R x.frames ++ c) on ∙ sym (R_two x.frames (on_base x.base h (x.const_frames ++ k))) in
       λ i. in_context x.child (here i) (ks i)
 
-  children_renamed : (h k : Chain) (xs : List ChildContext) → map (child_in_context (R h) (R k)) (S xs) ≡ map renamed_in_context (map (child_in_context h k) xs)
+  children_renamed : (h k : Chain) (xs : List ChildContext) → map (child_in_context (R h) (R k)) (S xs)
+      ≡ map renamed_in_context (map (child_in_context h k) xs)
   children_renamed h k [] = refl
   children_renamed h k (x ∷ xs) =
       let first = child_renamed h k x in
       let rest = children_renamed h k xs in
       λ i. first i ∷ rest i
 
-  children_in_context_renamed : (at : InContext) → children_in_context u (renamed_in_context at) ≡ map renamed_in_context (children_in_context s at)
+  children_in_context_renamed : (at : InContext) → children_in_context u (renamed_in_context at)
+      ≡ map renamed_in_context (children_in_context s at)
   children_in_context_renamed at =
-      ap (map (child_in_context (R at.scope) (R at.const_scope))) (child_contexts_renamed at.node) ∙ children_renamed at.scope at.const_scope (child_contexts s at.node)
+      ap (map (child_in_context (R at.scope) (R at.const_scope))) (child_contexts_renamed at.node)
+      ∙ children_renamed at.scope at.const_scope (child_contexts s at.node)
 
-  occurs_renamed : (entry_nodes : List InContext) (at : InContext) → Occurs s entry_nodes at → Occurs u (map renamed_in_context entry_nodes) (renamed_in_context at)
+  occurs_renamed : (entry_nodes : List InContext) (at : InContext) → Occurs s entry_nodes at →
+      Occurs u (map renamed_in_context entry_nodes) (renamed_in_context at)
   occurs_renamed entry_nodes at (entry_node m) = entry_node (mapped renamed_in_context entry_nodes at m)
   occurs_renamed entry_nodes at (child {parent = parent} st m) =
       child (occurs_renamed entry_nodes parent st)
-      (subst (λ (ps : List InContext). Contains ps (renamed_in_context at)) (sym (children_in_context_renamed parent)) (mapped renamed_in_context (children_in_context s parent) at m))
+      (subst (λ (ps : List InContext). Contains ps (renamed_in_context at)) (sym (children_in_context_renamed parent))
+      (mapped renamed_in_context (children_in_context s parent) at m))
 
   own_renamed : (f : ScopingForm) (h : Chain) → within_own f (R h) ≡ R (within_own f h)
   own_renamed (form.Block id label xs tail) h = refl
@@ -354,7 +403,8 @@ module _ (ren : ScopeEntry → ScopeEntry) (s u : Nodes) (a : Alike ren s u) whe
   own_renamed (form.InTurn cs) h = refl
 
   -- the chains are the same, with the entries renamed
-  pub chain_renamed : (entry_nodes : List InContext) (x : ℕ) (c : Chain) → HasChain s entry_nodes x c → HasChain u (map renamed_in_context entry_nodes) x (R c)
+  pub chain_renamed : (entry_nodes : List InContext) (x : ℕ) (c : Chain) → HasChain s entry_nodes x c →
+      HasChain u (map renamed_in_context entry_nodes) x (R c)
   chain_renamed entry_nodes x c has = record {
     at = renamed_in_context has.at;
     occurs = occurs_renamed entry_nodes has.at has.occurs;
@@ -375,7 +425,8 @@ module _ (ren : ScopeEntry → ScopeEntry) (s u : Nodes) (a : Alike ren s u) whe
       let rest = flat_map_mapped (binds u) (binds s) ren binds_renamed formals in
       ap (framed ScopeKind.None) ((λ i. own i ++ rest i) ∙ sym (map-append ren (all_of (entry_at s) o) (flat_map (binds s) formals)))
 
-  pub entry_nodes_renamed : (o : Option ℕ) (formals : List ℕ) (last : Option ℕ) → body_entry_nodes u o formals last ≡ map renamed_in_context (body_entry_nodes s o formals last)
+  pub entry_nodes_renamed : (o : Option ℕ) (formals : List ℕ) (last : Option ℕ) → body_entry_nodes u o formals last
+      ≡ map renamed_in_context (body_entry_nodes s o formals last)
   unfolding body_entry_nodes
   entry_nodes_renamed o formals last =
       let root = root_frame s o formals ∷ [] in
@@ -439,16 +490,20 @@ none_changed : (name : List ℕ) (id : ℕ) (o : Option Binding) → one_entry i
 none_changed name id None = refl
 none_changed name id (Some b) = refl
 
-changed_entry : (name : List ℕ) (xs : List Binding) (i j id : ℕ) → one_entry id (slice_get (change_at (renamed_binding name) xs i) j) ≡ map (renamed_where name (nat_eq j i)) (one_entry id (slice_get xs j))
+changed_entry : (name : List ℕ) (xs : List Binding) (i j id : ℕ) →
+    one_entry id (slice_get (change_at (renamed_binding name) xs i) j)
+    ≡ map (renamed_where name (nat_eq j i)) (one_entry id (slice_get xs j))
 changed_entry name [] i j id = refl
 changed_entry name (x ∷ xs) zero zero id = refl
 changed_entry name (x ∷ xs) zero (suc j) id =
-    none_changed name id (slice_get xs j) ∙ ap (λ (b : Bool). map (renamed_where name b) (one_entry id (slice_get xs j))) (sym (eqb-suc-zero j))
+    none_changed name id (slice_get xs j)
+    ∙ ap (λ (b : Bool). map (renamed_where name b) (one_entry id (slice_get xs j))) (sym (eqb-suc-zero j))
 changed_entry name (x ∷ xs) (suc i) zero id = ap (λ (b : Bool). map (renamed_where name b) (one_entry id (Some x))) (sym (eqb-zero-suc i))
 changed_entry name (x ∷ xs) (suc i) (suc j) id =
     changed_entry name xs i j id ∙ ap (λ (b : Bool). map (renamed_where name b) (one_entry id (slice_get xs j))) (sym (eqb-suc-suc j i))
 
-as_renamed : (name : List ℕ) (binding id : ℕ) (o : Option Binding) → map (renamed_where name (nat_eq id binding)) (one_entry id o) ≡ map (renamed_entry binding name) (one_entry id o)
+as_renamed : (name : List ℕ) (binding id : ℕ) (o : Option Binding) →
+    map (renamed_where name (nat_eq id binding)) (one_entry id o) ≡ map (renamed_entry binding name) (one_entry id o)
 as_renamed name binding id None = refl
 as_renamed name binding id (Some b) = refl
 
@@ -465,7 +520,8 @@ module _ (name : List ℕ) (binding : ℕ) (s : Nodes) where
     sizes = ap (with_bindings (sizes_of s)) (changed_length (renamed_binding name) s.bindings binding);
   }
 
-  alike_path : (u : Nodes) (path : ExprOrPatId) → Alike (renamed_entry binding name) s u → Alike (renamed_entry binding name) s (rename_path name u path)
+  alike_path : (u : Nodes) (path : ExprOrPatId) → Alike (renamed_entry binding name) s u →
+      Alike (renamed_entry binding name) s (rename_path name u path)
   alike_path u (ExprId id) a = record {
     expr_forms = changed_map expr_form (renamed_expr name) (expr_form_kept name) u.exprs id ∙ a.expr_forms;
     expr_calls = changed_map expr_calls (renamed_expr name) (expr_calls_kept name) u.exprs id ∙ a.expr_calls;
@@ -479,7 +535,8 @@ module _ (name : List ℕ) (binding : ℕ) (s : Nodes) where
   alike_path u (PatId id) a = record {
     expr_forms = a.expr_forms;
     expr_calls = a.expr_calls;
-    pat_forms = changed_map pat_form (renamed_pat name) (λ (x : Pat). ap (λ (cs : List Call). form.InTurn cs) (pat_calls_kept name x)) u.pats id ∙ a.pat_forms;
+    pat_forms = changed_map pat_form (renamed_pat name)
+        (λ (x : Pat). ap (λ (cs : List Call). form.InTurn cs) (pat_calls_kept name x)) u.pats id ∙ a.pat_forms;
     pat_calls = changed_map pat_calls (renamed_pat name) (pat_calls_kept name) u.pats id ∙ a.pat_calls;
     pat_bindings = changed_map pat_bindings (renamed_pat name) (pat_bindings_kept name) u.pats id ∙ a.pat_bindings;
     types = a.types;
@@ -487,7 +544,8 @@ module _ (name : List ℕ) (binding : ℕ) (s : Nodes) where
     sizes = ap (with_pats (sizes_of u)) (changed_length (renamed_pat name) u.pats id) ∙ a.sizes;
   }
 
-  alike_paths : (u : Nodes) (paths : List ExprOrPatId) → Alike (renamed_entry binding name) s u → Alike (renamed_entry binding name) s (fold (rename_path name) u paths)
+  alike_paths : (u : Nodes) (paths : List ExprOrPatId) → Alike (renamed_entry binding name) s u →
+      Alike (renamed_entry binding name) s (fold (rename_path name) u paths)
   alike_paths u [] a = a
   alike_paths u (path ∷ paths) a = alike_paths (rename_path name u path) paths (alike_path u path a)
 
@@ -495,9 +553,12 @@ module _ (name : List ℕ) (binding : ℕ) (s : Nodes) where
   alike usages = alike_paths (rename_binding name s binding) (map (λ (x : Usage). x.path) usages) alike_first
 
 -- the chains of the renamed body are those of the body, with the entries renamed
-pub chains_renamed : (b : BodyContents) (scopes sight : Scopes) → ChainsAreFrames b.store.nodes (entry_nodes_of_body b) scopes → (binding : ℕ) (name : List ℕ) (x scope : ℕ) →
+pub chains_renamed : (b : BodyContents) (scopes sight : Scopes) →
+    ChainsAreFrames b.store.nodes (entry_nodes_of_body b) scopes → (binding : ℕ) (name : List ℕ) (x scope : ℕ) →
     finmap.get scopes.scope_by_expr x ≡ Some scope →
-    HasChain (renamed_body b sight binding name).store.nodes (entry_nodes_of_body (renamed_body b sight binding name)) x (renamed_chain binding name (chain scopes.scopes (Some scope)))
+    HasChain (renamed_body b sight binding name).store.nodes
+    (entry_nodes_of_body (renamed_body b sight binding name)) x
+    (renamed_chain binding name (chain scopes.scopes (Some scope)))
 chains_renamed b scopes sight chains binding name x scope is =
     let s = b.store.nodes in
     let usages = usages_of binding (usages_of_body b sight) in
@@ -505,5 +566,6 @@ chains_renamed b scopes sight chains binding name x scope is =
     let a = alike name binding s usages in
     let own = option_map (λ (q : Param ℕ). q.formal) b.self_param in
     let same = entry_nodes_renamed (renamed_entry binding name) s u a own (formals_of b.params) (last_root b.store) in
-    subst (λ (entry_nodes : List InContext). HasChain u entry_nodes x (renamed_chain binding name (chain scopes.scopes (Some scope)))) (sym same)
+    subst (λ (entry_nodes : List InContext). HasChain u entry_nodes x
+    (renamed_chain binding name (chain scopes.scopes (Some scope)))) (sym same)
     (chain_renamed (renamed_entry binding name) s u a (entry_nodes_of_body b) x (chain scopes.scopes (Some scope)) (chains x scope is))

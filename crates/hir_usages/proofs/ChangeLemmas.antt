@@ -38,7 +38,8 @@ stays_pat name (Pat.Path path) h = absurd (h path refl)
 stays_pat name _ h = refl
 
 -- the uses, one after the other, are their paths, one after the other
-pub uses_are_paths : (name : List ℕ) (s : Nodes) (us : List Usage) → fold (rename_use name) s us ≡ fold (rename_path name) s (map (λ (v : Usage). v.path) us)
+pub uses_are_paths : (name : List ℕ) (s : Nodes) (us : List Usage) → fold (rename_use name) s us
+    ≡ fold (rename_path name) s (map (λ (v : Usage). v.path) us)
 uses_are_paths name s [] = refl
 uses_are_paths name s (v ∷ us) = uses_are_paths name (rename_path name s v.path) us
 

@@ -35,14 +35,18 @@ module _ (b : BodyContents) (root : ℕ) (last : Some root ≡ last_root b.store
   are_entry_nodes : nodes_at (formals_of b.params) root ≡ entry_nodes b
   are_entry_nodes = ap (λ (o : Option ℕ). map NodeId.Pat (formals_of b.params) ++ option_to_list (option_map NodeId.Expr o)) last
 
-  pub first_in_range : ((n : NodeId) → Contains (entry_nodes b) n → Has b.store.nodes n) → AreInRange b.store.nodes (first_tasks (formals_of b.params) root)
-  first_in_range h = in_range b.store.nodes (formals_of b.params) root (λ n m. h n (subst (λ (ns : List NodeId). Contains ns n) are_entry_nodes m))
+  pub first_in_range : ((n : NodeId) → Contains (entry_nodes b) n → Has b.store.nodes n) →
+      AreInRange b.store.nodes (first_tasks (formals_of b.params) root)
+  first_in_range h =
+      in_range b.store.nodes (formals_of b.params) root
+      (λ n m. h n (subst (λ (ns : List NodeId). Contains ns n) are_entry_nodes m))
 
   pub first_visits : visits_of b.store.nodes (first_tasks (formals_of b.params) root) ≡ visits b
   first_visits = visited b.store.nodes (formals_of b.params) root ∙ ap (flat_map (λ n. visits_under b.store.nodes n None)) are_entry_nodes
 
 -- all that the walk adds, from where it begins
-module _ (b : BodyContents) (w : Walk) (same : w.store.now ≡ b.store) (before after : FoundLists) (tasks : List Task) (begins : visits_of b.store.nodes tasks ≡ visits b) (ran : after ≡ with_tasks w before tasks) where
+module _ (b : BodyContents) (w : Walk) (same : w.store.now ≡ b.store) (before after : FoundLists) (tasks : List Task)
+    (begins : visits_of b.store.nodes tasks ≡ visits b) (ran : after ≡ with_tasks w before tasks) where
   abbrev at_end : FoundLists
   at_end = with_visits w before (visits b)
 

@@ -1,6 +1,5 @@
 pub mod VisitLemmas
 pub mod WalkLemmas
-mod DistinctLemmas
 pub mod GroupLemmas
 pub mod FindLemmas
 pub mod RenameLemmas

@@ -1,5 +1,6 @@
 -- What a name resolves to before and after a rename, scope by scope.
-use Rattle.std.proofs.Common.{◌≡◌, ℕ, Bool, true, false, cond, List, [], ◌∷◌, ◌++◌, Option, Some, None, refl, ap, sym, ◌∙◌, map, ◌+◌, zero, suc, drop, add-one}
+use Rattle.std.proofs.Common.{◌≡◌, ℕ, Bool, true, false, cond, List, [], ◌∷◌, ◌++◌, Option, Some, None, refl, ap, sym, ◌∙◌, map, ◌+◌}
+use Rattle.std.proofs.Common.{zero, suc, drop, add-one}
 use Rattle.std.proofs.lemmas.{List.append-nil, List.Concat.flat_map-append}
 use Rattle.std.specs.{List.slice_get, List.flat_map, List.list_any, Option.option_or, Prelude.◌||◌}
 use Rattle.std.specs.Prelude.{option_map}
@@ -25,7 +26,8 @@ or_not_found None p e = refl
 or_not_found (Some y) p e = absurd cc
 
 -- what a function tells of the scope that exists
-pub of_some_scope : {X : Type 0} (f : Scope → X) (o : Option Scope) (x : X) → option_map f o ≡ Some x → (s : Scope) × (o ≡ Some s) × (f s ≡ x)
+pub of_some_scope : {X : Type 0} (f : Scope → X) (o : Option Scope) (x : X) → option_map f o ≡ Some x →
+    (s : Scope) × (o ≡ Some s) × (f s ≡ x)
 of_some_scope f None x e = absurd cc
 of_some_scope f (Some s) x e = (s, refl, cc)
 
@@ -38,29 +40,38 @@ ways (Some s) = suc s
 abbrev pub GoesOutward : List Scope → Type 0
 GoesOutward scopes = (s : ℕ) (x : Scope) → slice_get scopes s ≡ Some x → path scopes (Some s) ≡ s ∷ path scopes x.parent
 
-path_of_parent : (scopes : List Scope) (s : ℕ) (parent : Option ℕ) → GoesOutward scopes → option_map (λ (x : Scope). x.parent) (slice_get scopes s) ≡ Some parent → path scopes (Some s) ≡ s ∷ path scopes parent
+path_of_parent : (scopes : List Scope) (s : ℕ) (parent : Option ℕ) → GoesOutward scopes →
+    option_map (λ (x : Scope). x.parent) (slice_get scopes s) ≡ Some parent → path scopes (Some s)
+    ≡ s ∷ path scopes parent
 path_of_parent scopes s parent outward e =
     let x = of_some_scope (λ (x : Scope). x.parent) (slice_get scopes s) parent e in
     outward s x.0 x.1 ∙ ap (λ (p : Option ℕ). s ∷ path scopes p) x.2
 
 -- what a name resolves to along a chain in two parts
 module _ (n : List ℕ) (h : SyntaxContext) where
-  or_later : (t : Bool) (x : ScopeEntry) (r s p : Option ScopeEntry) → r ≡ option_or s p → cond t (Some x) r ≡ option_or (cond t (Some x) s) p
+  or_later : (t : Bool) (x : ScopeEntry) (r s p : Option ScopeEntry) → r ≡ option_or s p → cond t (Some x) r
+      ≡ option_or (cond t (Some x) s) p
   or_later true x r s p e = refl
   or_later false x r s p e = e
 
   first_append : (xs ys : List ScopeEntry) → find_entry n h (xs ++ ys) ≡ option_or (find_entry n h xs) (find_entry n h ys)
   first_append [] ys = refl
-  first_append (x ∷ xs) ys = or_later (matches n h x) x (find_entry n h (xs ++ ys)) (find_entry n h xs) (find_entry n h ys) (first_append xs ys)
+  first_append (x ∷ xs) ys =
+      or_later (matches n h x) x (find_entry n h (xs ++ ys)) (find_entry n h xs) (find_entry n h ys)
+      (first_append xs ys)
 
   resolve_append : (xs ys : Chain) → resolve (xs ++ ys) n h ≡ option_or (resolve xs n h) (resolve ys n h)
-  resolve_append xs ys = ap (find_entry n h) (flat_map-append (λ (f : Frame). f.entries) xs ys) ∙ first_append (entries_of xs) (entries_of ys)
+  resolve_append xs ys =
+      ap (find_entry n h) (flat_map-append (λ (f : Frame). f.entries) xs ys) ∙ first_append (entries_of xs)
+      (entries_of ys)
 
 -- the chain of a scope is its frame on the chain of its parent
-pub chain_step : (scopes : List Scope) (s : ℕ) (parent : Option ℕ) (x : Scope) → GoesOutward scopes → option_map (λ (y : Scope). y.parent) (slice_get scopes s) ≡ Some parent → slice_get scopes s ≡ Some x →
+pub chain_step : (scopes : List Scope) (s : ℕ) (parent : Option ℕ) (x : Scope) → GoesOutward scopes →
+    option_map (λ (y : Scope). y.parent) (slice_get scopes s) ≡ Some parent → slice_get scopes s ≡ Some x →
     chain scopes (Some s) ≡ frame_of x ∷ chain scopes parent
 chain_step scopes s parent x outward p is =
-    let along : chain scopes (Some s) ≡ frame_at scopes s ++ chain scopes parent = ap (λ (ids : List ℕ). flat_map (frame_at scopes) ids) (path_of_parent scopes s parent outward p) in
+    let along : chain scopes (Some s) ≡ frame_at scopes s ++ chain scopes parent =
+    ap (λ (ids : List ℕ). flat_map (frame_at scopes) ids) (path_of_parent scopes s parent outward p) in
     let first : frame_at scopes s ≡ frame_of x ∷ [] = ap (all_of (λ (y : Scope). frame_of y ∷ [])) is in
     along ∙ ap (λ (fs : Chain). fs ++ chain scopes parent) first
 
@@ -71,7 +82,8 @@ module _ (scopes : List Scope) (name : List ℕ) (h : SyntaxContext) where
   found_in s = binding_in (resolve (chain scopes s) name h)
 
   module _ (s : ℕ) (parent : Option ℕ) (es : List ScopeEntry) (outward : GoesOutward scopes)
-      (p : option_map (λ (x : Scope). x.parent) (slice_get scopes s) ≡ Some parent) (e : option_map (λ (x : Scope). x.entries) (slice_get scopes s) ≡ Some es) where
+      (p : option_map (λ (x : Scope). x.parent) (slice_get scopes s) ≡ Some parent)
+      (e : option_map (λ (x : Scope). x.entries) (slice_get scopes s) ≡ Some es) where
     abbrev first : Option ScopeEntry
     first = find_entry name h es
 
@@ -81,7 +93,8 @@ module _ (scopes : List Scope) (name : List ℕ) (h : SyntaxContext) where
         let x = of_some_scope (λ (y : Scope). y.entries) (slice_get scopes s) es e in
         let outer : Chain = chain scopes parent in
         let f : Frame = frame_of x.0 in
-        let entries : resolve (f ∷ []) name h ≡ first = ap (find_entry name h) (append-nil f.entries) ∙ ap (λ (xs : List ScopeEntry). find_entry name h xs) x.2 in
+        let entries : resolve (f ∷ []) name h ≡ first =
+        ap (find_entry name h) (append-nil f.entries) ∙ ap (λ (xs : List ScopeEntry). find_entry name h xs) x.2 in
         ap (λ (c : Chain). resolve c name h) (chain_step scopes s parent x.0 outward p x.1)
         ∙ (resolve_append name h (f ∷ []) outer ∙ ap (λ (o : Option ScopeEntry). option_or o (resolve outer name h)) entries)
 
@@ -98,19 +111,22 @@ module _ (scopes : List Scope) (b : ℕ) (new name : List ℕ) (h : SyntaxContex
   found_from s = binding_in (resolve (renamed_chain b new (chain scopes s)) name h)
 
   module _ (s : ℕ) (parent : Option ℕ) (es : List ScopeEntry) (outward : GoesOutward scopes)
-      (p : option_map (λ (x : Scope). x.parent) (slice_get scopes s) ≡ Some parent) (e : option_map (λ (x : Scope). x.entries) (slice_get scopes s) ≡ Some es) where
+      (p : option_map (λ (x : Scope). x.parent) (slice_get scopes s) ≡ Some parent)
+      (e : option_map (λ (x : Scope). x.entries) (slice_get scopes s) ≡ Some es) where
     abbrev here : Option ScopeEntry
     here = find_entry name h (map (renamed_entry b new) es)
 
     -- the entries of the scope come first
-    in_parts : resolve (renamed_chain b new (chain scopes (Some s))) name h ≡ option_or here (resolve (renamed_chain b new (chain scopes parent)) name h)
+    in_parts : resolve (renamed_chain b new (chain scopes (Some s))) name h
+        ≡ option_or here (resolve (renamed_chain b new (chain scopes parent)) name h)
     in_parts =
         let x = of_some_scope (λ (y : Scope). y.entries) (slice_get scopes s) es e in
         let outer : Chain = renamed_chain b new (chain scopes parent) in
         let f : Frame = renamed_frame b new (frame_of x.0) in
         let whole = chain_step scopes s parent x.0 outward p x.1 in
         let entries : resolve (f ∷ []) name h ≡ here =
-        ap (find_entry name h) (append-nil f.entries) ∙ ap (λ (xs : List ScopeEntry). find_entry name h (map (renamed_entry b new) xs)) x.2 in
+        ap (find_entry name h) (append-nil f.entries)
+        ∙ ap (λ (xs : List ScopeEntry). find_entry name h (map (renamed_entry b new) xs)) x.2 in
         ap (λ (c : Chain). resolve (renamed_chain b new c) name h) whole
         ∙ (resolve_append name h (f ∷ []) outer ∙ ap (λ (o : Option ScopeEntry). option_or o (resolve outer name h)) entries)
 
@@ -127,23 +143,30 @@ split_drop [] i x is = absurd cc
 split_drop (y ∷ ys) zero x is = let same : y ≡ x = cc in ap (λ (z : Scope). z ∷ ys) same
 split_drop (y ∷ ys) (suc i) x is = split_drop ys i x is
 
-module _ (scopes : List Scope) (i : ℕ) (es : List ScopeEntry) (e : option_map (λ (x : Scope). x.entries) (slice_get scopes i) ≡ Some es) where
-  pub any_step : (b : ℕ) → list_any (λ (s : Scope). has_entry b s.entries) (drop i scopes) ≡ (has_entry b es || list_any (λ (s : Scope). has_entry b s.entries) (drop (i + 1) scopes))
+module _ (scopes : List Scope) (i : ℕ) (es : List ScopeEntry)
+    (e : option_map (λ (x : Scope). x.entries) (slice_get scopes i) ≡ Some es) where
+  pub any_step : (b : ℕ) → list_any (λ (s : Scope). has_entry b s.entries) (drop i scopes)
+      ≡ (has_entry b es || list_any (λ (s : Scope). has_entry b s.entries) (drop (i + 1) scopes))
   any_step b =
       let x = of_some_scope (λ (y : Scope). y.entries) (slice_get scopes i) es e in
       ap (list_any (λ (s : Scope). has_entry b s.entries)) (split_drop scopes i x.0 x.1)
       ∙ ((λ j. has_entry b (x.2 j) || list_any (λ (s : Scope). has_entry b s.entries) (drop (suc i) scopes))
       ∙ ap (λ (n : ℕ). has_entry b es || list_any (λ (s : Scope). has_entry b s.entries) (drop n scopes)) (sym (add-one i)))
 
-  pub beside_step : (b : ℕ) (n : List ℕ) (h : SyntaxContext) → first_some (λ (s : Scope). other_among b n h s.entries) (drop i scopes) ≡ option_or (other_among b n h es) (first_some (λ (s : Scope). other_among b n h s.entries) (drop (i + 1) scopes))
+  pub beside_step : (b : ℕ) (n : List ℕ) (h : SyntaxContext) →
+      first_some (λ (s : Scope). other_among b n h s.entries) (drop i scopes)
+      ≡ option_or (other_among b n h es)
+      (first_some (λ (s : Scope). other_among b n h s.entries) (drop (i + 1) scopes))
   beside_step b n h =
       let x = of_some_scope (λ (y : Scope). y.entries) (slice_get scopes i) es e in
       ap (first_some (λ (s : Scope). other_among b n h s.entries)) (split_drop scopes i x.0 x.1)
       ∙ ((λ j. option_or (other_among b n h (x.2 j)) (first_some (λ (s : Scope). other_among b n h s.entries) (drop (suc i) scopes)))
-      ∙ ap (λ (k : ℕ). option_or (other_among b n h es) (first_some (λ (s : Scope). other_among b n h s.entries) (drop k scopes))) (sym (add-one i)))
+      ∙ ap (λ (k : ℕ). option_or (other_among b n h es)
+      (first_some (λ (s : Scope). other_among b n h s.entries) (drop k scopes))) (sym (add-one i)))
 
   -- a scope has an entry of the binding, or the later ones decide
-  module _ (b : ℕ) (before : list_any (λ (s : Scope). has_entry b s.entries) (drop i scopes) ≡ list_any (λ (s : Scope). has_entry b s.entries) scopes) where
+  module _ (b : ℕ) (before : list_any (λ (s : Scope). has_entry b s.entries) (drop i scopes)
+      ≡ list_any (λ (s : Scope). has_entry b s.entries) scopes) where
     abbrev pub in_later : Bool
     in_later = list_any (λ (s : Scope). has_entry b s.entries) (drop (i + 1) scopes)
 
@@ -158,9 +181,11 @@ module _ (scopes : List Scope) (i : ℕ) (es : List ScopeEntry) (e : option_map 
 
   -- a scope has another binding beside the binding, or the later ones decide
   module _ (b : ℕ) (n : List ℕ) (h : SyntaxContext)
-      (before : first_some (λ (s : Scope). other_among b n h s.entries) (drop i scopes) ≡ first_some (λ (s : Scope). other_among b n h s.entries) scopes) where
+      (before : first_some (λ (s : Scope). other_among b n h s.entries) (drop i scopes)
+      ≡ first_some (λ (s : Scope). other_among b n h s.entries) scopes) where
     abbrev pub other_later : Option ℕ
     other_later = first_some (λ (s : Scope). other_among b n h s.entries) (drop (i + 1) scopes)
 
-    pub beside_as : (o : Option ℕ) → other_among b n h es ≡ o → option_or o other_later ≡ first_some (λ (s : Scope). other_among b n h s.entries) scopes
+    pub beside_as : (o : Option ℕ) → other_among b n h es ≡ o → option_or o other_later
+        ≡ first_some (λ (s : Scope). other_among b n h s.entries) scopes
     beside_as o is = ap (λ (p : Option ℕ). option_or p other_later) (sym is) ∙ (sym (beside_step b n h) ∙ before)

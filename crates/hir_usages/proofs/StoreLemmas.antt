@@ -1,5 +1,6 @@
 -- The renamed nodes are those of a store, and of a body: where the nodes have no fault, neither have the renamed ones.
-use Rattle.std.proofs.Common.{◌≡◌, ◌<◌, ℕ, zero, suc, List, [], ◌∷◌, Option, Some, None, map, refl, sym, ap, ◌∙◌, subst, length, fold, arith}
+use Rattle.std.proofs.Common.{◌≡◌, ◌<◌, ℕ, zero, suc, List, [], ◌∷◌, Option, Some, None, map, refl, sym, ap, ◌∙◌, subst, length, fold}
+use Rattle.std.proofs.Common.{arith}
 use Rattle.std.proofs.lemmas.List.{length-map}
 use Rattle.std.specs.Prelude.{slice_index_or, IfSome}
 use Rattle.hir_path.specs.declared.ids.ExprOrPatId.{ExprOrPatId}
@@ -9,15 +10,18 @@ use Rattle.hir_node.specs.declared.{expr.Expr.Expr, node_id.NodeId.NodeId, pat.P
 use Rattle.hir_forest.specs.declared.roots.{Ends.Ends, Root.Root}
 use Rattle.hir_forest.specs.{Faults.forest_fault, Parents.HasParents}
 use Rattle.hir_validate.specs.declared.{sizes.Sizes.Sizes}
-use Rattle.hir_validate.specs.{declared.node_arenas.Nodes.Nodes, Nodes.sizes_of, Nodes.graph, TestedParts.TestedParts, TestedParts.tested_expr, TestedParts.tested_pat, TestedParts.tested_type}
+use Rattle.hir_validate.specs.{declared.node_arenas.Nodes.Nodes, Nodes.sizes_of, Nodes.graph, TestedParts.TestedParts}
+use Rattle.hir_validate.specs.{TestedParts.tested_expr, TestedParts.tested_pat, TestedParts.tested_type}
 use Rattle.hir_validate.specs.Faults.{ends_of, node_fault, nothing_tested, first_of, first_bad_node, graph_fault, rooted_fault}
-use Rattle.hir_store_core.specs.{Contents.Contents, Contents.IsStore, Contents.contents_fault, Contents.contents_of_parts, PatLinks.HasPatLinks, PatLinks.AreLinked, Under.LiesUnderOther}
+use Rattle.hir_store_core.specs.{Contents.Contents, Contents.IsStore, Contents.contents_fault, Contents.contents_of_parts}
+use Rattle.hir_store_core.specs.{PatLinks.HasPatLinks, PatLinks.AreLinked, Under.LiesUnderOther}
 use Rattle.hir_store_core.specs.declared.kept_parts.KeptParts.{KeptParts}
 use Rattle.hir_body.specs.declared.formals.Param.{Param}
 use Rattle.hir_body.specs.Bodies.{BodyContents, body_of, body_fault, fault_at_root, last_root, apart_fault, AreBelow}
 use Rattle.hir_scope.specs.Scopes.{Scopes}
 use Rattle.hir_usages.specs.Renames.{renamed_entry}
-use Rattle.hir_usages.specs.Renamed.{change_at, renamed_expr, renamed_pat, rename_path, rename_binding, renamed_nodes, renamed_body, with_nodes}
+use Rattle.hir_usages.specs.Renamed.{change_at, renamed_expr, renamed_pat, rename_path, rename_binding, renamed_nodes, renamed_body}
+use Rattle.hir_usages.specs.Renamed.{with_nodes}
 use Rattle.hir_usages.specs.Usages.{usages_of, usages_of_body}
 use Rattle.hir_usages.specs.declared.usage.Usage.{Usage}
 use Rattle.hir_usages.proofs.AlikeLemmas.{Alike, alike, graph_same, changed_length, children_at_same}
@@ -61,14 +65,16 @@ module _ (z : Sizes) (ts : List TypeRef) (n : List ℕ) where
 
   path_kept : (s : Nodes) (path : ExprOrPatId) → Sound s → Sound (rename_path n s path)
   path_kept s (ExprId j) h = (
-    λ i l. changed_one tested_expr (renamed_expr n) nothing_tested (λ (x : TestedParts). node_fault z ts (NodeId.Expr i) x None) (λ x. expr_kept (NodeId.Expr i) x) s.exprs j i
+    λ i l. changed_one tested_expr (renamed_expr n) nothing_tested
+        (λ (x : TestedParts). node_fault z ts (NodeId.Expr i) x None) (λ x. expr_kept (NodeId.Expr i) x) s.exprs j i
         (h.0 i (subst (λ (k : ℕ). i < k) (same_length tested_expr (renamed_expr n) s.exprs j) l)),
     h.1,
   )
   path_kept s (PatId j) h = (
     h.0,
     (
-      λ i l. changed_one tested_pat (renamed_pat n) nothing_tested (λ (x : TestedParts). node_fault z ts (NodeId.Pat i) x None) (λ x. pat_kept (NodeId.Pat i) x) s.pats j i
+      λ i l. changed_one tested_pat (renamed_pat n) nothing_tested
+          (λ (x : TestedParts). node_fault z ts (NodeId.Pat i) x None) (λ x. pat_kept (NodeId.Pat i) x) s.pats j i
           (h.1.0 i (subst (λ (k : ℕ). i < k) (same_length tested_pat (renamed_pat n) s.pats j) l)),
       h.1.1,
     ),
@@ -100,19 +106,22 @@ module _ (x : ℕ) (n : List ℕ) (us : List Usage) (s : Nodes) where
       let sizes : z ≡ sizes_of u = sym a.sizes in
       subst (λ (y : Sizes). Sound y u.types n u) sizes (subst (λ (ts : List TypeRef). Sound z ts n u) types all)
 
-  graph_kept : (roots : List Root) → graph_fault (record { nodes = s; roots = roots }) None → graph_fault (record { nodes = u; roots = roots }) None
+  graph_kept : (roots : List Root) → graph_fault (record { nodes = s; roots = roots }) None →
+      graph_fault (record { nodes = u; roots = roots }) None
   unfolding graph_fault
   graph_kept roots h =
       let ends : ends_of s ≡ ends_of u = ap ends_in (sym a.sizes) in
       let edges : graph s ≡ graph u = sym (graph_same (renamed_entry x n) s u a) in
-      subst (λ (e : Ends). forest_fault (graph u) e roots None) ends (subst (λ (g : List (List ℕ)). forest_fault g (ends_of s) roots None) edges h)
+      subst (λ (e : Ends). forest_fault (graph u) e roots None) ends
+      (subst (λ (g : List (List ℕ)). forest_fault g (ends_of s) roots None) edges h)
 
   links_kept : (kept : KeptParts) → HasPatLinks s.pats kept.links → HasPatLinks u.pats kept.links
   links_kept kept h =
       let as_many : length s.pats ≡ length u.pats = ap (λ (z : Sizes). z.pats) (sym a.sizes) in
       record {
         each = h.each ∙ as_many;
-        children = λ m l. subst (AreLinked kept.links m) (sym (children_at_same (renamed_entry x n) s u a m)) (h.children m (subst (λ (k : ℕ). m < k) (sym as_many) l));
+        children = λ m l. subst (AreLinked kept.links m) (sym (children_at_same (renamed_entry x n) s u a m))
+            (h.children m (subst (λ (k : ℕ). m < k) (sym as_many) l));
       }
 
   pub store_kept : (c : Contents) → c.nodes ≡ s → (kept : KeptParts) → IsStore c kept → IsStore (with_nodes c u) kept
@@ -122,16 +131,20 @@ module _ (x : ℕ) (n : List ℕ) (us : List Usage) (s : Nodes) where
       nodes_kept (subst (λ (y : Nodes). first_bad_node y None) is h.sound.0),
       graph_kept c.roots (subst (λ (y : Nodes). graph_fault (record { nodes = y; roots = c.roots }) None) is h.sound.1),
     );
-    parents = subst (λ (g : List (List ℕ)). HasParents g kept.parents.parents) (ap graph is ∙ sym (graph_same (renamed_entry x n) s u a)) h.parents;
+    parents = subst (λ (g : List (List ℕ)). HasParents g kept.parents.parents)
+        (ap graph is ∙ sym (graph_same (renamed_entry x n) s u a)) h.parents;
     links = links_kept kept (subst (λ (y : Nodes). HasPatLinks y.pats kept.links) is h.links);
   }
 
 -- the nodes of a store in which a binding and its uses are renamed, with what else it has, are a store's
-pub renamed_is_store : (n : List ℕ) (x : ℕ) (us : List Usage) (s later : Nodes) (roots : List Root) (side_tables : SideTables) (kept : KeptParts) →
-    IsStore (contents_of_parts s roots side_tables) kept → later ≡ fold (rename_use n) (rename_binding n s x) us → IsStore (contents_of_parts later roots side_tables) kept
+pub renamed_is_store : (n : List ℕ) (x : ℕ) (us : List Usage) (s later : Nodes) (roots : List Root)
+    (side_tables : SideTables) (kept : KeptParts) →
+    IsStore (contents_of_parts s roots side_tables) kept → later ≡ fold (rename_use n) (rename_binding n s x) us →
+    IsStore (contents_of_parts later roots side_tables) kept
 renamed_is_store n x us s later roots side_tables kept h is =
     let same : renamed_nodes n x us s ≡ later = sym (uses_are_paths n (rename_binding n s x) us) ∙ sym is in
-    subst (λ (u : Nodes). IsStore (contents_of_parts u roots side_tables) kept) same (store_kept x n us s (contents_of_parts s roots side_tables) refl kept h)
+    subst (λ (u : Nodes). IsStore (contents_of_parts u roots side_tables) kept) same
+    (store_kept x n us s (contents_of_parts s roots side_tables) refl kept h)
 
 -- 3. The body
 
@@ -150,7 +163,8 @@ module _ (b : BodyContents) (x : ℕ) (n : List ℕ) (scopes : Scopes) where
   at_root None h = absurd cc
   at_root (Some root) h =
       let bindings : length b.store.nodes.bindings ≡ length renamed.store.nodes.bindings = sym (as_many b x n scopes) in
-      let pats : length b.store.nodes.pats ≡ length renamed.store.nodes.pats = ap (λ (z : Sizes). z.pats) (sym (alike n x b.store.nodes (usages_of x (usages_of_body b scopes))).sizes) in (
+      let pats : length b.store.nodes.pats ≡ length renamed.store.nodes.pats =
+      ap (λ (z : Sizes). z.pats) (sym (alike n x b.store.nodes (usages_of x (usages_of_body b scopes))).sizes) in (
         subst (λ (k : ℕ). IfSome b.self_param (AreBelow k)) bindings h.0,
         (λ i l. (omega (arith, (h.1.0 i l).0, pats), omega (arith, (h.1.0 i l).1, pats)), apart_kept root h.1.1),
       )
@@ -166,8 +180,10 @@ module _ (b : BodyContents) (x : ℕ) (n : List ℕ) (scopes : Scopes) where
   body_kept h = at_root (last_root b.store) h
 
 -- a body of the renamed store, and of the parameters as they are
-pub made_is : (b : BodyContents) (scopes : Scopes) (x : ℕ) (n : List ℕ) (us : List Usage) (store : Contents) (params : List (Param ℕ)) (own : Option (Param ℕ)) →
-    store ≡ with_nodes b.store (renamed_nodes n x us b.store.nodes) → us ≡ usages_of x (usages_of_body b scopes) → params ≡ b.params → own ≡ b.self_param →
+pub made_is : (b : BodyContents) (scopes : Scopes) (x : ℕ) (n : List ℕ) (us : List Usage) (store : Contents)
+    (params : List (Param ℕ)) (own : Option (Param ℕ)) →
+    store ≡ with_nodes b.store (renamed_nodes n x us b.store.nodes) → us ≡ usages_of x (usages_of_body b scopes) →
+    params ≡ b.params → own ≡ b.self_param →
     body_of store params own ≡ renamed_body b scopes x n
 made_is b scopes x n us store params own is uses same same_own =
     let whole : store ≡ with_nodes b.store (renamed_nodes n x (usages_of x (usages_of_body b scopes)) b.store.nodes) =

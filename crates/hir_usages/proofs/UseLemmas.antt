@@ -1,5 +1,6 @@
 -- The uses of a body: each asks where the body reaches, each path once, and in the renamed body by its new name.
-use Rattle.std.proofs.Common.{◌≡◌, ℕ, zero, suc, List, [], ◌∷◌, ◌++◌, Option, Some, None, Bool, true, false, cond, map, refl, sym, ap, ◌∙◌, Contains, subst, fold, nat_eq, arith}
+use Rattle.std.proofs.Common.{◌≡◌, ℕ, zero, suc, List, [], ◌∷◌, ◌++◌, Option, Some, None, Bool, true, false, cond, map, refl, sym, ap}
+use Rattle.std.proofs.Common.{◌∙◌, Contains, subst, fold, nat_eq, arith}
 use Rattle.std.proofs.lemmas.Bool.{eqb-true, eq-eqb}
 use Rattle.std.proofs.Math.Dec.{eqb-suc-suc, eqb-suc-zero, eqb-zero-suc}
 use Rattle.std.specs.List.{slice_get, list_any, AllByRecursion}
@@ -13,10 +14,13 @@ use Rattle.hir_node.specs.declared.{expr.Expr.Expr, node_id.NodeId.NodeId, pat.P
 use Rattle.hir_validate.specs.{Recursion.RankDecreases, declared.node_arenas.Nodes.Nodes, Nodes.children_of}
 use Rattle.hir_store_core.specs.{Contents.Contents, SideTables.hygiene_of, Under.Under, Under.itself, Under.below}
 use Rattle.hir_body.specs.Bodies.{BodyContents, BodyReaches, entry_nodes}
-use Rattle.hir_scope.specs.{PathResolution.local_name, PathResolution.binding_at, PathResolution.resolve_path, PathResolution.resolved_by_expr, PathResolution.resolved_by_pat, PathResolution.target_binding_at, Scopes.Scopes}
+use Rattle.hir_scope.specs.{PathResolution.local_name, PathResolution.binding_at, PathResolution.resolve_path}
+use Rattle.hir_scope.specs.{PathResolution.resolved_by_expr, PathResolution.resolved_by_pat, PathResolution.target_binding_at}
+use Rattle.hir_scope.specs.{Scopes.Scopes}
 use Rattle.hir_captures.specs.Uses.{Spot, if_assignment, assignment_at, of_pattern}
 use Rattle.hir_usages.specs.Visits.{children_in_order, visits}
-use Rattle.hir_usages.specs.Usages.{usage_with, usages_of_expr, usages_of_pat, usages_at, usages_in, usages_of_body, resolves_to, is_binding, usages_of}
+use Rattle.hir_usages.specs.Usages.{usage_with, usages_of_expr, usages_of_pat, usages_at, usages_in, usages_of_body, resolves_to}
+use Rattle.hir_usages.specs.Usages.{is_binding, usages_of}
 use Rattle.hir_usages.specs.Renames.{binding_for, name_of_expr, name_of_pat, name_at, name_after, resolve_along, chain_at}
 use Rattle.hir_usages.specs.Renamed.{change_at, renamed_expr, renamed_pat, rename_path, rename_binding, renamed_nodes}
 use Rattle.hir_usages.specs.declared.usage.Usage.{Usage}
@@ -25,7 +29,8 @@ use Rattle.hir_usages.proofs.VisitLemmas.{child_among, hold_from}
 -- 1. A pattern is in the target of one assignment only.
 
 pub data Owns (s : Nodes) : ℕ → ℕ → Type 0 where
-  first : {a id : ℕ} → if_assignment a (slice_get s.exprs a) ≡ Some a → Contains (children_in_order s (NodeId.Expr a)) (NodeId.Pat id) → Owns s a id
+  first : {a id : ℕ} → if_assignment a (slice_get s.exprs a) ≡ Some a →
+      Contains (children_in_order s (NodeId.Expr a)) (NodeId.Pat id) → Owns s a id
   inner : {a p id : ℕ} → Owns s a p → Contains (children_in_order s (NodeId.Pat p)) (NodeId.Pat id) → Owns s a id
 
 abbrev OwnerOk : Nodes → NodeId → Option ℕ → Type 0
@@ -51,7 +56,8 @@ if_is id a None e = absurd cc
 if_is id a (Some _) e = absurd cc
 
 module _ (s : Nodes) where
-  in_target : (m : NodeId) (a : Option ℕ) (id : ℕ) → OwnerOk s m a → Contains (children_in_order s m) (NodeId.Pat id) → OwnerOk s (NodeId.Pat id) (assignment_at s m a)
+  in_target : (m : NodeId) (a : Option ℕ) (id : ℕ) → OwnerOk s m a →
+      Contains (children_in_order s m) (NodeId.Pat id) → OwnerOk s (NodeId.Pat id) (assignment_at s m a)
   in_target (NodeId.Expr x) a id ok m = at (if_assignment x (slice_get s.exprs x)) refl where
     at : (o : Option ℕ) → if_assignment x (slice_get s.exprs x) ≡ o → OwnerOk s (NodeId.Pat id) o
     at None e = tt
@@ -62,7 +68,8 @@ module _ (s : Nodes) where
   in_target (NodeId.Pat p) (Some b) id ok m = inner ok m
   in_target (NodeId.TypeRef x) a id ok m = tt
 
-  owner_of_child : (m : NodeId) (a : Option ℕ) (k : NodeId) → OwnerOk s m a → Contains (children_in_order s m) k → OwnerOk s k (of_pattern k (assignment_at s m a))
+  owner_of_child : (m : NodeId) (a : Option ℕ) (k : NodeId) → OwnerOk s m a → Contains (children_in_order s m) k →
+      OwnerOk s k (of_pattern k (assignment_at s m a))
   owner_of_child m a (NodeId.Pat id) ok c = in_target m a id ok c
   owner_of_child m a (NodeId.Expr id) ok c = tt
   owner_of_child m a (NodeId.TypeRef id) ok c = tt
@@ -87,8 +94,10 @@ under_more s n k itself c = below c itself
 under_more s n k (below d u) c = below d (under_more s n k u c)
 
 module _ (b : BodyContents) where
-  owner_reached : (m : NodeId) (a : Option ℕ) → ReachedAt b m a → (x : ℕ) → assignment_at b.store.nodes m a ≡ Some x → BodyReaches b (NodeId.Expr x)
-  owner_reached (NodeId.Expr id) a r x e = subst (λ (y : ℕ). BodyReaches b (NodeId.Expr y)) (if_is id x (slice_get b.store.nodes.exprs id) e) r.0
+  owner_reached : (m : NodeId) (a : Option ℕ) → ReachedAt b m a → (x : ℕ) → assignment_at b.store.nodes m a ≡ Some x →
+      BodyReaches b (NodeId.Expr x)
+  owner_reached (NodeId.Expr id) a r x e =
+      subst (λ (y : ℕ). BodyReaches b (NodeId.Expr y)) (if_is id x (slice_get b.store.nodes.exprs id) e) r.0
   owner_reached (NodeId.Pat id) a r x e = r.1 x e
   owner_reached (NodeId.TypeRef id) a r x e = absurd cc
 
@@ -97,7 +106,8 @@ module _ (b : BodyContents) where
   of_pattern_is (NodeId.Expr id) a x e = absurd cc
   of_pattern_is (NodeId.TypeRef id) a x e = absurd cc
 
-  visit_goes : (m : NodeId) (a : Option ℕ) (k : NodeId) → VisitOk b m a → Contains (children_in_order b.store.nodes m) k → VisitOk b k (of_pattern k (assignment_at b.store.nodes m a))
+  visit_goes : (m : NodeId) (a : Option ℕ) (k : NodeId) → VisitOk b m a →
+      Contains (children_in_order b.store.nodes m) k → VisitOk b k (of_pattern k (assignment_at b.store.nodes m a))
   visit_goes m a k ok c =
       let up : BodyReaches b m = ok.1.0 in (
         owner_of_child b.store.nodes m a k ok.0 c,
@@ -134,7 +144,8 @@ module _ (b : BodyContents) (scopes : Scopes) where
   abbrev pub AreUses : List Usage → Type 0
   AreUses us = AllByRecursion IsUse us
 
-  expr_uses : (id : ℕ) (o : Option Expr) → slice_get c.nodes.exprs id ≡ o → BodyReaches b (NodeId.Expr id) → AreUses (usages_of_expr c scopes id o)
+  expr_uses : (id : ℕ) (o : Option Expr) → slice_get c.nodes.exprs id ≡ o → BodyReaches b (NodeId.Expr id) →
+      AreUses (usages_of_expr c scopes id o)
   expr_uses id (Some (Expr.Path path)) e r = at (local_name path) refl where
     at : (q : Option (List ℕ)) → local_name path ≡ q → AreUses (usage_with (ExprId id) id (binding_at c scopes id) q)
     at None h = tt
@@ -142,7 +153,8 @@ module _ (b : BodyContents) (scopes : Scopes) where
   expr_uses id None e r = tt
   expr_uses id (Some _) e r = tt
 
-  pat_uses : (id a : ℕ) (o : Option Pat) → slice_get c.nodes.pats id ≡ o → Owns c.nodes a id → BodyReaches b (NodeId.Expr a) → AreUses (usages_of_pat c scopes id (Some a) o)
+  pat_uses : (id a : ℕ) (o : Option Pat) → slice_get c.nodes.pats id ≡ o → Owns c.nodes a id →
+      BodyReaches b (NodeId.Expr a) → AreUses (usages_of_pat c scopes id (Some a) o)
   pat_uses id a (Some (Pat.Path path)) e own r = at (local_name path) refl where
     at : (q : Option (List ℕ)) → local_name path ≡ q → AreUses (usage_with (PatId id) a (target_binding_at c scopes a id) q)
     at None h = tt
@@ -162,13 +174,17 @@ module _ (b : BodyContents) (scopes : Scopes) where
 
   uses_of_spots : (xs : List Spot) → AllByRecursion (λ (x : Spot). VisitOk b x.node x.assignment) xs → AreUses (usages_in c scopes xs)
   uses_of_spots [] h = tt
-  uses_of_spots (x ∷ xs) h = uses_two (usages_at c scopes x.node x.assignment) (usages_in c scopes xs) (uses_of_spot x.node x.assignment h.0) (uses_of_spots xs h.1)
+  uses_of_spots (x ∷ xs) h =
+      uses_two (usages_at c scopes x.node x.assignment) (usages_in c scopes xs) (uses_of_spot x.node x.assignment h.0)
+      (uses_of_spots xs h.1)
 
   pub all_uses : RankDecreases c.nodes → AreUses (usages_of_body b scopes)
   all_uses fall = uses_of_spots (visits b) (visits_ok b fall)
 
   -- two uses of one path resolve to the same
-  told_by_path : ((n m k : NodeId) → Contains (children_of c.nodes n) k → Contains (children_of c.nodes m) k → n ≡ m) → (p q : ExprOrPatId) (x y : ℕ) → p ≡ q → AsksAt c.nodes p x → AsksAt c.nodes q y → binding_for c scopes p x ≡ binding_for c scopes q y
+  told_by_path : ((n m k : NodeId) → Contains (children_of c.nodes n) k → Contains (children_of c.nodes m) k → n
+      ≡ m) → (p q : ExprOrPatId) (x y : ℕ) → p ≡ q → AsksAt c.nodes p x → AsksAt c.nodes q y →
+      binding_for c scopes p x ≡ binding_for c scopes q y
   told_by_path one (ExprId i) (ExprId j) x y e f g = let is : i ≡ j = cc in ap (binding_at c scopes) is
   told_by_path one (ExprId i) (PatId j) x y e f g = absurd cc
   told_by_path one (PatId i) (ExprId j) x y e f g = absurd cc
@@ -198,7 +214,8 @@ same_either : {X : Type 0} (t : Bool) (x : X) → x ≡ cond t x x
 same_either true x = refl
 same_either false x = refl
 
-changed_at : {X : Type 0} (f : X → X) (xs : List X) (i j : ℕ) → slice_get (change_at f xs i) j ≡ cond (nat_eq i j) (option_map f (slice_get xs j)) (slice_get xs j)
+changed_at : {X : Type 0} (f : X → X) (xs : List X) (i j : ℕ) → slice_get (change_at f xs i) j
+    ≡ cond (nat_eq i j) (option_map f (slice_get xs j)) (slice_get xs j)
 changed_at f [] i j = same_either (nat_eq i j) None
 changed_at f (x ∷ xs) zero zero = refl
 changed_at f (x ∷ xs) zero (suc j) = ap (λ (t : Bool). cond t (option_map f (slice_get xs j)) (slice_get xs j)) (sym (eqb-zero-suc j))
@@ -220,7 +237,8 @@ pat_renamed n (Some (Pat.Path (Path.LangItem target segment))) y e = absurd cc
 pat_renamed n None y e = absurd cc
 pat_renamed n (Some _) y e = absurd cc
 
-name_changed : (n : List ℕ) (u : Nodes) (q p : ExprOrPatId) (y : List ℕ) → name_at u p ≡ Some y → name_at (rename_path n u q) p ≡ Some (cond (same_path q p) n y)
+name_changed : (n : List ℕ) (u : Nodes) (q p : ExprOrPatId) (y : List ℕ) → name_at u p ≡ Some y →
+    name_at (rename_path n u q) p ≡ Some (cond (same_path q p) n y)
 name_changed n u (ExprId i) (ExprId j) y e = ap name_of_expr (changed_at (renamed_expr n) u.exprs i j) ∙ at (nat_eq i j) where
   at : (t : Bool) → name_of_expr (cond t (option_map (renamed_expr n) (slice_get u.exprs j)) (slice_get u.exprs j)) ≡ Some (cond t n y)
   at true = expr_renamed n (slice_get u.exprs j) y e
@@ -232,7 +250,9 @@ name_changed n u (PatId i) (PatId j) y e = ap name_of_pat (changed_at (renamed_p
 name_changed n u (ExprId i) (PatId j) y e = e
 name_changed n u (PatId i) (ExprId j) y e = e
 
-names_changed : (n : List ℕ) (u : Nodes) (qs : List ExprOrPatId) (p : ExprOrPatId) (y : List ℕ) → name_at u p ≡ Some y → name_at (fold (rename_path n) u qs) p ≡ Some (cond (list_any (λ (q : ExprOrPatId). same_path q p) qs) n y)
+names_changed : (n : List ℕ) (u : Nodes) (qs : List ExprOrPatId) (p : ExprOrPatId) (y : List ℕ) → name_at u p
+    ≡ Some y → name_at (fold (rename_path n) u qs) p
+    ≡ Some (cond (list_any (λ (q : ExprOrPatId). same_path q p) qs) n y)
 names_changed n u [] p y e = e
 names_changed n u (q ∷ qs) p y e =
     names_changed n (rename_path n u q) qs p (cond (same_path q p) n y) (name_changed n u q p y e)
@@ -243,7 +263,8 @@ names_changed n u (q ∷ qs) p y e =
       at false true = refl
       at false false = refl
 
-module _ (b : BodyContents) (scopes : Scopes) (one : (n m k : NodeId) → Contains (children_of b.store.nodes n) k → Contains (children_of b.store.nodes m) k → n ≡ m) (x : ℕ) where
+module _ (b : BodyContents) (scopes : Scopes) (one : (n m k : NodeId) → Contains (children_of b.store.nodes n) k →
+    Contains (children_of b.store.nodes m) k → n ≡ m) (x : ℕ) where
   abbrev marked : List Usage → ExprOrPatId → Bool
   marked us p = list_any (λ (q : ExprOrPatId). same_path q p) (map (λ (v : Usage). v.path) (usages_of x us))
 
@@ -258,7 +279,9 @@ module _ (b : BodyContents) (scopes : Scopes) (one : (n m k : NodeId) → Contai
         let lie : true ≡ false = sym own ∙ (ap (is_binding x) both ∙ other) in
         absurd cc
 
-    at : (t : Bool) → resolves_to x w ≡ t → marked us v.path ≡ false → list_any (λ (q : ExprOrPatId). same_path q v.path) (map (λ (z : Usage). z.path) (cond t (w ∷ usages_of x us) (usages_of x us))) ≡ false
+    at : (t : Bool) → resolves_to x w ≡ t → marked us v.path ≡ false →
+        list_any (λ (q : ExprOrPatId). same_path q v.path)
+        (map (λ (z : Usage). z.path) (cond t (w ∷ usages_of x us) (usages_of x us))) ≡ false
     at false e rest = rest
     at true e rest = differ (same_path w.path v.path) refl e rest
 
@@ -267,14 +290,17 @@ module _ (b : BodyContents) (scopes : Scopes) (one : (n m k : NodeId) → Contai
   is_marked (w ∷ us) v (zero, l, is) own =
       let here : resolves_to x w ≡ true = ap (resolves_to x) is ∙ own in
       let same : same_path w.path v.path ≡ true = ap (λ (z : Usage). same_path z.path v.path) is ∙ is_same_path v.path in
-      ap (λ (t : Bool). list_any (λ (q : ExprOrPatId). same_path q v.path) (map (λ (z : Usage). z.path) (cond t (w ∷ usages_of x us) (usages_of x us)))) here
+      ap (λ (t : Bool). list_any (λ (q : ExprOrPatId). same_path q v.path)
+      (map (λ (z : Usage). z.path) (cond t (w ∷ usages_of x us) (usages_of x us)))) here
       ∙ ap (λ (t : Bool). t || marked us v.path) same
   is_marked (w ∷ us) v (suc i, l, is) own = at (resolves_to x w) (is_marked us v (i, omega (arith, l), is) own) where
     or_true : (t : Bool) → marked us v.path ≡ true → (t || marked us v.path) ≡ true
     or_true true rest = refl
     or_true false rest = rest
 
-    at : (t : Bool) → marked us v.path ≡ true → list_any (λ (q : ExprOrPatId). same_path q v.path) (map (λ (z : Usage). z.path) (cond t (w ∷ usages_of x us) (usages_of x us))) ≡ true
+    at : (t : Bool) → marked us v.path ≡ true →
+        list_any (λ (q : ExprOrPatId). same_path q v.path)
+        (map (λ (z : Usage). z.path) (cond t (w ∷ usages_of x us) (usages_of x us))) ≡ true
     at true rest = or_true (same_path w.path v.path) rest
     at false rest = rest
 
@@ -285,11 +311,14 @@ module _ (b : BodyContents) (scopes : Scopes) (one : (n m k : NodeId) → Contai
     at false e = not_marked us v are is e
 
   -- each use asks for its new name
-  pub new_name : (n : List ℕ) (us : List Usage) (v : Usage) → AreUses b scopes us → IsUse b scopes v → Contains us v → name_at (renamed_nodes n x (usages_of x us) b.store.nodes) v.path ≡ name_after x n b.store.nodes v
+  pub new_name : (n : List ℕ) (us : List Usage) (v : Usage) → AreUses b scopes us → IsUse b scopes v → Contains us v →
+      name_at (renamed_nodes n x (usages_of x us) b.store.nodes) v.path ≡ name_after x n b.store.nodes v
   new_name n us v are is among =
-      names_changed n (rename_binding n b.store.nodes x) (map (λ (z : Usage). z.path) (usages_of x us)) v.path is.name (first_name v.path is.name is.asks)
+      names_changed n (rename_binding n b.store.nodes x) (map (λ (z : Usage). z.path) (usages_of x us)) v.path is.name
+      (first_name v.path is.name is.asks)
       ∙ (ap (λ (t : Bool). Some (cond t n is.name)) (marks us v are is among) ∙ at (resolves_to x v)) where
-        first_name : (p : ExprOrPatId) (y : List ℕ) → name_at b.store.nodes p ≡ Some y → name_at (rename_binding n b.store.nodes x) p ≡ Some y
+        first_name : (p : ExprOrPatId) (y : List ℕ) → name_at b.store.nodes p ≡ Some y →
+            name_at (rename_binding n b.store.nodes x) p ≡ Some y
         first_name (ExprId id) y e = e
         first_name (PatId id) y e = e
 
@@ -299,23 +328,28 @@ module _ (b : BodyContents) (scopes : Scopes) (one : (n m k : NodeId) → Contai
 
 -- 5. What a use resolves to in other scopes
 
-meaning_along : (c : Contents) (scopes : Scopes) (x : ℕ) (h : SyntaxContext) (o : Option (List ℕ)) → resolve_path c scopes x h o ≡ resolve_along c (chain_at scopes x) h o
+meaning_along : (c : Contents) (scopes : Scopes) (x : ℕ) (h : SyntaxContext) (o : Option (List ℕ)) →
+    resolve_path c scopes x h o ≡ resolve_along c (chain_at scopes x) h o
 meaning_along c scopes x h None = refl
 meaning_along c scopes x h (Some name) = refl
 
-expr_along : (c : Contents) (scopes : Scopes) (id : ℕ) (o : Option Expr) → resolved_by_expr c scopes id o ≡ resolve_along c (chain_at scopes id) (hygiene_of c.side_tables (ExprId id)) (name_of_expr o)
+expr_along : (c : Contents) (scopes : Scopes) (id : ℕ) (o : Option Expr) → resolved_by_expr c scopes id o
+    ≡ resolve_along c (chain_at scopes id) (hygiene_of c.side_tables (ExprId id)) (name_of_expr o)
 expr_along c scopes id (Some (Expr.Path path)) = meaning_along c scopes id (hygiene_of c.side_tables (ExprId id)) (local_name path)
 expr_along c scopes id None = refl
 expr_along c scopes id (Some _) = refl
 
-pat_along : (c : Contents) (scopes : Scopes) (a id : ℕ) (o : Option Pat) → resolved_by_pat c scopes a id o ≡ resolve_along c (chain_at scopes a) (hygiene_of c.side_tables (PatId id)) (name_of_pat o)
+pat_along : (c : Contents) (scopes : Scopes) (a id : ℕ) (o : Option Pat) → resolved_by_pat c scopes a id o
+    ≡ resolve_along c (chain_at scopes a) (hygiene_of c.side_tables (PatId id)) (name_of_pat o)
 pat_along c scopes a id (Some (Pat.Path path)) = meaning_along c scopes a (hygiene_of c.side_tables (PatId id)) (local_name path)
 pat_along c scopes a id None = refl
 pat_along c scopes a id (Some _) = refl
 
 -- what a path resolves to is what its name resolves to along the chain of the expression at which it asks
-pub for_along : (c : Contents) (s : Nodes) (scopes : Scopes) (p : ExprOrPatId) (x : ℕ) → AsksAt s p x → binding_for c scopes p x ≡ resolve_along c (chain_at scopes x) (hygiene_of c.side_tables p) (name_at c.nodes p)
+pub for_along : (c : Contents) (s : Nodes) (scopes : Scopes) (p : ExprOrPatId) (x : ℕ) → AsksAt s p x →
+    binding_for c scopes p x ≡ resolve_along c (chain_at scopes x) (hygiene_of c.side_tables p) (name_at c.nodes p)
 for_along c s scopes (ExprId id) x e =
     expr_along c scopes id (slice_get c.nodes.exprs id)
-    ∙ ap (λ (y : ℕ). resolve_along c (chain_at scopes y) (hygiene_of c.side_tables (ExprId id)) (name_of_expr (slice_get c.nodes.exprs id))) (sym e)
+    ∙ ap (λ (y : ℕ). resolve_along c (chain_at scopes y) (hygiene_of c.side_tables (ExprId id))
+    (name_of_expr (slice_get c.nodes.exprs id))) (sym e)
 for_along c s scopes (PatId id) x e = pat_along c scopes x id (slice_get c.nodes.pats id)

@@ -1,6 +1,8 @@
 -- The visible entries are those that some name resolves to.
-use Rattle.std.proofs.Common.{◌≡◌, ℕ, zero, suc, List, [], ◌∷◌, ◌++◌, Option, Some, None, Bool, true, false, cond, refl, sym, ap, ◌∙◌, Contains, arith, subst, append_assoc, fold, ◌⊎◌, inl, inr}
-use Rattle.std.proofs.lemmas.{List.append-nil, List.Folds.list_any-append, List.Sorted.list_any-IsPermutation, List.Sums.fold-append, Bool.Decides.Decides-and}
+use Rattle.std.proofs.Common.{◌≡◌, ℕ, zero, suc, List, [], ◌∷◌, ◌++◌, Option, Some, None, Bool, true, false, cond, refl, sym, ap, ◌∙◌}
+use Rattle.std.proofs.Common.{Contains, arith, subst, append_assoc, fold, ◌⊎◌, inl, inr}
+use Rattle.std.proofs.lemmas.{List.append-nil, List.Folds.list_any-append, List.Sorted.list_any-IsPermutation, List.Sums.fold-append}
+use Rattle.std.proofs.lemmas.{Bool.Decides.Decides-and}
 use Rattle.std.specs.List.Sorted.{IsPermutation}
 use Rattle.std.specs.List.{slice_get}
 use Rattle.std.specs.Prelude.{option_map}
@@ -22,29 +24,38 @@ asked n h e = Decides-and (hygienes.ghosts.eq e.hygiene h) (names.ghosts.eq e.na
 
 module _ (n : List ℕ) (h : SyntaxContext) where
   -- an entry that isn't asked for changes nothing
-  unasked : (e : ScopeEntry) → matches n h e ≡ false → (found es : List ScopeEntry) → find_entry n h (found ++ es) ≡ find_entry n h (found ++ e ∷ es)
+  unasked : (e : ScopeEntry) → matches n h e ≡ false → (found es : List ScopeEntry) → find_entry n h (found ++ es)
+      ≡ find_entry n h (found ++ e ∷ es)
   unasked e q [] es = ap (λ (t : Bool). cond t (Some e) (find_entry n h es)) (sym q)
   unasked e q (f ∷ fs) es = ap (λ (o : Option ScopeEntry). cond (matches n h f) (Some f) o) (unasked e q fs es)
 
   -- where one is found, later entries change nothing
-  found_before : (found xs ys : List ScopeEntry) → list_any (matches n h) found ≡ true → find_entry n h (found ++ xs) ≡ find_entry n h (found ++ ys)
+  found_before : (found xs ys : List ScopeEntry) → list_any (matches n h) found ≡ true → find_entry n h (found ++ xs)
+      ≡ find_entry n h (found ++ ys)
   found_before [] xs ys q = absurd cc
   found_before (f ∷ fs) xs ys q = at (matches n h f) q (found_before fs xs ys) where
-    at : (t : Bool) → (t || list_any (matches n h) fs) ≡ true → (list_any (matches n h) fs ≡ true → find_entry n h (fs ++ xs) ≡ find_entry n h (fs ++ ys)) → cond t (Some f) (find_entry n h (fs ++ xs)) ≡ cond t (Some f) (find_entry n h (fs ++ ys))
+    at : (t : Bool) → (t || list_any (matches n h) fs) ≡ true →
+        (list_any (matches n h) fs ≡ true → find_entry n h (fs ++ xs) ≡ find_entry n h (fs ++ ys)) →
+        cond t (Some f) (find_entry n h (fs ++ xs)) ≡ cond t (Some f) (find_entry n h (fs ++ ys))
     at true r rest = refl
     at false r rest = rest r
 
-  none_before : (found : List ScopeEntry) (e : ScopeEntry) → list_any (matches n h) found ≡ false → matches n h e ≡ true → find_entry n h (found ++ e ∷ []) ≡ Some e
+  none_before : (found : List ScopeEntry) (e : ScopeEntry) → list_any (matches n h) found ≡ false → matches n h e
+      ≡ true → find_entry n h (found ++ e ∷ []) ≡ Some e
   none_before [] e q r = ap (λ (t : Bool). cond t (Some e) None) r
   none_before (f ∷ fs) e q r = at (matches n h f) q (λ p. none_before fs e p r) where
-    at : (t : Bool) → (t || list_any (matches n h) fs) ≡ false → (list_any (matches n h) fs ≡ false → find_entry n h (fs ++ e ∷ []) ≡ Some e) → cond t (Some f) (find_entry n h (fs ++ e ∷ [])) ≡ Some e
+    at : (t : Bool) → (t || list_any (matches n h) fs) ≡ false →
+        (list_any (matches n h) fs ≡ false → find_entry n h (fs ++ e ∷ []) ≡ Some e) →
+        cond t (Some f) (find_entry n h (fs ++ e ∷ [])) ≡ Some e
     at true p rest = absurd cc
     at false p rest = rest p
 
   still_first : (found xs : List ScopeEntry) (e : ScopeEntry) → find_entry n h found ≡ Some e → find_entry n h (found ++ xs) ≡ Some e
   still_first [] xs e q = absurd cc
   still_first (f ∷ fs) xs e q = at (matches n h f) q (still_first fs xs e) where
-    at : (t : Bool) → cond t (Some f) (find_entry n h fs) ≡ Some e → (find_entry n h fs ≡ Some e → find_entry n h (fs ++ xs) ≡ Some e) → cond t (Some f) (find_entry n h (fs ++ xs)) ≡ Some e
+    at : (t : Bool) → cond t (Some f) (find_entry n h fs) ≡ Some e →
+        (find_entry n h fs ≡ Some e → find_entry n h (fs ++ xs) ≡ Some e) →
+        cond t (Some f) (find_entry n h (fs ++ xs)) ≡ Some e
     at true p rest = p
     at false p rest = rest p
 
@@ -59,13 +70,15 @@ module _ (n : List ℕ) (h : SyntaxContext) where
   kept : (found es : List ScopeEntry) → find_entry n h (fold with_new_name found es) ≡ find_entry n h (found ++ es)
   kept found [] = ap (find_entry n h) (sym (append-nil found))
   kept found (e ∷ es) = kept (with_new_name found e) es ∙ at (list_any (matches e.name e.hygiene) found) refl where
-    here : (t : Bool) → matches n h e ≡ t → list_any (matches e.name e.hygiene) found ≡ true → find_entry n h (found ++ es) ≡ find_entry n h (found ++ e ∷ es)
+    here : (t : Bool) → matches n h e ≡ t → list_any (matches e.name e.hygiene) found ≡ true →
+        find_entry n h (found ++ es) ≡ find_entry n h (found ++ e ∷ es)
     here false r q = unasked e r found es
     here true r q =
         let same = (asked n h e).0 r in
         found_before found es (e ∷ es) ((λ i. list_any (matches (sym same.1 i) (sym same.0 i)) found) ∙ q)
 
-    at : (t : Bool) → list_any (matches e.name e.hygiene) found ≡ t → find_entry n h (cond t found (found ++ e ∷ []) ++ es) ≡ find_entry n h (found ++ e ∷ es)
+    at : (t : Bool) → list_any (matches e.name e.hygiene) found ≡ t →
+        find_entry n h (cond t found (found ++ e ∷ []) ++ es) ≡ find_entry n h (found ++ e ∷ es)
     at true q = here (matches n h e) refl q
     at false q = ap (find_entry n h) (append_assoc found (e ∷ []) es)
 
@@ -88,23 +101,32 @@ first_more found x first = at (list_any (matches x.name x.hygiene) found) refl w
   at true q = first
   at false q = λ e m. elim (in_two found x e m) [
     | inl k ↦ still_first e.name e.hygiene found (x ∷ []) e (first e k)
-    | inr same ↦ subst (λ (y : ScopeEntry). find_entry y.name y.hygiene (found ++ x ∷ []) ≡ Some y) same (none_before x.name x.hygiene found x q ((asked x.name x.hygiene x).1 (refl, refl)))
+    | inr same ↦ subst (λ (y : ScopeEntry). find_entry y.name y.hygiene (found ++ x ∷ []) ≡ Some y) same
+        (none_before x.name x.hygiene found x q ((asked x.name x.hygiene x).1 (refl, refl)))
   ]
 
 all_first : (found es : List ScopeEntry) → AreFirst found → AreFirst (fold with_new_name found es)
 all_first found [] first = first
 all_first found (x ∷ es) first = all_first (with_new_name found x) es (first_more found x first)
 
-pub visible_resolves : (frames : Chain) (e : ScopeEntry) → Contains (visible_in frames) e ↔ ((n : List ℕ) × (h : SyntaxContext) × (resolve frames n h ≡ Some e))
+pub visible_resolves : (frames : Chain) (e : ScopeEntry) →
+    Contains (visible_in frames) e ↔ ((n : List ℕ) × (h : SyntaxContext) × (resolve frames n h ≡ Some e))
 visible_resolves frames e = (
-  λ m. (e.name, e.hygiene, sym (kept e.name e.hygiene [] (entries_of frames)) ∙ all_first [] (entries_of frames) (λ x k. absurd (omega (arith, k.1))) e m),
+  λ m. (
+    e.name,
+    e.hygiene,
+    sym (kept e.name e.hygiene [] (entries_of frames)) ∙ all_first [] (entries_of frames)
+        (λ x k. absurd (omega (arith, k.1))) e m,
+  ),
   λ r. among r.0 r.1 (visible_in frames) e (kept r.0 r.1 [] (entries_of frames) ∙ r.2),
 )
 
 -- the entries of a scope come before those of its parent
-pub visible_step : (scopes : List Scope) (s : ℕ) (parent : Option ℕ) (es : List ScopeEntry) → GoesOutward scopes → option_map (λ (y : Scope). y.parent) (slice_get scopes s) ≡ Some parent →
+pub visible_step : (scopes : List Scope) (s : ℕ) (parent : Option ℕ) (es : List ScopeEntry) → GoesOutward scopes →
+    option_map (λ (y : Scope). y.parent) (slice_get scopes s) ≡ Some parent →
     option_map (λ (y : Scope). y.entries) (slice_get scopes s) ≡ Some es → (found : List ScopeEntry) →
-    fold with_new_name found (entries_of (chain scopes (Some s))) ≡ fold with_new_name (fold with_new_name found es) (entries_of (chain scopes parent))
+    fold with_new_name found (entries_of (chain scopes (Some s))) ≡ fold with_new_name (fold with_new_name found es)
+    (entries_of (chain scopes parent))
 visible_step scopes s parent es outward p e found =
     let x = of_some_scope (λ (y : Scope). y.entries) (slice_get scopes s) es e in
     let outer = entries_of (chain scopes parent) in
@@ -130,14 +152,19 @@ module _ {K : Type 0} (hygiene : K → SyntaxContext) (name : K → List ℕ) wh
   was_seen keys n h = list_any (λ (k : K). is_key n h (hygiene k) (name k)) keys
 
   -- a key is equal to those of its name and hygiene
-  equal_keys : (n : List ℕ) (h : SyntaxContext) (k : K) → (hygienes.ghosts.eq h (hygiene k) && names.ghosts.eq n (name k)) ≡ is_key n h (hygiene k) (name k)
+  equal_keys : (n : List ℕ) (h : SyntaxContext) (k : K) →
+      (hygienes.ghosts.eq h (hygiene k) && names.ghosts.eq n (name k)) ≡ is_key n h (hygiene k) (name k)
   equal_keys n h k =
-      alike (hygienes.ghosts.eq h (hygiene k) && names.ghosts.eq n (name k)) (is_key n h (hygiene k) (name k)) ((h ≡ hygiene k) × (n ≡ name k)) ((hygiene k ≡ h) × (name k ≡ n))
-      (Decides-and (hygienes.ghosts.eq h (hygiene k)) (names.ghosts.eq n (name k)) (hygienes_decide h (hygiene k)) (names_decide n (name k)))
-      (Decides-and (hygienes.ghosts.eq (hygiene k) h) (names.ghosts.eq (name k) n) (hygienes_decide (hygiene k) h) (names_decide (name k) n))
+      alike (hygienes.ghosts.eq h (hygiene k) && names.ghosts.eq n (name k)) (is_key n h (hygiene k) (name k))
+      ((h ≡ hygiene k) × (n ≡ name k)) ((hygiene k ≡ h) × (name k ≡ n))
+      (Decides-and (hygienes.ghosts.eq h (hygiene k)) (names.ghosts.eq n (name k)) (hygienes_decide h (hygiene k))
+      (names_decide n (name k)))
+      (Decides-and (hygienes.ghosts.eq (hygiene k) h) (names.ghosts.eq (name k) n) (hygienes_decide (hygiene k) h)
+      (names_decide (name k) n))
       (λ e. (sym e.0, sym e.1)) (λ e. (sym e.0, sym e.1))
 
-  pub key_was_seen : (n : List ℕ) (h : SyntaxContext) (keys : List K) → list_any (λ (k : K). hygienes.ghosts.eq h (hygiene k) && names.ghosts.eq n (name k)) keys ≡ was_seen keys n h
+  pub key_was_seen : (n : List ℕ) (h : SyntaxContext) (keys : List K) →
+      list_any (λ (k : K). hygienes.ghosts.eq h (hygiene k) && names.ghosts.eq n (name k)) keys ≡ was_seen keys n h
   key_was_seen n h [] = refl
   key_was_seen n h (k ∷ keys) =
       let first = equal_keys n h k in
@@ -145,7 +172,8 @@ module _ {K : Type 0} (hygiene : K → SyntaxContext) (name : K → List ℕ) wh
       λ i. first i || rest i
 
   -- one more was seen, and has an entry
-  pub seen_more : (entries : List ScopeEntry) (keys later : List K) (k : K) (e : ScopeEntry) → hygiene k ≡ e.hygiene → name k ≡ e.name → IsPermutation (k ∷ keys) later →
+  pub seen_more : (entries : List ScopeEntry) (keys later : List K) (k : K) (e : ScopeEntry) → hygiene k ≡ e.hygiene →
+      name k ≡ e.name → IsPermutation (k ∷ keys) later →
       AreSeen entries (was_seen keys) → AreSeen (entries ++ e ∷ []) (was_seen later)
   seen_more entries keys later k e same_h same_n turned are n h =
       sym (list_any-IsPermutation (λ (q : K). is_key n h (hygiene q) (name q)) (k ∷ keys) later turned)
@@ -153,7 +181,8 @@ module _ {K : Type 0} (hygiene : K → SyntaxContext) (name : K → List ℕ) wh
       ∙ (or_turned (matches n h e) (list_any (matches n h) entries) ∙ sym (list_any-append (matches n h) entries (e ∷ []))))
 
 -- the key wasn't there, so the entry is new
-pub entry_is_new : (found : List ScopeEntry) (e : ScopeEntry) (was there added : Bool) → was ≡ list_any (matches e.name e.hygiene) found → there ≡ was → added ≡ not there → added ≡ true →
+pub entry_is_new : (found : List ScopeEntry) (e : ScopeEntry) (was there added : Bool) → was
+    ≡ list_any (matches e.name e.hygiene) found → there ≡ was → added ≡ not there → added ≡ true →
     with_new_name found e ≡ found ++ e ∷ []
 entry_is_new found e was true added is same new put = let lie : true ≡ false = sym put ∙ new in absurd cc
 entry_is_new found e was false added is same new put = ap (λ (t : Bool). cond t found (found ++ e ∷ [])) (sym (same ∙ is))

@@ -25,7 +25,8 @@ module _ (s : Nodes) where
   -- the children in the order of the walk are the node's children
   pub child_among : (n k : NodeId) → Contains (children_in_order s n) k → Contains (children_of s n) k
   child_among n k m =
-      Contains-permutation (children_in_order s n) (children_of s n) k (IsPermutation-sym (children_of s n) (children_in_order s n) (met_children s n)) m
+      Contains-permutation (children_in_order s n) (children_of s n) k
+      (IsPermutation-sym (children_of s n) (children_in_order s n) (met_children s n)) m
 
   among_children : (n k : NodeId) → Contains (children_of s n) k → Contains (children_in_order s n) k
   among_children n k m = Contains-permutation (children_of s n) (children_in_order s n) k (met_children s n) m
@@ -35,7 +36,8 @@ agreed f g [] h k m = absurd (omega (arith, m.1))
 agreed f g (x ∷ xs) h k (zero, l, is) = ap f (sym is) ∙ (h.0 ∙ ap g is)
 agreed f g (x ∷ xs) h k (suc i, l, is) = agreed f g xs h.1 k (i, omega (arith, l), is)
 
-visited_alike : (f g : Visiting) (a : Option ℕ) (xs : List NodeId) → ((k : NodeId) → Contains xs k → f k ≡ g k) → flat_map (visit_child f a) xs ≡ flat_map (visit_child g a) xs
+visited_alike : (f g : Visiting) (a : Option ℕ) (xs : List NodeId) → ((k : NodeId) → Contains xs k → f k ≡ g k) →
+    flat_map (visit_child f a) xs ≡ flat_map (visit_child g a) xs
 visited_alike f g a [] h = refl
 visited_alike f g a (x ∷ xs) h =
     let first = ap (λ (w : Option ℕ → List Spot). w (of_pattern x a)) (h x (0, omega arith, refl)) in
@@ -55,17 +57,20 @@ visits_at s fall n a = ap (λ (w : Option ℕ → List Spot). w a) (fold_down_at
 -- 2. The tasks of calls
 
 -- the visits of tasks are those of the children that their calls are of
-visits_of_calls : (s : Nodes) (a : Option ℕ) (cs : List Call) → visits_of s (tasks_of a cs) ≡ flat_map (visit_child (visits_under s) a) (children cs)
+visits_of_calls : (s : Nodes) (a : Option ℕ) (cs : List Call) → visits_of s (tasks_of a cs)
+    ≡ flat_map (visit_child (visits_under s) a) (children cs)
 visits_of_calls s a [] = refl
 visits_of_calls s a (OnExpr id ∷ cs) = ap (λ (xs : List Spot). visits_under s (NodeId.Expr id) None ++ xs) (visits_of_calls s a cs)
 visits_of_calls s a (OnAnonConst id ∷ cs) = ap (λ (xs : List Spot). visits_under s (NodeId.Expr id) None ++ xs) (visits_of_calls s a cs)
 visits_of_calls s None (OnPat id ∷ cs) = ap (λ (xs : List Spot). visits_under s (NodeId.Pat id) None ++ xs) (visits_of_calls s None cs)
-visits_of_calls s (Some x) (OnPat id ∷ cs) = ap (λ (xs : List Spot). visits_under s (NodeId.Pat id) (Some x) ++ xs) (visits_of_calls s (Some x) cs)
+visits_of_calls s (Some x) (OnPat id ∷ cs) =
+    ap (λ (xs : List Spot). visits_under s (NodeId.Pat id) (Some x) ++ xs) (visits_of_calls s (Some x) cs)
 visits_of_calls s a (OnType id ∷ cs) = ap (λ (xs : List Spot). visits_under s (NodeId.TypeRef id) None ++ xs) (visits_of_calls s a cs)
 visits_of_calls s a (OnLifetime id ∷ cs) = visits_of_calls s a cs
 
 -- visiting a node leaves the visits of its children
-pub visits_left : (s : Nodes) → RankDecreases s → (n : NodeId) (a : Option ℕ) → visits_under s n a ≡ spot n a ∷ visits_of s (tasks_of (assignment_at s n a) (met_in_form (form_of s n)))
+pub visits_left : (s : Nodes) → RankDecreases s → (n : NodeId) (a : Option ℕ) → visits_under s n a
+    ≡ spot n a ∷ visits_of s (tasks_of (assignment_at s n a) (met_in_form (form_of s n)))
 visits_left s fall n a =
     visits_at s fall n a
     ∙ ap (λ (xs : List Spot). spot n a ∷ xs) (sym (visits_of_calls s (assignment_at s n a) (met_in_form (form_of s n))))
@@ -74,17 +79,33 @@ all_two : {X : Type 0} (P : X → Type 0) (xs ys : List X) → AllByRecursion P 
 all_two P [] ys h k = k
 all_two P (x ∷ xs) ys h k = (h.0, all_two P xs ys h.1 k)
 
-tasks_in_range : (s : Nodes) (a : Option ℕ) (cs : List Call) → ((k : NodeId) → Contains (children cs) k → Has s k) → AreInRange s (tasks_of a cs)
+tasks_in_range : (s : Nodes) (a : Option ℕ) (cs : List Call) → ((k : NodeId) → Contains (children cs) k → Has s k) →
+    AreInRange s (tasks_of a cs)
 tasks_in_range s a [] h = tt
-tasks_in_range s a (OnExpr id ∷ cs) h = (h (NodeId.Expr id) (0, omega arith, refl), tasks_in_range s a cs (λ k m. h k (suc m.0, omega (arith, m.1), m.2)))
-tasks_in_range s a (OnAnonConst id ∷ cs) h = (h (NodeId.Expr id) (0, omega arith, refl), tasks_in_range s a cs (λ k m. h k (suc m.0, omega (arith, m.1), m.2)))
-tasks_in_range s None (OnPat id ∷ cs) h = (h (NodeId.Pat id) (0, omega arith, refl), tasks_in_range s None cs (λ k m. h k (suc m.0, omega (arith, m.1), m.2)))
-tasks_in_range s (Some x) (OnPat id ∷ cs) h = (h (NodeId.Pat id) (0, omega arith, refl), tasks_in_range s (Some x) cs (λ k m. h k (suc m.0, omega (arith, m.1), m.2)))
-tasks_in_range s a (OnType id ∷ cs) h = (h (NodeId.TypeRef id) (0, omega arith, refl), tasks_in_range s a cs (λ k m. h k (suc m.0, omega (arith, m.1), m.2)))
+tasks_in_range s a (OnExpr id ∷ cs) h =
+    (h (NodeId.Expr id) (0, omega arith, refl), tasks_in_range s a cs (λ k m. h k (suc m.0, omega (arith, m.1), m.2)))
+tasks_in_range s a (OnAnonConst id ∷ cs) h =
+    (h (NodeId.Expr id) (0, omega arith, refl), tasks_in_range s a cs (λ k m. h k (suc m.0, omega (arith, m.1), m.2)))
+tasks_in_range s None (OnPat id ∷ cs) h = (
+  h (NodeId.Pat id) (0, omega arith, refl),
+  tasks_in_range s None cs
+      (λ k m. h k (suc m.0, omega (arith, m.1), m.2)),
+)
+tasks_in_range s (Some x) (OnPat id ∷ cs) h = (
+  h (NodeId.Pat id) (0, omega arith, refl),
+  tasks_in_range s (Some x) cs
+      (λ k m. h k (suc m.0, omega (arith, m.1), m.2)),
+)
+tasks_in_range s a (OnType id ∷ cs) h = (
+  h (NodeId.TypeRef id) (0, omega arith, refl),
+  tasks_in_range s a cs
+      (λ k m. h k (suc m.0, omega (arith, m.1), m.2)),
+)
 tasks_in_range s a (OnLifetime id ∷ cs) h = tasks_in_range s a cs h
 
 -- the children of a node are in range
-pub children_in_range : (s : Nodes) → RankDecreases s → (n : NodeId) (a : Option ℕ) (rest : List Task) → Has s n → AreInRange s rest → AreInRange s (tasks_of a (met_in_form (form_of s n)) ++ rest)
+pub children_in_range : (s : Nodes) → RankDecreases s → (n : NodeId) (a : Option ℕ) (rest : List Task) → Has s n →
+    AreInRange s rest → AreInRange s (tasks_of a (met_in_form (form_of s n)) ++ rest)
 children_in_range s fall n a rest h r =
     all_two (λ (t : Task). Has s (task_node t)) (tasks_of a (met_in_form (form_of s n))) rest
     (tasks_in_range s a (met_in_form (form_of s n)) (λ k m. fall.in_range n h k (child_among s n k m))) r
@@ -92,14 +113,18 @@ children_in_range s fall n a rest h r =
 -- 3. What holds at the entry nodes, and at each child where it holds at its parent, holds of each visit.
 
 module _ (s : Nodes) (fall : RankDecreases s) (P : NodeId → Option ℕ → Type 0)
-    (goes : (m : NodeId) (a : Option ℕ) (k : NodeId) → P m a → Contains (children_in_order s m) k → P k (of_pattern k (assignment_at s m a))) where
+    (goes : (m : NodeId) (a : Option ℕ) (k : NodeId) → P m a → Contains (children_in_order s m) k →
+    P k (of_pattern k (assignment_at s m a))) where
   abbrev HoldOf : List Spot → Type 0
   HoldOf xs = AllByRecursion (λ (x : Spot). P x.node x.assignment) xs
 
-  hold_each : (a : Option ℕ) (ks : List NodeId) → ((k : NodeId) → Contains ks k → HoldOf (visits_under s k (of_pattern k a))) → HoldOf (flat_map (visit_child (visits_under s) a) ks)
+  hold_each : (a : Option ℕ) (ks : List NodeId) →
+      ((k : NodeId) → Contains ks k → HoldOf (visits_under s k (of_pattern k a))) →
+      HoldOf (flat_map (visit_child (visits_under s) a) ks)
   hold_each a [] h = tt
   hold_each a (k ∷ ks) h =
-      all_two (λ (x : Spot). P x.node x.assignment) (visits_under s k (of_pattern k a)) (flat_map (visit_child (visits_under s) a) ks) (h k (0, omega arith, refl))
+      all_two (λ (x : Spot). P x.node x.assignment) (visits_under s k (of_pattern k a))
+      (flat_map (visit_child (visits_under s) a) ks) (h k (0, omega arith, refl))
       (hold_each a ks (λ j m. h j (suc m.0, omega (arith, m.1), m.2)))
 
   hold_under : (d : ℕ) (m : NodeId) (a : Option ℕ) → rank s m < d → P m a → HoldOf (visits_under s m a)

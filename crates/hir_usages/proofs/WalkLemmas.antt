@@ -1,9 +1,10 @@
 -- What a run of child calls leaves to be visited, and what visiting a node finds.
-use Rattle.std.proofs.Common.{◌≡◌, ℕ, List, ◌∷◌, refl, ap, ◌∙◌, subst, Option, ◌<◌, [], ◌++◌, Some, None, cond, length, sym, arith, append_assoc}
+use Rattle.std.proofs.Common.{◌≡◌, ℕ, List, ◌∷◌, refl, ap, ◌∙◌, subst, Option, ◌<◌, [], ◌++◌, Some, None, cond, length, sym, arith}
+use Rattle.std.proofs.Common.{append_assoc}
 use Rattle.std.proofs.lemmas.List.{append-nil}
 use Rattle.std.proofs.lemmas.List.{Concat.flat_map-append, Elements.filter-append}
 use Rattle.std.specs.List.{slice_get}
-use Rattle.hir_node.specs.{ChildCalls.Call, ChildCalls.pat_calls, ChildCalls.type_calls, Runs.Runs, Runs.no_call, Runs.a_call}
+use Rattle.hir_node.specs.{ChildCalls.Call, ChildCalls.pat_calls, Runs.Runs, Runs.no_call, Runs.a_call}
 use Rattle.hir_node.specs.declared.{expr.Expr.Expr, node_id.NodeId.NodeId, pat.Pat.Pat, type_ref.TypeRef.TypeRef}
 use Rattle.hir_validate.specs.{Recursion.RankDecreases, declared.node_arenas.Nodes.Nodes}
 use Rattle.hir_store_core.specs.Contents.{Contents}
@@ -44,18 +45,10 @@ defers_all {v} {w} (a_call {v = u} {c = c} {cs = cs} step rest) =
 
 -- 2. Visiting a node leaves what is to be found as it was.
 
-pub no_assignment : (id : ℕ) (x : Expr) → ((target value : ℕ) → x ≡ Expr.Assignment target value → ⊥) → None ≡ if_assignment id (Some x)
-no_assignment id (Expr.Assignment target value) h = absurd (h target value refl)
-no_assignment id _ h = refl
-
 -- the pattern of a task is in range
 pub pat_in_range : (s : Nodes) (a : Option ℕ) (id : ℕ) (rest : List Task) → AreInRange s (pat_task a id ∷ rest) → id < length s.pats
 pat_in_range s None id rest h = h.0
 pat_in_range s (Some a) id rest h = h.0
-
-type_met : (x : TypeRef) → type_calls x ≡ met_in_form (type_form x)
-type_met (TypeRef.PatternType ty pat) = refl
-type_met _ = refl
 
 abbrev listed : List Usage → List ℕ → FoundLists
 listed usages bound = record { usages = usages; bound = bound }
@@ -69,14 +62,16 @@ module _ (w : Walk) where
   wanted us = wanted_among w.wanted c.nodes us
 
   -- what visits add is what their uses and bindings are
-  pub added : (found : FoundLists) (spots : List Spot) → (with_visits w found spots).usages ≡ found.usages ++ wanted_among w.wanted c.nodes (usages_in c w.scopes.now spots)
+  pub added : (found : FoundLists) (spots : List Spot) → (with_visits w found spots).usages
+      ≡ found.usages ++ wanted_among w.wanted c.nodes (usages_in c w.scopes.now spots)
   added found [] = sym (append-nil found.usages)
   added found (x ∷ xs) =
       let here = usages_at c w.scopes.now x.node x.assignment in
       let later = usages_in c w.scopes.now xs in
       added (with_visit w found x) xs
       ∙ (append_assoc found.usages (wanted here) (wanted later)
-      ∙ ap (λ (us : List Usage). found.usages ++ us) (sym (filter-append (λ (u : Usage). is_wanted w.wanted (name_at c.nodes u.path) u) here later)))
+      ∙ ap (λ (us : List Usage). found.usages ++ us)
+      (sym (filter-append (λ (u : Usage). is_wanted w.wanted (name_at c.nodes u.path) u) here later)))
 
   pub added_bound : (found : FoundLists) (spots : List Spot) → (with_visits w found spots).bound ≡ found.bound ++ bound_in c.nodes spots
   added_bound found [] = sym (append-nil found.bound)
@@ -91,15 +86,20 @@ module _ (w : Walk) where
     visits_now =
         let children = tasks_of (assignment_at c.nodes (task_node t) (task_target t)) (met_in_form (form_of c.nodes (task_node t))) in
         ap (λ (xs : List Spot). xs ++ visits_of c.nodes rest) (visits_left c.nodes fall (task_node t) (task_target t))
-        ∙ ap (λ (xs : List Spot). spot (task_node t) (task_target t) ∷ xs) (sym (flat_map-append (λ (x : Task). visits_under c.nodes (task_node x) (task_target x)) children rest))
+        ∙ ap (λ (xs : List Spot). spot (task_node t) (task_target t) ∷ xs)
+        (sym (flat_map-append (λ (x : Task). visits_under c.nodes (task_node x) (task_target x)) children rest))
 
     -- one node is visited
-    visit_one : AreInRange c.nodes (t ∷ rest) → after.usages ≡ before.usages ++ wanted_at w (task_node t) (task_target t) → after.bound ≡ before.bound ++ bound_at c.nodes (task_node t) →
+    visit_one : AreInRange c.nodes (t ∷ rest) → after.usages
+        ≡ before.usages ++ wanted_at w (task_node t) (task_target t) → after.bound
+        ≡ before.bound ++ bound_at c.nodes (task_node t) →
         new ≡ deferred → Reads w before (t ∷ rest) after new
     visit_one in_range usages bound is =
         let found : after ≡ with_visit w before (spot (task_node t) (task_target t)) = λ i. listed (usages i) (bound i) in
         record {
-          in_range = subst (AreInRange c.nodes) (sym is) (children_in_range c.nodes fall (task_node t) (assignment_at c.nodes (task_node t) (task_target t)) rest in_range.0 in_range.1);
+          in_range = subst (AreInRange c.nodes) (sym is)
+              (children_in_range c.nodes fall (task_node t)
+              (assignment_at c.nodes (task_node t) (task_target t)) rest in_range.0 in_range.1);
           finds =
               ap (with_visits w before) visits_now
               ∙ (ap (λ (x : FoundLists). with_visits w x (visits_of c.nodes deferred)) (sym found)
@@ -108,30 +108,41 @@ module _ (w : Walk) where
         }
 
   -- an expression that asks for a name: nothing is inside it
-  named_alone : (id : ℕ) (path : Path) (name : List ℕ) (rest : List Task) → local_name path ≡ Some name → rest ≡ tasks_of (if_assignment id (Some (Expr.Path path))) (met_in_form (expr_form (Expr.Path path))) ++ rest
+  named_alone : (id : ℕ) (path : Path) (name : List ℕ) (rest : List Task) → local_name path ≡ Some name → rest
+      ≡ tasks_of (if_assignment id (Some (Expr.Path path))) (met_in_form (expr_form (Expr.Path path))) ++ rest
   named_alone id (Path.BarePath path) name rest e = refl
   named_alone id (Path.Normal path) name rest e = absurd cc
   named_alone id (Path.LangItem target segment) name rest e = absurd cc
 
-  uses_here : (id : ℕ) (path : Path) (name : List ℕ) → slice_get c.nodes.exprs id ≡ Some (Expr.Path path) → local_name path ≡ Some name → usages_of_expr c w.scopes.now id (slice_get c.nodes.exprs id) ≡ usage_of_expr w id name ∷ []
+  uses_here : (id : ℕ) (path : Path) (name : List ℕ) → slice_get c.nodes.exprs id ≡ Some (Expr.Path path) →
+      local_name path ≡ Some name → usages_of_expr c w.scopes.now id (slice_get c.nodes.exprs id)
+      ≡ usage_of_expr w id name ∷ []
   uses_here id path name is asks =
       ap (usages_of_expr c w.scopes.now id) is
       ∙ (ap (usage_with (ExprId id) id (binding_at c w.scopes.now id)) asks
-      ∙ ap (λ (q : Option ℕ). usage_with (ExprId id) id q (Some name)) (ap (resolved_by_expr c w.scopes.now id) is ∙ ap (resolve_path c w.scopes.now id (hygiene_of c.side_tables (ExprId id))) asks))
+      ∙ ap (λ (q : Option ℕ). usage_with (ExprId id) id q (Some name))
+      (ap (resolved_by_expr c w.scopes.now id) is
+      ∙ ap (resolve_path c w.scopes.now id (hygiene_of c.side_tables (ExprId id))) asks))
 
-  wanted_here : (id : ℕ) (path : Path) (name : List ℕ) → slice_get c.nodes.exprs id ≡ Some (Expr.Path path) → local_name path ≡ Some name → if_wanted w.wanted (usage_of_expr w id name) name ≡ wanted_at w (NodeId.Expr id) None
+  wanted_here : (id : ℕ) (path : Path) (name : List ℕ) → slice_get c.nodes.exprs id ≡ Some (Expr.Path path) →
+      local_name path ≡ Some name → if_wanted w.wanted (usage_of_expr w id name) name
+      ≡ wanted_at w (NodeId.Expr id) None
   wanted_here id path name is asks =
       let u = usage_of_expr w id name in
       let named : name_at c.nodes (ExprId id) ≡ Some name = ap name_of_expr is ∙ asks in
       ap (λ (q : Option (List ℕ)). cond (is_wanted w.wanted q u) (u ∷ []) []) (sym named) ∙ sym (ap wanted (uses_here id path name is asks))
 
-  pub visit_named : RankDecreases c.nodes → (id : ℕ) (x : Expr) (name : List ℕ) (rest : List Task) (before after : FoundLists) → slice_get c.nodes.exprs id ≡ Some x → name_of_expr (Some x) ≡ Some name →
-      AreInRange c.nodes (Task.Expr id ∷ rest) → after.usages ≡ before.usages ++ if_wanted w.wanted (usage_of_expr w id name) name → after.bound ≡ before.bound → Reads w before (Task.Expr id ∷ rest) after rest
+  pub visit_named : RankDecreases c.nodes →
+      (id : ℕ) (x : Expr) (name : List ℕ) (rest : List Task) (before after : FoundLists) → slice_get c.nodes.exprs id
+      ≡ Some x → name_of_expr (Some x) ≡ Some name →
+      AreInRange c.nodes (Task.Expr id ∷ rest) → after.usages ≡ before.usages ++ if_wanted w.wanted
+      (usage_of_expr w id name) name → after.bound ≡ before.bound → Reads w before (Task.Expr id ∷ rest) after rest
   visit_named fall id (Expr.Path path) name rest before after is asks in_range usages bound =
       visit_one fall (Task.Expr id) rest rest before after in_range
       (usages ∙ ap (λ (us : List Usage). before.usages ++ us) (wanted_here id path name is asks))
       (bound ∙ sym (append-nil before.bound))
-      (named_alone id path name rest asks ∙ ap (λ (o : Option Expr). tasks_of (if_assignment id o) (met_in_form (form_at expr_form o)) ++ rest) (sym is))
+      (named_alone id path name rest asks
+      ∙ ap (λ (o : Option Expr). tasks_of (if_assignment id o) (met_in_form (form_at expr_form o)) ++ rest) (sym is))
   visit_named fall id _ name rest before after is asks in_range usages bound = absurd cc
 
   -- any other expression is no use
@@ -139,16 +150,21 @@ module _ (w : Walk) where
   no_use id (Expr.Path path) none = ap (usage_with (ExprId id) id (binding_at c w.scopes.now id)) none
   no_use id _ none = refl
 
-  pub visit_unnamed : RankDecreases c.nodes → (id : ℕ) (x : Expr) (rest new : List Task) (before : FoundLists) → slice_get c.nodes.exprs id ≡ Some x → name_of_expr (Some x) ≡ None →
-      AreInRange c.nodes (Task.Expr id ∷ rest) → new ≡ tasks_of (if_assignment id (Some x)) (met_in_form (expr_form x)) ++ rest → Reads w before (Task.Expr id ∷ rest) before new
+  pub visit_unnamed : RankDecreases c.nodes → (id : ℕ) (x : Expr) (rest new : List Task) (before : FoundLists) →
+      slice_get c.nodes.exprs id ≡ Some x → name_of_expr (Some x) ≡ None →
+      AreInRange c.nodes (Task.Expr id ∷ rest) → new ≡ tasks_of (if_assignment id (Some x))
+      (met_in_form (expr_form x)) ++ rest → Reads w before (Task.Expr id ∷ rest) before new
   visit_unnamed fall id x rest new before is none in_range deferred =
-      let nothing : usages_of_expr c w.scopes.now id (slice_get c.nodes.exprs id) ≡ [] = ap (usages_of_expr c w.scopes.now id) is ∙ no_use id x none in
+      let nothing : usages_of_expr c w.scopes.now id (slice_get c.nodes.exprs id) ≡ [] =
+      ap (usages_of_expr c w.scopes.now id) is ∙ no_use id x none in
       visit_one fall (Task.Expr id) rest new before before in_range
       (sym (append-nil before.usages) ∙ ap (λ (us : List Usage). before.usages ++ wanted us) (sym nothing))
       (sym (append-nil before.bound))
       (deferred ∙ ap (λ (o : Option Expr). tasks_of (if_assignment id o) (met_in_form (form_at expr_form o)) ++ rest) (sym is))
 
-  pub visit_pat : RankDecreases c.nodes → (id : ℕ) (x : Pat) (a : Option ℕ) (rest new : List Task) (before after : FoundLists) → slice_get c.nodes.pats id ≡ Some x → AreInRange c.nodes (pat_task a id ∷ rest) →
+  pub visit_pat : RankDecreases c.nodes →
+      (id : ℕ) (x : Pat) (a : Option ℕ) (rest new : List Task) (before after : FoundLists) → slice_get c.nodes.pats id
+      ≡ Some x → AreInRange c.nodes (pat_task a id ∷ rest) →
       after.usages ≡ before.usages ++ wanted_at w (NodeId.Pat id) a → after.bound ≡ before.bound ++ bound_at c.nodes (NodeId.Pat id) →
       new ≡ tasks_of a (pat_calls x) ++ rest → Reads w before (pat_task a id ∷ rest) after new
   visit_pat fall id x None rest new before after is in_range usages bound deferred =
@@ -158,21 +174,23 @@ module _ (w : Walk) where
       visit_one fall (Task.Target id a) rest new before after in_range usages bound
       (deferred ∙ ap (λ (o : Option Pat). tasks_of (Some a) (met_in_form (form_at pat_form o)) ++ rest) (sym is))
 
-  pub visit_type : RankDecreases c.nodes → (id : ℕ) (x : TypeRef) (rest new : List Task) (before : FoundLists) → slice_get c.nodes.types id ≡ Some x → AreInRange c.nodes (Task.Type id ∷ rest) →
-      new ≡ tasks_of None (type_calls x) ++ rest → Reads w before (Task.Type id ∷ rest) before new
+  pub visit_type : RankDecreases c.nodes → (id : ℕ) (x : TypeRef) (rest new : List Task) (before : FoundLists) →
+      slice_get c.nodes.types id ≡ Some x → AreInRange c.nodes (Task.Type id ∷ rest) →
+      new ≡ tasks_of None (met_in_form (type_form x)) ++ rest → Reads w before (Task.Type id ∷ rest) before new
   visit_type fall id x rest new before is in_range deferred =
       visit_one fall (Task.Type id) rest new before before in_range (sym (append-nil before.usages)) (sym (append-nil before.bound))
-      (deferred
-      ∙ (ap (λ (cs : List Call). tasks_of None cs ++ rest) (type_met x)
-      ∙ ap (λ (o : Option TypeRef). tasks_of None (met_in_form (form_at type_form o)) ++ rest) (sym is)))
+      (deferred ∙ ap (λ (o : Option TypeRef). tasks_of None (met_in_form (form_at type_form o)) ++ rest) (sym is))
 
 -- 3. What one node adds.
 
-pattern_uses : (c : Contents) (scopes : Scopes) (id a : ℕ) (path : Path) (o : Option (List ℕ)) → slice_get c.nodes.pats id ≡ Some (Pat.Path path) → local_name path ≡ o →
+pattern_uses : (c : Contents) (scopes : Scopes) (id a : ℕ) (path : Path) (o : Option (List ℕ)) →
+    slice_get c.nodes.pats id ≡ Some (Pat.Path path) → local_name path ≡ o →
     usages_of_pat c scopes id (Some a) (slice_get c.nodes.pats id) ≡ usage_with (PatId id) a (target_binding_at c scopes a id) o
-pattern_uses c scopes id a path o is asks = ap (usages_of_pat c scopes id (Some a)) is ∙ ap (usage_with (PatId id) a (target_binding_at c scopes a id)) asks
+pattern_uses c scopes id a path o is asks =
+    ap (usages_of_pat c scopes id (Some a)) is ∙ ap (usage_with (PatId id) a (target_binding_at c scopes a id)) asks
 
-no_path_pat : (c : Contents) (scopes : Scopes) (id : ℕ) (a : Option ℕ) (x : Pat) → ((path : Path) → x ≡ Pat.Path path → ⊥) → usages_of_pat c scopes id a (Some x) ≡ []
+no_path_pat : (c : Contents) (scopes : Scopes) (id : ℕ) (a : Option ℕ) (x : Pat) →
+    ((path : Path) → x ≡ Pat.Path path → ⊥) → usages_of_pat c scopes id a (Some x) ≡ []
 no_path_pat c scopes id None x h = refl
 no_path_pat c scopes id (Some a) (Pat.Path path) h = absurd (h path refl)
 no_path_pat c scopes id (Some a) _ h = refl
@@ -187,16 +205,21 @@ module _ (w : Walk) (id : ℕ) (us : List Usage) where
   adds_target a path name is asks =
       let u = usage_of_pat w id a name in
       let named : name_at d.nodes (PatId id) ≡ Some name = ap name_of_pat is ∙ asks in
-      let resolves : target_binding_at d w.scopes.now a id ≡ u.binding = ap (resolved_by_pat d w.scopes.now a id) is ∙ ap (resolve_path d w.scopes.now a (hygiene_of d.side_tables (PatId id))) asks in
-      let uses = pattern_uses d w.scopes.now id a path (Some name) is asks ∙ ap (λ (q : Option ℕ). usage_with (PatId id) a q (Some name)) resolves in
+      let resolves : target_binding_at d w.scopes.now a id ≡ u.binding =
+      ap (resolved_by_pat d w.scopes.now a id) is
+      ∙ ap (resolve_path d w.scopes.now a (hygiene_of d.side_tables (PatId id))) asks in
+      let uses = pattern_uses d w.scopes.now id a path (Some name) is asks
+      ∙ ap (λ (q : Option ℕ). usage_with (PatId id) a q (Some name)) resolves in
       ap (λ (q : Option (List ℕ)). us ++ cond (is_wanted w.wanted q u) (u ∷ []) []) (sym named)
       ∙ ap (λ (xs : List Usage). us ++ wanted_among w.wanted d.nodes xs) (sym uses)
 
-  pub adds_no_name : (a : ℕ) (path : Path) → slice_get d.nodes.pats id ≡ Some (Pat.Path path) → local_name path ≡ None → us ++ wanted_at w (NodeId.Pat id) (Some a) ≡ us
+  pub adds_no_name : (a : ℕ) (path : Path) → slice_get d.nodes.pats id ≡ Some (Pat.Path path) → local_name path
+      ≡ None → us ++ wanted_at w (NodeId.Pat id) (Some a) ≡ us
   adds_no_name a path is asks =
       ap (λ (xs : List Usage). us ++ wanted_among w.wanted d.nodes xs) (pattern_uses d w.scopes.now id a path None is asks) ∙ append-nil us
 
-  pub adds_no_pat : (a : Option ℕ) (x : Pat) → slice_get d.nodes.pats id ≡ Some x → ((path : Path) → x ≡ Pat.Path path → ⊥) → us ++ wanted_at w (NodeId.Pat id) a ≡ us
+  pub adds_no_pat : (a : Option ℕ) (x : Pat) → slice_get d.nodes.pats id ≡ Some x →
+      ((path : Path) → x ≡ Pat.Path path → ⊥) → us ++ wanted_at w (NodeId.Pat id) a ≡ us
   adds_no_pat a x is h =
       ap (λ (o : Option Pat). us ++ wanted_among w.wanted d.nodes (usages_of_pat d w.scopes.now id a o)) is
       ∙ (ap (λ (xs : List Usage). us ++ wanted_among w.wanted d.nodes xs) (no_path_pat d w.scopes.now id a x h) ∙ append-nil us)
@@ -208,8 +231,19 @@ no_bind : (x : Pat) → ((id : ℕ) (subpat : Option ℕ) → x ≡ Pat.Bind id 
 no_bind (Pat.Bind id subpat) h = absurd (h id subpat refl)
 no_bind _ h = refl
 
-pub binds_nothing : (s : Nodes) (id : ℕ) (x : Pat) (bs : List ℕ) → slice_get s.pats id ≡ Some x → ((b : ℕ) (subpat : Option ℕ) → x ≡ Pat.Bind b subpat → ⊥) → bs ++ bound_at s (NodeId.Pat id) ≡ bs
+pub binds_nothing : (s : Nodes) (id : ℕ) (x : Pat) (bs : List ℕ) → slice_get s.pats id ≡ Some x →
+    ((b : ℕ) (subpat : Option ℕ) → x ≡ Pat.Bind b subpat → ⊥) → bs ++ bound_at s (NodeId.Pat id) ≡ bs
 binds_nothing s id x bs is h =
     ap (λ (o : Option Pat). bs ++ all_of pat_bindings o) is ∙ (ap (λ (ys : List ℕ). bs ++ ys) (no_bind x h) ∙ append-nil bs)
 
-pub ruleset reads = (visit_named, visit_unnamed, visit_pat, visit_type, adds_target, adds_no_name, adds_no_pat, adds_in_no_target, binds_nothing)
+pub ruleset reads = (
+  visit_named,
+  visit_unnamed,
+  visit_pat,
+  visit_type,
+  adds_target,
+  adds_no_name,
+  adds_no_pat,
+  adds_in_no_target,
+  binds_nothing,
+)

@@ -6,6 +6,8 @@ pub mod Usages
 pub mod Groups
 -- the names that are visible along a chain
 pub mod Visible
+-- the labels along a chain
+pub mod Labels
 -- the body in which a binding has a new name
 pub mod Renamed
 -- what a use resolves to after a rename, and the first fault

@@ -1,5 +1,4 @@
 -- What only contracts within this crate cite: how its code goes on, step by step.
-pub mod Marks
 pub mod Pending
 pub mod Reading
 pub mod RenamedUses

@@ -8,8 +8,8 @@ ghost use Rattle.hir_usages.specs.declared.usage.Usage.{Usage};
 ghost use Rattle.hir_usages.specs.Groups.{AreGroups, or_none};
 ghost use Rattle.std.specs.FinMap as map;
 
-use crate::distinct::DistinctBindings;
 use crate::usage::Usage;
+use hir_captures::DistinctBindings;
 use hir_collections::{ArenaMap, Seq};
 use hir_node::{BindingId, BindingKind};
 use std::alloc::{AllocError, Global};

@@ -2,9 +2,9 @@
 //! nothing uses, what is visible in a scope, and which uses change when a binding is renamed.
 #![tactic(auto)]
 
-mod distinct;
 mod found;
 mod groups;
+mod labels;
 pub mod laws;
 mod lookup;
 mod rename_fault;
@@ -17,6 +17,7 @@ mod usages;
 mod visible;
 mod walk;
 
+pub use labels::labels_at;
 pub use rename_fault::RenameFault;
 pub use renamed_body::renamed;
 pub use renames::rename;

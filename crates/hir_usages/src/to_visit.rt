@@ -2,15 +2,14 @@
 #![tactic(auto, using(hir_node::proofs::RunLemmas::freely))]
 
 ghost use Rattle.std.specs.Prelude.{◌≡◌, [], ◌∷◌, ◌++◌, OnOk};
-ghost use Rattle.hir_node.specs.ChildCalls.{pat_calls, type_calls};
 ghost use Rattle.hir_collections.specs.Stacks.{Defers};
-ghost use Rattle.hir_scope.specs.ScopingForms.{expr_form};
+ghost use Rattle.hir_scope.specs.ScopingForms.{form_model};
 ghost use Rattle.hir_scope.specs.Order.{met_in_form};
 ghost use Rattle.hir_usages.specs.internal.Pending.{task_of, tasks_of};
 
 use hir_collections::Stack;
-use hir_node::{Expr, ExprId, LifetimeRefId, Pat, PatId, StoreVisitor, TypeRef, TypeRefId};
-use hir_scope::visit_in_scope_order;
+use hir_node::{ExprId, LifetimeRefId, PatId, StoreVisitor, TypeRefId};
+use hir_scope::{Form, visit_form};
 use std::alloc::{AllocError, Global};
 
 /// A node that is still to be visited.
@@ -73,48 +72,19 @@ impl ToVisit {
         }
     }
 
-    /// Pushes the children of an expression, the first on top. Its patterns are in the target of this
+    /// Pushes the children of a node of this form, the first on top. Its patterns are in the target of this
     /// assignment, or in none.
-    pub(crate) fn push_expr(
+    pub(crate) fn push_in(
         &mut self,
-        expr: &Expr,
+        form: &Form<'_>,
         assignment: Option<ExprId>,
     ) -> Result<(), AllocError>
         ensures { OnOk result (self.new.stack.items
-            ≡ tasks_of assignment (met_in_form (expr_form expr.now)) ++ self.old.stack.items) }
+            ≡ tasks_of assignment (met_in_form (form_model form.now)) ++ self.old.stack.items) }
     {
         let below = self.stack.len();
         self.assignment = assignment;
-        visit_in_scope_order(expr, self);
-        self.stack.push_deferred(below)?;
-        Ok(())
-    }
-
-    /// Pushes the children of a pattern, the first on top. It is in the target of this assignment, or in
-    /// none.
-    pub(crate) fn push_pat(
-        &mut self,
-        pat: &Pat,
-        assignment: Option<ExprId>,
-    ) -> Result<(), AllocError>
-        ensures { OnOk result (self.new.stack.items
-            ≡ tasks_of assignment (pat_calls pat.now) ++ self.old.stack.items) }
-    {
-        let below = self.stack.len();
-        self.assignment = assignment;
-        pat.visit_children(self);
-        self.stack.push_deferred(below)?;
-        Ok(())
-    }
-
-    /// Pushes the children of a type, the first on top.
-    pub(crate) fn push_type(&mut self, type_ref: &TypeRef) -> Result<(), AllocError>
-        ensures { OnOk result (self.new.stack.items
-            ≡ tasks_of None (type_calls type_ref.now) ++ self.old.stack.items) }
-    {
-        let below = self.stack.len();
-        self.assignment = None;
-        type_ref.visit_children(self);
+        visit_form(form, self);
         self.stack.push_deferred(below)?;
         Ok(())
     }

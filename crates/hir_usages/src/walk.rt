@@ -4,7 +4,6 @@
 ghost use Rattle.std.specs.Prelude.{◌≡◌, ◌<◌, ◌∷◌, ◌++◌, length, option_map, Some, OnOk};
 ghost use Rattle.hir_node.specs.declared.node_id.NodeId.TheVariants as node;
 ghost use Rattle.hir_scope.specs.PathResolution.{resolve_path};
-ghost use Rattle.hir_captures.specs.Uses.{if_assignment};
 ghost use Rattle.hir_usages.specs.Renames.{name_of_expr};
 ghost use Rattle.hir_usages.specs.Usages.{bound_at};
 ghost use Rattle.hir_usages.specs.internal.Wanted.{if_wanted, is_wanted, usage_of_expr, wanted_at};
@@ -16,8 +15,9 @@ use crate::lookup::binding_in_scope;
 use crate::to_visit::{Task, ToVisit};
 use crate::usage::Usage;
 use hir_base::HygieneId;
+use hir_captures::if_assignment;
 use hir_node::{BindingId, Expr, ExprId, ExprOrPatId, Pat, PatId, TypeRefId};
-use hir_scope::{ExprScopes, local_name};
+use hir_scope::{ExprScopes, Form, local_name};
 use hir_store_core::ExpressionStore;
 use hir_store_core::laws::rank_decreases;
 use std::alloc::AllocError;
@@ -38,16 +38,6 @@ pub(crate) struct Walk<'a> {
     pub(crate) store: &'a ExpressionStore,
     pub(crate) scopes: &'a ExprScopes,
     pub(crate) wanted: Wanted<'a>,
-}
-
-/// The assignment in whose target the patterns of an expression are: itself, where it is one.
-fn if_assignment(id: ExprId, expr: &Expr) -> Option<ExprId>
-    ensures { result ≡ if_assignment id (Some expr.now) }
-{
-    if let Expr::Assignment { .. } = expr {
-        return Some(id);
-    }
-    None
 }
 
 /// Returns the name that an expression asks for, where it is a path that may name a local variable.
@@ -180,7 +170,8 @@ impl<'a> Walk<'a> {
             self.add_expr(found, id, name)?;
             return Ok(());
         }
-        unread.push_expr(expr, if_assignment(id, expr))?;
+        let form = Form::of_expr(expr);
+        unread.push_in(&form, if_assignment(id, expr))?;
         Ok(())
     }
 
@@ -204,7 +195,8 @@ impl<'a> Walk<'a> {
         let target = assignment;
         self.add_target(found, id, assignment)?;
         self.add_bound(found, id)?;
-        unread.push_pat(&self.store[id], target)?;
+        let form = Form::of_pat(&self.store[id]);
+        unread.push_in(&form, target)?;
         Ok(())
     }
 
@@ -221,7 +213,8 @@ impl<'a> Walk<'a> {
     {
         self.store.has_no_fault();
         rank_decreases();
-        unread.push_type(&self.store[id])?;
+        let form = Form::of_type(&self.store[id]);
+        unread.push_in(&form, None)?;
         Ok(())
     }
 

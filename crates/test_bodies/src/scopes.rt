@@ -8,6 +8,7 @@ use hir_error::HirError;
 use hir_make::{bind, body, closure, local};
 use hir_scope::{ExprScopes, ScopeId, ScopesFault};
 use hir_store::ExpressionStoreBuilder;
+use hir_store_core::ExpressionStore;
 use std::alloc::Global;
 use std::mem::size_of;
 use std::test::Fail;
@@ -124,6 +125,47 @@ fn chains_maps_and_entries(rt: HostRuntime) -> Result<(), Fail> {
     std::mem::drop(scopes);
     std::mem::drop(body);
     assert!(&rt; are_asked == [true; 6]);
+    Ok(())
+}
+
+/// The store of two roots, each `|x| a`: the expressions 0 and 1, and then 2 and 3.
+fn two_roots(alloc: Global) -> Result<ExpressionStore, HirError> {
+    let mut builder = ExpressionStoreBuilder::new(alloc);
+    for _ in 0..2 {
+        let x = bind(alloc, &mut builder, "x")?;
+        let value = local(alloc, &mut builder, "a")?;
+        let root = closure(alloc, &mut builder, &[x], value)?;
+        builder.push_root(root)?;
+    }
+    let (store, _sources) = builder.finish()?;
+    Ok(store)
+}
+
+/// Whether the scopes of the first root, its own and that of its closure, come before those of the second.
+fn are_numbered_root_by_root(scopes: &ExprScopes) -> bool {
+    let found = [
+        scopes.scope_for(Idx::from_raw(1)),
+        scopes.scope_for(Idx::from_raw(0)),
+        scopes.scope_for(Idx::from_raw(3)),
+        scopes.scope_for(Idx::from_raw(2)),
+    ];
+    let [first, inner, second, last] = [
+        ScopeId::from_raw(1),
+        ScopeId::from_raw(2),
+        ScopeId::from_raw(3),
+        ScopeId::from_raw(4),
+    ];
+    found == [Some(first), Some(inner), Some(second), Some(last)]
+}
+
+#[test]
+fn roots_are_numbered_one_by_one(rt: HostRuntime) -> Result<(), Fail> {
+    let store = Box::new(rt.alloc(), two_roots(rt.alloc())?)?;
+    let scopes = opened(rt.alloc(), ExprScopes::new_store(rt.alloc(), &store))?;
+    let are_numbered = are_numbered_root_by_root(&scopes);
+    std::mem::drop(scopes);
+    std::mem::drop(store);
+    assert!(&rt; are_numbered);
     Ok(())
 }
 

@@ -1,7 +1,7 @@
 -- The first state of the walk over a body or a signature: its scopes and its tasks. Only contracts within
 -- this crate cite it.
-use Rattle.hir_scope.specs.Prelude.{flat_map, ℕ, suc, List, [], Some, None, Contains, IfSome, length, slice_get, replicate, ExprId, PatId, e, p, opt, NodeId, Pat, root_nodes, RankDecreases, Nodes, Has, children_of, IsSoundNode, tested_pat, Contents, bindings_at, bindings_in, child_pats_of, nodes_under, BodyContents, AreBelow, formals_of, last_root, entry_nodes, root_entry_nodes}
-use Rattle.std.specs.FinMap as map
+use Rattle.hir_scope.specs.Prelude.{flat_map, List, [], Some, None, Contains, IfSome, length, map, slice_get, ExprId, PatId, e, p, opt, NodeId, Pat, root_nodes, RankDecreases, Nodes, Has, children_of, IsSoundNode, tested_pat, Contents, bindings_at, bindings_in, child_pats_of, nodes_under, BodyContents, AreBelow, formals_of, last_root, entry_nodes, root_entry_nodes}
+use Rattle.std.specs.FinMap as finmap
 use Rattle.std.specs.Prelude.{◌≡◌, ◌<◌, ◌∷◌, ◌++◌, option_map}
 use Rattle.hir_scope.specs.Scopes.{Scope, Scopes}
 use Rattle.hir_scope.specs.EntryNodes.{root_frame}
@@ -10,7 +10,7 @@ use Rattle.hir_scope.specs.declared.scope.ScopeKind.{ScopeKind}
 use Rattle.hir_scope.specs.declared.tasks.CurrentScopes.{CurrentScopes}
 use Rattle.hir_scope.specs.declared.tasks.Task.{Task}
 use Rattle.hir_scope.specs.internal.WalkState.{WalkState}
-use Rattle.hir_scope.specs.internal.Pending.{tasks_of}
+use Rattle.hir_scope.specs.internal.Pending.{both, tasks_of}
 
 -- 1. What theorems say of nodes without a fault, where a walk over them needs it
 
@@ -34,11 +34,11 @@ pub record IsSoundBody (b : BodyContents) : Type 0 where
 
 -- the first scope is current, also for constants
 abbrev pub at_first : CurrentScopes
-at_first = record { scope = 0; const_scope = 0 }
+at_first = both 0
 
 -- scopes of which no expression has one yet
 abbrev pub for_none : List Scope → Scopes
-for_none scopes = record { scopes = scopes; scope_by_expr = map.empty }
+for_none scopes = record { scopes = scopes; scope_by_expr = finmap.empty }
 
 -- the entries that the root scope of a body binds
 abbrev pub root_entries : BodyContents → List ScopeEntry
@@ -59,29 +59,16 @@ body_begins b = record {
   tasks = tasks_of (flat_map p (formals_of b.params) ++ opt e (last_root b.store));
 }
 
--- the root scope of a signature, and the scope of a root in it
+-- the root scope of a signature
 abbrev pub signature_root : Scope
 signature_root = record { parent = None; kind = ScopeKind.None; entries = [] }
 
-abbrev pub scope_in_root : Scope
-scope_in_root = record { parent = Some 0; kind = ScopeKind.None; entries = [] }
-
--- this many scopes within the root scope
-abbrev pub scopes_in_root : ℕ → List Scope
-scopes_in_root n = signature_root ∷ replicate n scope_in_root
-
--- the tasks of roots, each in a scope of its own: the last root in the first of these scopes
-abbrev pub root_tasks : List ExprId → List Task
-root_tasks [] = []
-root_tasks (root ∷ roots) =
-    Task.Leave (suc (length roots)) (suc (length roots)) ∷ Task.Expr root ∷ root_tasks roots
-
--- the first state over a signature, of which these are the roots to visit
+-- the first state over a signature, of which these are the roots to visit: the root scope, then these as tasks
 abbrev pub roots_begin : List ExprId → WalkState
 roots_begin roots = record {
-  scopes = for_none (scopes_in_root (length roots));
+  scopes = for_none (signature_root ∷ []);
   current = at_first;
-  tasks = root_tasks roots;
+  tasks = map Task.Root roots;
 }
 
 abbrev pub signature_begins : Contents → WalkState

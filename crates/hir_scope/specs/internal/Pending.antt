@@ -54,6 +54,10 @@ one_arm arm = arm_task arm ∷ []
 abbrev pub arm_with : PatId → ExprId → Option ExprId → MatchArm
 arm_with pat expr guard = record { pat = pat; guard = guard; expr = expr }
 
+-- one scope around what is visited next, and around the constants in it
+abbrev pub both : ScopeId → CurrentScopes
+both scope = record { scope = scope; const_scope = scope }
+
 abbrev pub leave : CurrentScopes → Task
 leave current = Task.Leave current.scope current.const_scope
 
@@ -117,6 +121,10 @@ future s chain scope const_scope (Task.GuardedArm pat guard expr ∷ rest) =
 future s chain scope const_scope (Task.MacroDef id ∷ rest) =
     future s chain (of_kind (ScopeKind.MacroDef id) ∷ scope)
     (of_kind (ScopeKind.MacroDef id) ∷ const_scope) rest
+future s chain scope const_scope (Task.Root id ∷ rest) =
+    let outer = empty ∷ chain 0 in
+    exprs_at s (NodeId.Expr id) outer outer
+    ++ future s chain (open_frames s (NodeId.Expr id) ++ outer) outer rest
 future s chain scope const_scope (Task.Leave outer outer_const ∷ rest) =
     future s chain (chain outer) (chain outer_const) rest
 
@@ -130,6 +138,7 @@ task_children (Task.Bound id) = NodeId.Pat id ∷ []
 task_children (Task.Arm pat expr) = children (met_in_arm (arm_with pat expr None))
 task_children (Task.GuardedArm pat guard expr) = children (met_in_arm (arm_with pat expr (Some guard)))
 task_children (Task.MacroDef id) = []
+task_children (Task.Root id) = NodeId.Expr id ∷ []
 task_children (Task.Leave outer outer_const) = []
 
 -- the frames that a task opens itself
@@ -138,4 +147,5 @@ task_frames s (Task.Bound id) = frame s (id ∷ []) ∷ []
 task_frames s (Task.Arm pat expr) = frame s (pat ∷ []) ∷ []
 task_frames s (Task.GuardedArm pat guard expr) = frame s (pat ∷ []) ∷ []
 task_frames s (Task.MacroDef id) = of_kind (ScopeKind.MacroDef id) ∷ of_kind (ScopeKind.MacroDef id) ∷ []
+task_frames s (Task.Root id) = empty ∷ []
 task_frames s t = []

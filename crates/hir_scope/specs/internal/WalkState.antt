@@ -51,9 +51,10 @@ future_of s m = future s (chain_of m.scopes.scopes) (frames_of_scope m) (frames_
 abbrev pub about : List Task → List NodeId
 about tasks = flat_map task_children tasks
 
--- the scopes that `Leave` tasks restore exist
+-- the scopes that tasks restore exist: a root begins in the first
 abbrev pub LeavesWithin : ℕ → List Task → Type 0
 LeavesWithin n [] = ⊤
+LeavesWithin n (Task.Root root ∷ rest) = (0 < n) × LeavesWithin n rest
 LeavesWithin n (Task.Leave outer outer_const ∷ rest) =
     (outer < n) × (outer_const < n) × LeavesWithin n rest
 LeavesWithin n (t ∷ rest) = LeavesWithin n rest
@@ -127,6 +128,7 @@ task_turns (Task.Bound id) = 1
 task_turns (Task.Arm pat expr) = 2
 task_turns (Task.GuardedArm pat guard expr) = 2
 task_turns (Task.MacroDef id) = 1
+task_turns (Task.Root root) = 1
 task_turns (Task.Leave outer outer_const) = 1
 
 abbrev pub node_turns : Nodes → NodeId → ℕ
@@ -142,16 +144,21 @@ pub record HasFrames (scopes : List Scope) (scope : ScopeId) (frames : Chain) : 
   pub within : scope < length scopes
   pub is : chain_of scopes scope ≡ frames
 
--- scopes were opened over the current scope, and over that of constants
-pub record OpensScopes (old new : WalkState) (opened const_frames : Chain) : Type 0 where
+-- a scope for each of these frames was made, and the current scope, and that around constants, are within
+-- those of before by these frames
+pub record Opens (old new : WalkState) (made : List Frame) (opened const_frames : Chain) : Type 0 where
   pub more : List Scope
   pub grows : new.scopes.scopes ≡ old.scopes.scopes ++ more
   pub same : new.scopes.scope_by_expr ≡ old.scopes.scope_by_expr
   pub tasks : new.tasks ≡ old.tasks
-  pub frames : (w : Frame → ℕ) → sum_by w (map frame_of more) ≡ sum_by w (opened ++ const_frames)
+  pub frames : (w : Frame → ℕ) → sum_by w (map frame_of more) ≡ sum_by w made
   pub scope : HasFrames new.scopes.scopes new.current.scope (opened ++ frames_of_scope old)
   pub const_scope : HasFrames new.scopes.scopes new.current.const_scope
       (const_frames ++ frames_of_const_scope old)
+
+-- scopes were opened over the current scope, and over that of constants
+abbrev pub OpensScopes : WalkState → WalkState → Chain → Chain → Type 0
+OpensScopes old new opened const_frames = Opens old new (opened ++ const_frames) opened const_frames
 
 -- a step from one state to another, which visits the expressions in these contexts
 pub record Step (s : Nodes) (old new : WalkState) (met : List InContext) : Type 0 where

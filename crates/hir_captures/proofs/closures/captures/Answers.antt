@@ -14,5 +14,6 @@ returns-clause-captures c =
     let are = chains_are b scopes c.requires.reached c.requires.chains in
     ok_both c.captures_by_length.result (λ found. IsReachedClosure b c.args.closure)
     (λ found. found.items ≡ captures_by (chain_in scopes) b.store c.args.closure) (λ found. AreCaptures b c.args.closure found.items)
-    (λ found is by. (c.lengths_decide_captures.ensures b sound c.has_no_fault.ensures c.args.closure is (chain_in scopes) are found.items).1 by)
+    (λ found is by. (c.lengths_decide_captures.ensures b sound c.has_no_fault.ensures c.args.closure is
+    (chain_in scopes) are found.items).1 by)
     c.captures_by_length.ensures.closure c.captures_by_length.ensures.captures

@@ -14,7 +14,9 @@ returns c = λ b sound accepted closure is chain are xs.
     let one = c.a_reached_node_has_one_chain.ensures.bodies b sound accepted in
     let each = all_by_length b.store all from fall go one closure is.0 is.1 chain are in (
       λ p. p.are
-          ∙ ap (λ (found : List ℕ). each_once found) (one_list b.store all from fall go one closure is.0 is.1 p.chain chain p.are_chains are p.captured (captured_binding chain closure) p.each each),
+          ∙ ap (λ (found : List ℕ). each_once found)
+          (one_list b.store all from fall go one closure is.0 is.1 p.chain chain p.are_chains are p.captured
+          (captured_binding chain closure) p.each each),
       λ e. record {
         chain = chain;
         are_chains = are;

@@ -5,4 +5,6 @@ use Rattle.hir_scope.specs.Frames.{binds}
 use Rattle.hir_scope.proofs.constructors.add_formals.Given as goal
 
 abbrev pub invariant-loop-param : goal.invariant-loop-param
-invariant-loop-param l = l.entries.items ≡ l.initial.entries.items ++ flat_map (binds l.store.nodes) (formals_of (take l.param-index l.params))
+invariant-loop-param l =
+    l.entries.items ≡ l.initial.entries.items ++ flat_map (binds l.store.nodes)
+    (formals_of (take l.param-index l.params))

@@ -9,6 +9,11 @@ returns-then-not-has_binding-clause-ok c =
     let es = c.args.entries.now.items in
     let bindings = c.args.store.now.nodes.bindings in
     let id = c.args.id in
-    let past : length bindings ≤ id = elim (cases_lt id (length bindings)) [ inl in_range ↦ absurd (false≢true (sym c.if-not-has_binding.true ∙ c.has_binding.ensures.1 in_range)) | inr past ↦ past ] in
+    let past : length bindings ≤ id =
+    elim (cases_lt id (length bindings)) [
+      | inl in_range ↦ absurd
+          (false≢true (sym c.if-not-has_binding.true ∙ c.has_binding.ensures.1 in_range))
+      | inr past ↦ past
+    ] in
     let none = ap (all_of (λ b. entry_of id b ∷ [])) (slice_get_past bindings id past) in
     sym (ap (λ (xs : List ScopeEntry). es ++ xs) none ∙ append-nil es)

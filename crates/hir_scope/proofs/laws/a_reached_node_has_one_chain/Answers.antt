@@ -10,9 +10,11 @@ use Rattle.hir_scope.proofs.laws.a_reached_node_has_one_chain.Goals as goal
 pub returns-clause-bodies : goal.returns-clause-bodies
 returns-clause-bodies c = λ b sound accepted expr x y h k.
     let s = b.store.nodes in
-    let in_range = contexts_in_range s (entry_nodes_of_body b) (entry_nodes b) (body_same b) (c.entry_nodes_are_in_range.ensures b sound accepted) in
+    let in_range = contexts_in_range s (entry_nodes_of_body b) (entry_nodes b) (body_same b)
+    (c.entry_nodes_are_in_range.ensures b sound accepted) in
     let apart = subst (AreDisjoint s) (sym (body_same b)) (c.entry_nodes_are_disjoint.ensures b sound accepted) in
-    one_chain s (c.rank_decreases.ensures b.store sound) (c.one_parent.ensures b.store sound) (c.children_are_disjoint.ensures b.store sound) (entry_nodes_of_body b) in_range apart expr x y h k
+    one_chain s (c.rank_decreases.ensures b.store sound) (c.one_parent.ensures b.store sound)
+    (c.children_are_disjoint.ensures b.store sound) (entry_nodes_of_body b) in_range apart expr x y h k
 
 pub returns-clause-signatures : goal.returns-clause-signatures
 returns-clause-signatures c = λ b sound expr x y h k.
@@ -20,4 +22,5 @@ returns-clause-signatures c = λ b sound expr x y h k.
     let all = roots_in_range b (c.roots_stand_apart.ensures b sound) in
     let in_range = contexts_in_range s (entry_nodes_of_signature b) (root_entry_nodes b) (signature_same b) all in
     let apart = subst (AreDisjoint s) (sym (signature_same b)) (c.roots_are_disjoint.ensures b sound) in
-    one_chain s (c.rank_decreases.ensures b sound) (c.one_parent.ensures b sound) (c.children_are_disjoint.ensures b sound) (entry_nodes_of_signature b) in_range apart expr x y h k
+    one_chain s (c.rank_decreases.ensures b sound) (c.one_parent.ensures b sound)
+    (c.children_are_disjoint.ensures b sound) (entry_nodes_of_signature b) in_range apart expr x y h k

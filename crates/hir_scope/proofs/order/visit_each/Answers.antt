@@ -6,11 +6,13 @@ loop-item-init g c = going_from c.requires
 
 pub visit-requires : goal.visit-requires
 visit-requires g c =
-    may_item g.T.Visit.calls c.args.items.now c.loop-item.item-index c.item-item.result c.loop-item-test.true c.item-item.is c.loop-item.invariant
+    may_item g.T.Visit.calls c.args.items.now c.loop-item.item-index c.item-item.result c.loop-item-test.true
+    c.item-item.is c.loop-item.invariant
 
 pub loop-item-preserved : goal.loop-item-preserved
 loop-item-preserved g c =
-    going_item g.T.Visit.calls c.args.items.now c.loop-item.item-index c.item-item.result c.loop-item-test.true c.item-item.is c.loop-item.invariant c.visit.ensures
+    going_item g.T.Visit.calls c.args.items.now c.loop-item.item-index c.item-item.result c.loop-item-test.true
+    c.item-item.is c.loop-item.invariant c.visit.ensures
 
 pub returns : goal.returns
 returns g c = going_over g.T.Visit.calls c.args.items.now c.loop-item.item-index c.loop-item-test.false c.loop-item.invariant

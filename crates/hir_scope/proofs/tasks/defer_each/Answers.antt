@@ -6,7 +6,8 @@ loop-item-init g c = going_from (may_freely _)
 
 pub loop-item-preserved : goal.loop-item-preserved
 loop-item-preserved g c =
-    going_item g.T.Brings.tasks c.args.items.now c.loop-item.item-index c.item-item.result c.loop-item-test.true c.item-item.is c.loop-item.invariant c.defer.ensures
+    going_item g.T.Brings.tasks c.args.items.now c.loop-item.item-index c.item-item.result c.loop-item-test.true
+    c.item-item.is c.loop-item.invariant c.defer.ensures
 
 pub returns : goal.returns
 returns g c = going_over g.T.Brings.tasks c.args.items.now c.loop-item.item-index c.loop-item-test.false c.loop-item.invariant

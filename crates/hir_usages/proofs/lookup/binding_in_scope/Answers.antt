@@ -7,7 +7,9 @@ returns-in-Some-find_entry c =
     let scopes = c.args.scopes.now.scopes in
     let found = found_in scopes c.args.name.now c.args.hygiene in
     let inv = subst (λ (o : Option ℕ). found o ≡ found (Some c.args.scope)) c.in-Some.is c.loop-current.invariant.1 in
-    sym (found_first scopes c.args.name.now c.args.hygiene c.in-Some.inner c.parent-outer.result c.entries.result.now (c.a_chain_goes_outward.ensures.step scopes c.parent-outer.ensures.parents) c.parent-outer.ensures.is c.entries.ensures
+    sym (found_first scopes c.args.name.now c.args.hygiene c.in-Some.inner c.parent-outer.result c.entries.result.now
+    (c.a_chain_goes_outward.ensures.step scopes c.parent-outer.ensures.parents) c.parent-outer.ensures.is
+    c.entries.ensures
     c.in-Some-find_entry.found (sym c.in-Some-find_entry.ensures)) ∙ inv
 
 pub loop-current-preserved : goal.loop-current-preserved
@@ -15,5 +17,7 @@ loop-current-preserved c =
     let scopes = c.args.scopes.now.scopes in
     let found = found_in scopes c.args.name.now c.args.hygiene in
     let inv = subst (λ (o : Option ℕ). found o ≡ found (Some c.args.scope)) c.in-Some.is c.loop-current.invariant.1 in
-    let passed = found_outside scopes c.args.name.now c.args.hygiene c.in-Some.inner c.parent-outer.result c.entries.result.now (c.a_chain_goes_outward.ensures.step scopes c.parent-outer.ensures.parents) c.parent-outer.ensures.is c.entries.ensures (sym c.in_default-find_entry.ensures) in
+    let passed = found_outside scopes c.args.name.now c.args.hygiene c.in-Some.inner c.parent-outer.result
+    c.entries.result.now (c.a_chain_goes_outward.ensures.step scopes c.parent-outer.ensures.parents)
+    c.parent-outer.ensures.is c.entries.ensures (sym c.in_default-find_entry.ensures) in
     (c.parent-outer.ensures.in_range, passed ∙ inv)

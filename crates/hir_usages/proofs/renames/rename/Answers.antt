@@ -6,7 +6,8 @@ pub returns-in-Ok-clause-accepted : goal.returns-in-Ok-clause-accepted
 returns-in-Ok-clause-accepted c =
     let b = c.args.body.now in
     let sound = subst (λ (x : Contents). contents_fault x None) c.store.ensures c.has_no_fault.ensures in
-    λ are. (c.renames_are_exact.ensures.accepted b sound c.has_no_fault-2.ensures c.args.scopes.now are c.args.binding c.args.name.now).0 c.in-Ok.ensures.ok
+    λ are. (c.renames_are_exact.ensures.accepted b sound c.has_no_fault-2.ensures c.args.scopes.now are c.args.binding
+    c.args.name.now).0 c.in-Ok.ensures.ok
 
 pub returns-in-Err-clause-refused : goal.returns-in-Err-clause-refused
 returns-in-Err-clause-refused c =
@@ -18,7 +19,8 @@ returns-in-Err-clause-refused c =
       | inr is ↦ inr (λ are. (
         c.renames_are_exact.ensures.refused b sound c.has_no_fault-2.ensures c.args.scopes.now are c.args.binding c.args.name.now fault is,
         λ may.
-            let none = (c.renames_are_exact.ensures.accepted b sound c.has_no_fault-2.ensures c.args.scopes.now are c.args.binding c.args.name.now).1 may in
+            let none = (c.renames_are_exact.ensures.accepted b sound c.has_no_fault-2.ensures c.args.scopes.now are
+            c.args.binding c.args.name.now).1 may in
             let lie : None ≡ Some fault = sym none ∙ is in
             absurd cc,
       ))

@@ -8,16 +8,21 @@ use Rattle.hir_usages.proofs.usages.find.Goals as goal
 
 pub run-requires : goal.run-requires
 run-requires c = record {
-  in_range = subst (λ (x : Contents). AreInRange x.nodes c.in_ok-unread.unread.stack.items) (sym c.requires) c.in_ok-unread.ensures.in_range;
+  in_range = subst (λ (x : Contents). AreInRange x.nodes c.in_ok-unread.unread.stack.items)
+      (sym c.requires) c.in_ok-unread.ensures.in_range;
 }
 
 pub returns-clause-usages : goal.returns-clause-usages
 returns-clause-usages c =
-    all_usages c.args.body.now c.args.walk.now c.requires (lists_of c.in_ok-found.found) (lists_of c.run.new.found) c.in_ok-unread.unread.stack.items
+    all_usages c.args.body.now c.args.walk.now c.requires (lists_of c.in_ok-found.found)
+    (lists_of c.run.new.found) c.in_ok-unread.unread.stack.items
     c.in_ok-unread.ensures.ahead c.in_ok-run.ensures c.in_ok-found.ensures.usages
 
 pub returns-clause-bound : goal.returns-clause-bound
 returns-clause-bound c =
-    all_bound c.args.body.now c.args.walk.now c.requires (lists_of c.in_ok-found.found) (lists_of c.run.new.found) c.in_ok-unread.unread.stack.items
+    all_bound c.args.body.now c.args.walk.now c.requires (lists_of c.in_ok-found.found)
+    (lists_of c.run.new.found) c.in_ok-unread.unread.stack.items
     c.in_ok-unread.ensures.ahead c.in_ok-run.ensures
-    (c.in_ok-found.ensures.bound ∙ ap (λ (o : Option (Param ℕ)). option_to_list (option_map (λ (p : Param ℕ). p.formal) o)) c.self_param.ensures.self_param)
+    (c.in_ok-found.ensures.bound
+    ∙ ap (λ (o : Option (Param ℕ)). option_to_list (option_map (λ (p : Param ℕ). p.formal) o))
+    c.self_param.ensures.self_param)

@@ -23,4 +23,6 @@ returns-clause-in_range c =
     let items : c.push_formals.new.unread.stack.items ≡ first_tasks (formals_of b.params) root =
     c.in_ok-push_formals.ensures ∙ (λ i. map Task.Pat (formals_of (c.params.ensures.params i)) ++ one i) in
     let sound = subst (λ (x : Contents). contents_fault x None) c.store.ensures c.has_no_fault.ensures in
-    subst (AreInRange b.store.nodes) (sym items) (first_in_range b root c.root_expr-root.ensures.last (c.entry_nodes_are_in_range.ensures b sound c.has_no_fault-2.ensures))
+    subst (AreInRange b.store.nodes) (sym items)
+    (first_in_range b root c.root_expr-root.ensures.last
+    (c.entry_nodes_are_in_range.ensures b sound c.has_no_fault-2.ensures))

@@ -9,7 +9,8 @@ slice_bounds-result-count c =
     let es = c.self.inside.entries.items in
     let rows = c.self.inside.scopes.items in
     let row = c.index-data.result.now in
-    let in_range = row_seen es rows c.self.inside.scope_by_expr c.args.self.now c.args.scope c.into_raw.result row c.self.view_is c.requires c.into_raw.ensures c.index-data.ensures in
+    let in_range = row_seen es rows c.self.inside.scope_by_expr c.args.self.now c.args.scope c.into_raw.result row
+    c.self.view_is c.requires c.into_raw.ensures c.index-data.ensures in
     (range_at 0 rows (length es) c.into_raw.result row c.self.invariant.fill in_range).0
 
 pub slice_bounds-result-start : goal.slice_bounds-result-start
@@ -17,7 +18,8 @@ slice_bounds-result-start c =
     let es = c.self.inside.entries.items in
     let rows = c.self.inside.scopes.items in
     let row = c.index-data.result.now in
-    let in_range = row_seen es rows c.self.inside.scope_by_expr c.args.self.now c.args.scope c.into_raw.result row c.self.view_is c.requires c.into_raw.ensures c.index-data.ensures in
+    let in_range = row_seen es rows c.self.inside.scope_by_expr c.args.self.now c.args.scope c.into_raw.result row
+    c.self.view_is c.requires c.into_raw.ensures c.index-data.ensures in
     (range_at 0 rows (length es) c.into_raw.result row c.self.invariant.fill in_range).0
 
 pub slice_bounds-result-end : goal.slice_bounds-result-end
@@ -25,7 +27,8 @@ slice_bounds-result-end c =
     let es = c.self.inside.entries.items in
     let rows = c.self.inside.scopes.items in
     let row = c.index-data.result.now in
-    let in_range = row_seen es rows c.self.inside.scope_by_expr c.args.self.now c.args.scope c.into_raw.result row c.self.view_is c.requires c.into_raw.ensures c.index-data.ensures in
+    let in_range = row_seen es rows c.self.inside.scope_by_expr c.args.self.now c.args.scope c.into_raw.result row
+    c.self.view_is c.requires c.into_raw.ensures c.index-data.ensures in
     rw c.deref.ensures.value ((range_at 0 rows (length es) c.into_raw.result row c.self.invariant.fill in_range).1)
 
 pub returns : goal.returns
@@ -33,6 +36,7 @@ returns c =
     let es = c.self.inside.entries.items in
     let rows = c.self.inside.scopes.items in
     let row = c.index-data.result.now in
-    let in_range = row_seen es rows c.self.inside.scope_by_expr c.args.self.now c.args.scope c.into_raw.result row c.self.view_is c.requires c.into_raw.ensures c.index-data.ensures in
+    let in_range = row_seen es rows c.self.inside.scope_by_expr c.args.self.now c.args.scope c.into_raw.result row
+    c.self.view_is c.requires c.into_raw.ensures c.index-data.ensures in
     let seen = scope_seen es rows c.into_raw.result row in_range in
     rw (← c.self.view_is, ← c.into_raw.ensures, c.deref.ensures.value) (ap (option_map (λ (s : Scope). s.entries)) seen)

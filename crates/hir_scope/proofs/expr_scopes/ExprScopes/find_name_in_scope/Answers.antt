@@ -8,11 +8,13 @@ loop-current-init c = set_out c.args.self.now.scopes c.args.scope c.args.name.no
 pub returns-in-Some-find_entry-clause-found : goal.returns-in-Some-find_entry-clause-found
 returns-in-Some-find_entry-clause-found c =
     let way = OnTheWay c.args.self.now.scopes c.args.scope c.args.name.now c.args.hygiene in
-    found_here c.args.self.now.scopes c.args.scope c.args.name.now c.args.hygiene c.in-Some.inner (subst way c.in-Some.is c.loop-current.invariant) c.entries.result.now c.entries.ensures
+    found_here c.args.self.now.scopes c.args.scope c.args.name.now c.args.hygiene c.in-Some.inner
+    (subst way c.in-Some.is c.loop-current.invariant) c.entries.result.now c.entries.ensures
     c.in-Some-find_entry.entry.now (sym c.in-Some-find_entry.ensures)
 
 pub loop-current-preserved : goal.loop-current-preserved
 loop-current-preserved c =
     let way = OnTheWay c.args.self.now.scopes c.args.scope c.args.name.now c.args.hygiene in
-    go_outward c.args.self.now.scopes c.args.scope c.args.name.now c.args.hygiene c.in-Some.inner (subst way c.in-Some.is c.loop-current.invariant) c.entries.result.now c.entries.ensures
+    go_outward c.args.self.now.scopes c.args.scope c.args.name.now c.args.hygiene c.in-Some.inner
+    (subst way c.in-Some.is c.loop-current.invariant) c.entries.result.now c.entries.ensures
     c.parent-outer.result c.parent-outer.ensures.parents c.parent-outer.ensures.is (sym c.in_default-find_entry.ensures)

@@ -33,9 +33,11 @@ returns-in_err-run-clause-full c = λ h.
 pub returns-clause-scopes : goal.returns-clause-scopes
 returns-clause-scopes c =
     let walk = c.in_ok-walk in
-    body_made c.args.body.now c.is_sound_body.ensures _ c.store.ensures (state walk.walk) walk.ensures.ok (walk_state c.run.new.self []) _ _ c.in_ok-run.ensures.gone refl
+    body_made c.args.body.now c.is_sound_body.ensures _ c.store.ensures (state walk.walk) walk.ensures.ok
+    (walk_state c.run.new.self []) _ _ c.in_ok-run.ensures.gone refl
 
 pub returns-clause-once : goal.returns-clause-once
 returns-clause-once c =
     let walk = c.in_ok-walk in
-    body_ticks c.args.body.now c.is_sound_body.ensures _ c.store.ensures (state walk.walk) walk.ensures.ok (walk_state c.run.new.self []) _ _ c.in_ok-run.ensures.gone refl
+    body_ticks c.args.body.now c.is_sound_body.ensures _ c.store.ensures (state walk.walk) walk.ensures.ok
+    (walk_state c.run.new.self []) _ _ c.in_ok-run.ensures.gone refl

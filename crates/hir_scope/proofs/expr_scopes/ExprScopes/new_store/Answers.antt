@@ -17,4 +17,5 @@ returns-in_err-run-clause-full c = λ h.
 pub returns-clause-scopes : goal.returns-clause-scopes
 returns-clause-scopes c =
     let walk = c.in_ok-walk in
-    signature_made c.args.store.now c.is_sound_store.ensures (state walk.walk) walk.ensures.ok (walk_state c.run.new.self []) _ _ c.in_ok-run.ensures.gone refl
+    signature_made c.args.store.now c.is_sound_store.ensures (state walk.walk) walk.ensures.ok
+    (walk_state c.run.new.self []) _ _ c.in_ok-run.ensures.gone refl

@@ -11,7 +11,9 @@ returns-in-Some-find_entry c =
     let name = c.args.name.now in
     let hygiene = c.loop-current.hygiene in
     let found : Some c.in-Some-find_entry.entry.now ≡ find_entry name hygiene c.entries.result.now = c.in-Some-find_entry.ensures in
-    through_found from scopes c.in-Some.inner c.parent-outer.result c.entries.result.now c.in-Some-find_entry.entry.now name hygiene c.parent-outer.ensures.parents c.parent-outer.ensures.is c.entries.ensures found
+    through_found from scopes c.in-Some.inner c.parent-outer.result c.entries.result.now
+    c.in-Some-find_entry.entry.now name hygiene c.parent-outer.ensures.parents c.parent-outer.ensures.is
+    c.entries.ensures found
     ∙ ap (λ o. resolve_through from (chain scopes o) name hygiene) (sym c.in-Some.is)
     ∙ c.loop-current.invariant.same
 
@@ -26,7 +28,9 @@ loop-current-preserved c =
       within = c.parent-outer.ensures.in_range;
       same =
           ap (λ (h : SyntaxContext). resolve_through from (chain scopes c.parent-outer.result) name h) c.outward-hygiene.ensures
-          ∙ through_outward from scopes c.in-Some.inner c.parent-outer.result c.entries.result.now c.macro_def.result name hygiene c.parent-outer.ensures.parents c.parent-outer.ensures.is c.entries.ensures c.macro_def.ensures none
+          ∙ through_outward from scopes c.in-Some.inner c.parent-outer.result c.entries.result.now c.macro_def.result
+          name hygiene c.parent-outer.ensures.parents c.parent-outer.ensures.is c.entries.ensures c.macro_def.ensures
+          none
           ∙ ap (λ o. resolve_through from (chain scopes o) name hygiene) (sym c.in-Some.is)
           ∙ c.loop-current.invariant.same;
     }

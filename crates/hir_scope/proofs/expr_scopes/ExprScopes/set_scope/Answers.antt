@@ -9,7 +9,8 @@ invariant_of-self c =
     let es = c.self.inside.entries.items in
     let rows = c.self.inside.scopes.items in
     let l : c.args.scope < length rows =
-    subst (λ n. c.args.scope < n) (length_seen es rows) (subst (λ (x : Scopes). c.args.scope < length x.scopes) (sym c.self.view_is) c.requires) in
+    subst (λ n. c.args.scope < n) (length_seen es rows)
+    (subst (λ (x : Scopes). c.args.scope < length x.scopes) (sym c.self.view_is) c.requires) in
     elim c.match-insert.branch [
       | in-Ok w ↦ rw w.in-Ok.ensures.ok (flat_set es rows c.self.inside.scope_by_expr c.args.expr c.args.scope c.self.invariant l)
       | in-Err w ↦ rw w.in-Err.ensures.err c.self.invariant

@@ -8,10 +8,12 @@ pub returns-then-eq-2 : goal.returns-then-eq-2
 returns-then-eq-2 c =
     let i = c.self.inside in
     let j = c.other.inside in
-    let all = all_tests i.entries.items j.entries.items i.scopes.items j.scopes.items i.scope_by_expr j.scope_by_expr c.self.invariant c.other.invariant in
+    let all = all_tests i.entries.items j.entries.items i.scopes.items j.scopes.items i.scope_by_expr j.scope_by_expr
+    c.self.invariant c.other.invariant in
     elim c.if-eq.branch [
       | then-eq w ↦
-          all true true c.eq-then-eq-2.result (sym w.if-eq.true ∙ c.eq.ensures) (sym c.if-eq-2.true ∙ w.value-is ∙ w.eq-then-eq.ensures) c.eq-then-eq-2.ensures
+          all true true c.eq-then-eq-2.result (sym w.if-eq.true ∙ c.eq.ensures)
+          (sym c.if-eq-2.true ∙ w.value-is ∙ w.eq-then-eq.ensures) c.eq-then-eq-2.ensures
           ∙ (λ k. same_scopes (c.self.view_is k) (c.other.view_is k))
       | else-eq w ↦ let z : false ≡ true = sym w.if-eq.false ∙ sym w.value-is ∙ c.if-eq-2.true in absurd cc
     ]
@@ -20,7 +22,8 @@ pub returns-else-eq-2 : goal.returns-else-eq-2
 returns-else-eq-2 c =
     let i = c.self.inside in
     let j = c.other.inside in
-    let all = all_tests i.entries.items j.entries.items i.scopes.items j.scopes.items i.scope_by_expr j.scope_by_expr c.self.invariant c.other.invariant in
+    let all = all_tests i.entries.items j.entries.items i.scopes.items j.scopes.items i.scope_by_expr j.scope_by_expr
+    c.self.invariant c.other.invariant in
     elim c.if-eq.branch [
       | then-eq w ↦
           c.if-eq-2.false

@@ -3,8 +3,11 @@ use Rattle.hir_scope.proofs.order.StatementVisit.visit.Goals as goal
 
 pub on_pat-requires : goal.on_pat-requires
 on_pat-requires g c =
-    may_here (may_after (rw c.in-Let.is at c.requires) (runs_append (runs_append c.on_type_opt.ensures c.on_expr_opt.ensures) c.on_expr_opt-in-Let.ensures))
+    may_here (may_after (rw c.in-Let.is at c.requires)
+    (runs_append (runs_append c.on_type_opt.ensures c.on_expr_opt.ensures) c.on_expr_opt-in-Let.ensures))
 
 pub returns-in-Let : goal.returns-in-Let
 returns-in-Let g c =
-    rw c.in-Let.is (runs_append (runs_append (runs_append c.on_type_opt.ensures c.on_expr_opt.ensures) c.on_expr_opt-in-Let.ensures) (runs_one c.on_pat.ensures))
+    rw c.in-Let.is (runs_append
+    (runs_append (runs_append c.on_type_opt.ensures c.on_expr_opt.ensures) c.on_expr_opt-in-Let.ensures)
+    (runs_one c.on_pat.ensures))

@@ -16,5 +16,6 @@ returns-in-Some-clause-goes c =
     let steps : c.args.self.now ≡ c.in-Some.scope ∷ path scopes c.parent-self-inside.result =
     sym c.self.view_is
     ∙ ap (path scopes) c.in-Some.is
-    ∙ path_of_parent scopes c.in-Some.scope c.parent-self-inside.result c.parent-self-inside.ensures.parents c.parent-self-inside.ensures.is in
+    ∙ path_of_parent scopes c.in-Some.scope c.parent-self-inside.result c.parent-self-inside.ensures.parents
+    c.parent-self-inside.ensures.is in
     rw steps (record { on = λ _. (tt, tt, omega arith); keeps = tt; rests = λ _. tt })

@@ -11,6 +11,7 @@ returns-clause-steps c =
 
 pub returns-clause-goes : goal.returns-clause-goes
 returns-clause-goes c =
-    let left : c.args.self.now ≡ c.self.inside.next ∷ range_with_len (c.self.inside.next + 1) (c.self.inside.end - (c.self.inside.next + 1)) =
+    let left : c.args.self.now ≡ c.self.inside.next ∷ range_with_len (c.self.inside.next + 1)
+    (c.self.inside.end - (c.self.inside.next + 1)) =
     sym c.self.view_is ∙ range_step c.self.inside.next c.self.inside.end (omega arith) in
     rw left (record { on = λ _. (tt, tt, omega arith); keeps = tt; rests = λ _. tt })

@@ -1,17 +1,21 @@
-use Rattle.std.proofs.Common.{rules, [], ◌∷◌, ◌++◌, map}
-use Rattle.hir_scope.specs.Frames.{frame}
-use Rattle.hir_scope.specs.Scopes.{frame_of}
-use Rattle.hir_scope.specs.internal.WalkState.{state, Over}
+use Rattle.std.proofs.Common.{rules, [], ◌∷◌, ◌++◌, map, sym, ap, ◌∙◌}
+use Rattle.hir_scope.specs.{Frames.frame, Scopes.frame_of}
+use Rattle.hir_scope.specs.ScopingForms.{ScopingForm, form_at, pat_form}
+use Rattle.hir_scope.specs.internal.{Pending.form_tasks, WalkState.Over}
 use Rattle.hir_scope.proofs.DoneLemmas.{bound_moves, bound_over}
 use Rattle.hir_scope.proofs.walk.Walk.bind.Goals as goal
 
 pub returns-clause-moves : goal.returns-clause-moves
 returns-clause-moves c =
     let w = c.args.self.now in
-    bound_moves c.args.store.now.nodes w.scopes w.current c.args.bound w.tasks.stack.items c.push.new.self.stack.items (state c.open.new.self) c.in_ok-push.ensures.ok c.in_ok-open.ensures.opened c.requires.ready
+    let fall = c.rank_decreases.ensures c.args.store.now c.has_no_fault.ensures in
+    let is = c.of_pat-form.ensures ∙ ap (form_at pat_form) (sym c.index.ensures) in
+    bound_moves c.args.store.now.nodes fall w c.args.bound
+    (c.in_ok-push_in.ensures.ok ∙ ap (λ (x : ScopingForm). form_tasks w.current x ++ w.tasks.stack.items) is)
+    c.in_ok-open.ensures.opened c.requires.ready
 
 pub returns-in_err-open-clause-full : goal.returns-in_err-open-clause-full
 returns-in_err-open-clause-full c = λ h.
     let w = c.args.self.now in
     let o : Over (map frame_of w.scopes.scopes ++ frame c.args.store.now.nodes (c.args.bound ∷ []) ∷ []) = search rules in
-    bound_over c.args.store.now.nodes w.scopes w.current c.args.bound w.tasks.stack.items o
+    bound_over c.args.store.now.nodes w c.args.bound o

@@ -7,4 +7,4 @@ pub returns-clause-moves : goal.returns-clause-moves
 returns-clause-moves c =
     let w = c.args.self.now in
     let pushed = c.in_ok-push-2.ensures.ok ∙ ap (λ (ts : List Task). Task.Expr c.args.expr ∷ ts) c.in_ok-push.ensures.ok in
-    λ s r. constant_moves s w.scopes w.current c.args.expr w.tasks.stack.items c.push-2.new.self.stack.items pushed r
+    λ s r. constant_moves s w c.args.expr pushed r

@@ -15,7 +15,9 @@ returns-in_err-self-clause-full c =
     let S = c.args.self.now.scopes.scopes in
     let es = c.add_pats.new.entries.items in
     let bound : es ≡ flat_map (binds c.args.store.now.nodes) c.args.pats.now =
-    c.in_ok-add_pats.ensures.ok ∙ ap (λ (xs : List ScopeEntry). xs ++ flat_map (binds c.args.store.now.nodes) c.args.pats.now) c.clear.ensures.items in
+    c.in_ok-add_pats.ensures.ok
+    ∙ ap (λ (xs : List ScopeEntry). xs ++ flat_map (binds c.args.store.now.nodes) c.args.pats.now)
+    c.clear.ensures.items in
     λ h.
     let o : (4294967295 < length S + 1) ⊎ (4294967295 < entry_count S + length es) = search rules in
     subst (λ (xs : List ScopeEntry). Over (map frame_of S ++ record { kind = c.args.kind; entries = xs } ∷ [])) bound
@@ -25,7 +27,10 @@ pub returns-clause-opened : goal.returns-clause-opened
 returns-clause-opened c =
     let w = c.args.self.now in
     let ok = c.in_ok-self.ensures.ok in
-    let bound = c.in_ok-add_pats.ensures.ok ∙ ap (λ (xs : List ScopeEntry). xs ++ flat_map (binds c.args.store.now.nodes) c.args.pats.now) c.clear.ensures.items in
+    let bound =
+    c.in_ok-add_pats.ensures.ok
+    ∙ ap (λ (xs : List ScopeEntry). xs ++ flat_map (binds c.args.store.now.nodes) c.args.pats.now)
+    c.clear.ensures.items in
     opened_frames_are (state w) _ c.args.kind (flat_map (binds c.args.store.now.nodes) c.args.pats.now)
     (ap (λ (x : Scopes). x.scopes) ok ∙ ap (λ (xs : List ScopeEntry). w.scopes.scopes ++ child w.current.scope c.args.kind xs ∷ []) bound)
     (ap (λ (x : Scopes). x.scope_by_expr) ok)

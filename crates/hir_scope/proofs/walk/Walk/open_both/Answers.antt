@@ -12,7 +12,9 @@ returns-clause-opened c =
     let opened = c.in_ok-open.ensures.opened in
     opened_then (state c.args.self.now) (state mid) _ (of_kind c.args.scope) (of_kind c.args.const_scope ∷ []) opened
     (opened_const_frames_are (state mid) _ c.args.const_scope []
-    (ap (λ (x : Scopes). x.scopes) ok ∙ ap (λ (xs : List ScopeEntry). mid.scopes.scopes ++ child mid.current.const_scope c.args.const_scope xs ∷ []) c.in_ok-open.ensures.taken)
+    (ap (λ (x : Scopes). x.scopes) ok
+    ∙ ap (λ (xs : List ScopeEntry). mid.scopes.scopes ++ child mid.current.const_scope c.args.const_scope xs ∷ [])
+    c.in_ok-open.ensures.taken)
     (ap (λ (x : Scopes). x.scope_by_expr) ok)
     c.in_ok-self.ensures.id refl refl opened.scope.within)
 
@@ -29,5 +31,6 @@ returns-in_err-self-clause-full c = λ h.
     let es = mid.entries.items in
     let o : (4294967295 < length S + 1) ⊎ (4294967295 < entry_count S + length es) = search rules in
     over_after (state c.args.self.now) (state mid) (of_kind c.args.scope) (of_kind c.args.const_scope ∷ []) c.in_ok-open.ensures.opened
-    (subst (λ (xs : List ScopeEntry). Over (map frame_of S ++ record { kind = c.args.const_scope; entries = xs } ∷ [])) c.in_ok-open.ensures.taken
+    (subst (λ (xs : List ScopeEntry). Over
+    (map frame_of S ++ record { kind = c.args.const_scope; entries = xs } ∷ [])) c.in_ok-open.ensures.taken
     (over_new S (record { kind = c.args.const_scope; entries = es }) o))

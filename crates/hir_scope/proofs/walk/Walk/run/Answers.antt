@@ -13,5 +13,7 @@ loop-task-preserved c =
     let was : c.loop-task.self.tasks.stack.items ≡ c.in-Some.task ∷ c.pop.new.self.items = c.in-Some.ensures.some in
     let start = state c.args.self.now in
     let mid = walk_state c.loop-task.self (c.in-Some.task ∷ c.pop.new.self.items) in
-    let before = subst (λ (ts : List Task). WalkSteps s start (walk_state c.loop-task.self ts) c.args.steps.now c.loop-task.steps) was c.loop-task.invariant in
+    let before =
+    subst (λ (ts : List Task). WalkSteps s start (walk_state c.loop-task.self ts) c.args.steps.now c.loop-task.steps)
+    was c.loop-task.invariant in
     gone_then s start mid (state c.step.new.self) c.args.steps.now c.loop-task.steps c.step.new.steps before c.in_ok-step.ensures.goes.gone

@@ -8,6 +8,7 @@ pub loop-usage-preserved : goal.loop-usage-preserved
 loop-usage-preserved c =
     let xs = c.args.usages.now.items in
     let i = c.loop-usage.usage-index in
-    let more = one_taken xs c.deref-usage-items.result.now i c.usage-item.result c.deref-usage-items.ensures.value c.loop-usage-test.true c.usage-item.is in
+    let more = one_taken xs c.deref-usage-items.result.now i c.usage-item.result c.deref-usage-items.ensures.value
+    c.loop-usage-test.true c.usage-item.is in
     subst (λ (us : List Usage). AreGroups us c.add.new.self.by_binding c.add.new.self.unresolved.items) (sym more)
     (c.in_ok-add.ensures (take i xs) c.loop-usage.invariant)

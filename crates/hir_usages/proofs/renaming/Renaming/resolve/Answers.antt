@@ -9,7 +9,9 @@ returns-in-Some-find_entry c =
     let new = c.args.self.now.name.now in
     let from = found_from scopes b new c.args.name.now c.args.hygiene in
     let inv = subst (λ (o : Option ℕ). from o ≡ from (Some c.args.scope)) c.in-Some.is c.loop-current.invariant.1 in
-    sym (found_here scopes b new c.args.name.now c.args.hygiene c.in-Some.inner c.parent-outer.result c.entries.result.now (c.a_chain_goes_outward.ensures.step scopes c.parent-outer.ensures.parents) c.parent-outer.ensures.is c.entries.ensures
+    sym (found_here scopes b new c.args.name.now c.args.hygiene c.in-Some.inner c.parent-outer.result
+    c.entries.result.now (c.a_chain_goes_outward.ensures.step scopes c.parent-outer.ensures.parents)
+    c.parent-outer.ensures.is c.entries.ensures
     c.in-Some-find_entry.found (sym c.in-Some-find_entry.ensures)) ∙ inv
 
 pub loop-current-preserved : goal.loop-current-preserved
@@ -19,5 +21,7 @@ loop-current-preserved c =
     let new = c.args.self.now.name.now in
     let from = found_from scopes b new c.args.name.now c.args.hygiene in
     let inv = subst (λ (o : Option ℕ). from o ≡ from (Some c.args.scope)) c.in-Some.is c.loop-current.invariant.1 in
-    let passed = passed_by scopes b new c.args.name.now c.args.hygiene c.in-Some.inner c.parent-outer.result c.entries.result.now (c.a_chain_goes_outward.ensures.step scopes c.parent-outer.ensures.parents) c.parent-outer.ensures.is c.entries.ensures (sym c.in_default-find_entry.ensures) in
+    let passed = passed_by scopes b new c.args.name.now c.args.hygiene c.in-Some.inner c.parent-outer.result
+    c.entries.result.now (c.a_chain_goes_outward.ensures.step scopes c.parent-outer.ensures.parents)
+    c.parent-outer.ensures.is c.entries.ensures (sym c.in_default-find_entry.ensures) in
     (c.parent-outer.ensures.in_range, passed ∙ inv)

@@ -30,7 +30,9 @@ invariant_of-self-2 c =
     let same_hygiene : c.syntax_context.result ≡ e.hygiene = search rules in
     let same_name : c.as_str.result.now ≡ e.name = search rules in
     subst (λ (es : List ScopeEntry). AreSeen es (was_seen hygiene name c.insert.new.self.keys)) (sym now)
-    (seen_more hygiene name (map (λ (x : Bor ScopeEntry). x.now) before) c.self.inside.seen.keys c.insert.new.self.keys key e same_hygiene same_name
+    (seen_more hygiene name
+    (map (λ (x : Bor ScopeEntry). x.now) before) c.self.inside.seen.keys c.insert.new.self.keys key e same_hygiene
+    same_name
     (subst (PutsKey c.self.inside.seen c.insert.new.self key) c.if-not-branch.false c.in_ok-insert.ensures.keys) c.self.invariant)
 
 pub returns : goal.returns
@@ -42,7 +44,10 @@ returns c =
     let same_hygiene : c.syntax_context.result ≡ e.hygiene = search rules in
     let same_name : c.as_str.result.now ≡ e.name = search rules in
     let keys = c.self.inside.seen.keys in
-    let there = (λ i. list_any (λ (k : Key). hygienes.ghosts.eq (same_hygiene i) (hygiene k) && names.ghosts.eq (same_name i) (name k)) keys) ∙ key_was_seen hygiene name e.name e.hygiene keys in
+    let there =
+    (λ i. list_any (λ (k : Key). hygienes.ghosts.eq (same_hygiene i) (hygiene k) && names.ghosts.eq (same_name i)
+    (name k)) keys) ∙ key_was_seen hygiene name e.name e.hygiene keys in
     let found = map (λ (x : Bor ScopeEntry). x.now) before in
-    let new = entry_is_new found e (was_seen hygiene name keys e.name e.hygiene) _ c.in_ok-insert.field-0 (c.self.invariant e.name e.hygiene) there c.in_ok-insert.ensures.added c.if-not-branch.false in
+    let new = entry_is_new found e (was_seen hygiene name keys e.name e.hygiene) _ c.in_ok-insert.field-0
+    (c.self.invariant e.name e.hygiene) there c.in_ok-insert.ensures.added c.if-not-branch.false in
     now ∙ (sym new ∙ ap (λ (es : List ScopeEntry). with_new_name es e) c.self.view_is)

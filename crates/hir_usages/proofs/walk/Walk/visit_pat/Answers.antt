@@ -1,25 +1,37 @@
 use Rattle.std.proofs.Common.{◌∙◌, ap, List, ℕ, ◌++◌}
 use Rattle.hir_node.specs.declared.node_id.NodeId.{NodeId}
 use Rattle.hir_usages.specs.Usages.{bound_at}
-use Rattle.hir_usages.specs.internal.Reading.{lists_of}
+use Rattle.hir_scope.specs.Order.{met_in_form}
+use Rattle.hir_usages.specs.internal.{Pending.tasks_of, Reading.lists_of}
 use Rattle.hir_usages.proofs.WalkLemmas.{visit_pat, pat_in_range}
 use Rattle.hir_usages.proofs.walk.Walk.visit_pat.Goals as goal
 
 pub add_target-requires : goal.add_target-requires
-add_target-requires c = record { in_range = pat_in_range c.args.self.now.store.now.nodes c.args.assignment c.args.id c.args.unread.now.stack.items c.requires.in_range }
+add_target-requires c =
+    record {
+      in_range = pat_in_range c.args.self.now.store.now.nodes c.args.assignment c.args.id
+          c.args.unread.now.stack.items c.requires.in_range;
+    }
 
 pub add_bound-requires : goal.add_bound-requires
-add_bound-requires c = record { in_range = pat_in_range c.args.self.now.store.now.nodes c.args.assignment c.args.id c.args.unread.now.stack.items c.requires.in_range }
+add_bound-requires c =
+    record {
+      in_range = pat_in_range c.args.self.now.store.now.nodes c.args.assignment c.args.id
+          c.args.unread.now.stack.items c.requires.in_range;
+    }
 
 pub index-requires : goal.index-requires
-index-requires c = pat_in_range c.args.self.now.store.now.nodes c.args.assignment c.args.id c.args.unread.now.stack.items c.requires.in_range
+index-requires c =
+    pat_in_range c.args.self.now.store.now.nodes c.args.assignment c.args.id c.args.unread.now.stack.items
+    c.requires.in_range
 
 pub returns : goal.returns
 returns c =
     let store = c.args.self.now.store.now in
     let fall = c.rank_decreases.ensures store c.has_no_fault.ensures in
-    visit_pat c.args.self.now fall c.args.id c.index.result.now c.args.assignment c.args.unread.now.stack.items c.push_pat.new.self.stack.items (lists_of c.args.found.now) (lists_of c.add_bound.new.found)
+    visit_pat c.args.self.now fall c.args.id c.index.result.now c.args.assignment c.args.unread.now.stack.items
+    c.push_in.new.self.stack.items (lists_of c.args.found.now) (lists_of c.add_bound.new.found)
     c.index.ensures c.requires.in_range
     (c.add_bound.ensures.usages ∙ c.in_ok-add_target.ensures.usages)
     (c.in_ok-add_bound.ensures.bound ∙ ap (λ (bs : List ℕ). bs ++ bound_at store.nodes (NodeId.Pat c.args.id)) c.add_target.ensures.bound)
-    c.in_ok-push_pat.ensures
+    (c.in_ok-push_in.ensures ∙ (λ i. tasks_of c.args.assignment (met_in_form (c.of_pat-form.ensures i)) ++ c.args.unread.now.stack.items))

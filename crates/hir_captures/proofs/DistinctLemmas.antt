@@ -28,7 +28,8 @@ pub marks_none : (X : Type 0) → AreMarks {X = X} [] map.empty
 marks_none X x = ap is_some (map.get-empty nat_cmp x)
 
 -- one more is listed, and marked
-pub marks_more : {X : Type 0} (found : List ℕ) (marks : map.FinMap nat_cmp X) (x : ℕ) (v : X) → AreMarks found marks → AreMarks (found ++ x ∷ []) (map.insert marks x v)
+pub marks_more : {X : Type 0} (found : List ℕ) (marks : map.FinMap nat_cmp X) (x : ℕ) (v : X) → AreMarks found marks →
+    AreMarks (found ++ x ∷ []) (map.insert marks x v)
 marks_more {X} found marks x v h y =
     ap is_some (map.get-insert nat_cmp_total marks x v y)
     ∙ at (eq_by_cmp nat_cmp y x) (nat_eq x y) (tied y x)

@@ -2,8 +2,8 @@ use Rattle.std.proofs.Common.{rules, ◌≡◌, ◌∙◌, ap, sym, List, ℕ, �
 use Rattle.std.specs.FinMap as map
 use Rattle.std.specs.{Ordering.nat_cmp, Prelude.is_some}
 use Rattle.hir_captures.specs.internal.Marks.{is_listed}
-use Rattle.hir_captures.proofs.BindingListLemmas.{marks_more}
-use Rattle.hir_captures.proofs.binding_list.BindingList.add.Goals as goal
+use Rattle.hir_captures.proofs.DistinctLemmas.{marks_more}
+use Rattle.hir_captures.proofs.distinct.DistinctBindings.add.Goals as goal
 
 -- what was pushed was marked
 pub invariant_of-self-2 : goal.invariant_of-self-2

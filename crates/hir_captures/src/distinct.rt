@@ -11,7 +11,7 @@ use std::marker::Model;
 
 /// Bindings in the order in which they were added, each once.
 #[derive(Drop)]
-pub(crate) struct DistinctBindings {
+pub struct DistinctBindings {
     bindings: Vec<BindingId>,
     /// Marks those that are listed.
     marks: ArenaMap<BindingKind, ()>,
@@ -19,7 +19,7 @@ pub(crate) struct DistinctBindings {
 
 impl Model for DistinctBindings {
     ghost use Rattle.std.specs.Prelude.{List, ℕ};
-    ghost use Rattle.hir_usages.specs.internal.Marks.{AreMarks};
+    ghost use Rattle.hir_captures.specs.internal.Marks.{AreMarks};
 
     ghost Value = { List ℕ };
 
@@ -32,7 +32,7 @@ impl DistinctBindings {
     /// Returns no bindings, with room for the marks of this many.
     ///
     /// Fails with `AllocError` where an allocation fails.
-    pub(crate) fn new(alloc: Global, bindings: usize) -> Result<DistinctBindings, AllocError>
+    pub fn new(alloc: Global, bindings: usize) -> Result<DistinctBindings, AllocError>
         ensures { IfOk result (λ made. made ≡ []) }
     {
         Ok(DistinctBindings {
@@ -44,7 +44,7 @@ impl DistinctBindings {
     /// Appends a binding, where it isn't listed yet.
     ///
     /// Fails with `AllocError` where an allocation fails.
-    pub(crate) fn add(&mut self, binding: BindingId) -> Result<(), AllocError>
+    pub fn add(&mut self, binding: BindingId) -> Result<(), AllocError>
         ensures { OnOk result (self.new ≡ with_new self.old binding) }
     {
         if self.marks.get(binding).is_some() {
@@ -57,7 +57,7 @@ impl DistinctBindings {
     }
 
     /// Returns the bindings.
-    pub(crate) fn into_bindings(self) -> Vec<BindingId>
+    pub fn into_bindings(self) -> Vec<BindingId>
         ensures { result.items ≡ self }
     {
         self.bindings
