@@ -16,7 +16,7 @@ use Rattle.hir_node.specs.declared.type_ref.LifetimeRef.{LifetimeRef}
 use Rattle.hir_node.specs.declared.type_ref.LifetimeRef.TheVariants as lifetime
 use Rattle.hir_pretty_layout.specs.Layouts.{Layout}
 use Rattle.hir_pretty_nodes.proofs.StepLemmas.{nodes_append}
-use Rattle.hir_pretty_nodes.proofs.ArgsDocs.{args_docs_is, assoc_docs_is, args_calls_is, binding_calls_is}
+use Rattle.hir_pretty_docs.proofs.ArgsDocs.{args_docs_is, assoc_docs_is, args_calls_is, binding_calls_is}
 
 -- each node among these calls is such
 abbrev pub AllCalls : (NodeId → Type 0) → List Call → Type 0

@@ -5,7 +5,7 @@ use Rattle.hir_node.specs.declared.literal.Literal.TheVariants as literal
 use Rattle.hir_pretty_nodes.specs.Prelude.{NodeId, PrintEnv, Doc, Put, MissingDoc, ExprDoc, ExprIn, Pattern, TypeDoc, text, is_word, raw_parts, name_docs, same_text, literal_docs, docs_of, AllNodes, DocsDecrease, total, doc_size, node_size_step, node_size, size, enclose}
 use Rattle.hir_validate.specs.Recursion.{rank, fold_down_within, fold_down}
 use Rattle.hir_pretty_nodes.proofs.StepLemmas.{nodes_weaker}
-use Rattle.hir_pretty_nodes.proofs.AddLemmas.{total-append}
+use Rattle.hir_pretty_docs.proofs.AddLemmas.{total-append}
 
 -- 1. The weight of a node is its step's
 

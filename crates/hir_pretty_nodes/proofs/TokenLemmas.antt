@@ -6,12 +6,12 @@ use Rattle.hir_node.specs.declared.node_id.NodeId.TheVariants as node
 use Rattle.hir_pretty_layout.specs.Page.{Page, empty_page, page_text, render}
 use Rattle.hir_pretty_layout.specs.Layouts.{Layout}
 use Rattle.hir_pretty_layout.specs.Steps.{steps}
-use Rattle.hir_pretty_nodes.specs.declared.token.Token.{Token}
-use Rattle.hir_pretty_nodes.specs.declared.token.Token.TheVariants as token
+use Rattle.hir_pretty_docs.specs.declared.token.Token.{Token}
+use Rattle.hir_pretty_docs.specs.declared.token.Token.TheVariants as token
 use Rattle.hir_pretty_nodes.specs.declared.fault.PrintFault.{PrintFault}
 use Rattle.hir_pretty_nodes.specs.declared.fault.PrintFault.TheVariants as fault
 use Rattle.hir_pretty_nodes.proofs.StepLemmas.{pieces_at}
-use Rattle.hir_pretty_nodes.proofs.AddLemmas.{size-append, meant-append, alike_as, alike_then, adds_here}
+use Rattle.hir_pretty_docs.proofs.AddLemmas.{size-append, meant-append, alike_as, alike_then, adds_here}
 use Rattle.hir_pretty_nodes.proofs.PieceLemmas.{printed-append, enclosed_printed, pieces_alike, missing_is, value_of_pieces, nothing_left, is_missing}
 use Rattle.hir_pretty_nodes.proofs.SizeLemmas.{node_size_at, enclosed_size}
 

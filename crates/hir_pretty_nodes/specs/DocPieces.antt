@@ -13,12 +13,12 @@ use Rattle.hir_pretty_layout.specs.Layouts.{Layout, Text}
 use Rattle.hir_pretty_layout.specs.Page.{rendering}
 use Rattle.hir_pretty_layout.specs.declared.line_format.LineFormat.{LineFormat}
 use Rattle.hir_pretty_layout.specs.declared.line_format.LineFormat.TheVariants.{Oneline, Newline}
-use Rattle.hir_pretty_nodes.specs.NameLookups.{PrintEnv}
-use Rattle.hir_pretty_nodes.specs.Docs.{Doc, Put, MissingDoc, ExprDoc, ExprIn, Pattern, TypeDoc, opt}
-use Rattle.hir_pretty_nodes.specs.Exprs.{expr_docs}
-use Rattle.hir_pretty_nodes.specs.Pats.{pat_docs}
-use Rattle.hir_pretty_nodes.specs.Types.{type_docs}
-use Rattle.hir_pretty_nodes.specs.Paths.{path_docs}
+use Rattle.hir_pretty_docs.specs.NameLookups.{PrintEnv}
+use Rattle.hir_pretty_docs.specs.Docs.{Doc, Put, MissingDoc, ExprDoc, ExprIn, Pattern, TypeDoc, opt}
+use Rattle.hir_pretty_docs.specs.Exprs.{expr_docs}
+use Rattle.hir_pretty_docs.specs.Pats.{pat_docs}
+use Rattle.hir_pretty_docs.specs.Types.{type_docs}
+use Rattle.hir_pretty_docs.specs.Paths.{path_docs}
 
 -- a layout, or a missing definition in its place
 pub data DocPiece : Type 0 where

@@ -3,7 +3,7 @@ use Rattle.std.specs.Prelude.{◌≡◌, List, Some, None, Result, Err, IfOk, St
 use Rattle.hir_store_core.specs.declared.missing.Missing.{Missing}
 use Rattle.hir_pretty_nodes.specs.declared.fault.PrintFault.{PrintFault}
 use Rattle.hir_pretty_nodes.specs.declared.fault.PrintFault.TheVariants as fault
-use Rattle.hir_pretty_nodes.specs.NameLookups.{PrintEnv}
+use Rattle.hir_pretty_docs.specs.NameLookups.{PrintEnv}
 use Rattle.hir_pretty_layout.specs.Layouts.{Layout}
 use Rattle.hir_pretty_layout.specs.Steps.{steps}
 use Rattle.hir_pretty_nodes.specs.DocPieces.{DocPiece, first_missing, layout, text_of}

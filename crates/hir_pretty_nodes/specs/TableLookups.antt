@@ -9,7 +9,7 @@ use Rattle.hir_store_core.specs.declared.missing.Missing.{Missing}
 use Rattle.hir_store_core.specs.declared.missing.Missing.TheVariants as missing
 use Rattle.hir_signature.specs.Generics.{Generics}
 use Rattle.hir_defs.specs.Lookups.{Tables, signature_entry}
-use Rattle.hir_pretty_nodes.specs.NameLookups.{NameLookups}
+use Rattle.hir_pretty_docs.specs.NameLookups.{NameLookups}
 
 -- what was found, or that it is missing
 abbrev pub found_or : {X : Type 0} → Missing → Option X → Result X Missing

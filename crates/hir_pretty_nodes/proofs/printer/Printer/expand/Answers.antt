@@ -1,5 +1,5 @@
 use Rattle.hir_pretty_nodes.proofs.Common.{◌≡◌, ◌∙◌, ap, err_from_is_err_and, refl, whole_gives, first_gives, under_gives, pattern_gives, type_gives}
-use Rattle.hir_pretty_nodes.specs.declared.token.Token.TheVariants as token
+use Rattle.hir_pretty_docs.specs.declared.token.Token.TheVariants as token
 use Rattle.hir_pretty_nodes.proofs.printer.Printer.expand.Goals as goal
 
 pub returns-in_ok-add_expr_at-in-Expr-clause-ok : goal.returns-in_ok-add_expr_at-in-Expr-clause-ok

@@ -1,5 +1,5 @@
 use Rattle.hir_pretty_nodes.proofs.Common.{List, ap₂, arith, on_ok_weaker, printing_of, kept_more, waiting_still}
-use Rattle.hir_pretty_nodes.specs.declared.token.Token.{Token}
+use Rattle.hir_pretty_docs.specs.declared.token.Token.{Token}
 use Rattle.hir_pretty_nodes.proofs.printer.Printer.keep.Goals as goal
 
 pub returns : goal.returns
