@@ -10,8 +10,8 @@ use Rattle.hir_body.specs.Bodies.{formals_of}
 use Rattle.hir_body.specs.declared.{formals.Param.Param}
 use Rattle.hir_signature.specs.declared.{signatures.FunctionParts.FunctionParts}
 use Rattle.hir_pretty_nodes.specs.Prelude.{PrintEnv, Doc, text, br, into, out, t, p, opt, when, join, comma_joined, binding_docs, colons_first, type_param_docs, following}
-use Rattle.hir_pretty_nodes.proofs.ListLemmas.{drop_item, is_cons, following_append, following_joined}
-use Rattle.hir_pretty_nodes.proofs.OrderLemmas.{cons_length}
+use Rattle.hir_pretty_docs.proofs.ListLemmas.{drop_item, is_cons, following_append, following_joined}
+use Rattle.hir_pretty_docs.proofs.OrderLemmas.{cons_length}
 use Rattle.hir_pretty.specs.internal.AddedDocs.{marked_docs}
 use Rattle.hir_pretty.specs.Bodies.{formal_params}
 use Rattle.hir_pretty.specs.Signatures.{type_name, argument_docs, arguments, function_types, each_lifetime, each_type_or_const, in_angles, each_predicate, where_docs}

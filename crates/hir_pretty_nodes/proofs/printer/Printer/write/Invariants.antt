@@ -1,16 +1,12 @@
-use Rattle.hir_pretty_nodes.proofs.Common.{◌≡◌, ◌++◌, [], doc_list_pieces, size, printing_of, docs_of_tokens, printing}
+use Rattle.hir_pretty_nodes.specs.Prelude.{doc_list_pieces, size, docs_of_tokens, printing, printing_of, env_of, stacked}
+use Rattle.hir_pretty_nodes.proofs.LoopLemmas.{Comes}
 use Rattle.hir_pretty_nodes.proofs.printer.Printer.write.Given as goal
 
--- what is still to be printed comes to the same as what was to be
-abbrev pub invariant-loop-token : goal.invariant-loop-token
-invariant-loop-token g l =
-    let old = printing_of g.W.PieceWriter.step l.fn.self in
-    let now = printing_of g.W.PieceWriter.step l.self in
-    record {
-      none : now.kept ≡ [];
-      from : now.from ≡ old.from;
-      same : printing g.W.PieceWriter.step old.value (doc_list_pieces old.from (docs_of_tokens old.from (old.kept ++ old.waiting))) ≡ printing g.W.PieceWriter.step now.value (doc_list_pieces old.from (docs_of_tokens old.from now.waiting));
-    }
+-- what waits comes to the same as what was added
+abbrev pub invariant-loop-node : goal.invariant-loop-node
+invariant-loop-node g l =
+    let old = printing_of l.fn.self in
+    Comes g.W.PieceWriter.step old.from (printing g.W.PieceWriter.step old.value (doc_list_pieces old.from old.added)) (stacked l.self)
 
-abbrev pub decreases-loop-token : goal.decreases-loop-token
-decreases-loop-token g l = size (printing_of g.W.PieceWriter.step l.fn.self).from (docs_of_tokens (printing_of g.W.PieceWriter.step l.fn.self).from (printing_of g.W.PieceWriter.step l.self).waiting)
+abbrev pub decreases-loop-node : goal.decreases-loop-node
+decreases-loop-node g l = size (env_of l.fn.self) (docs_of_tokens (env_of l.fn.self) l.self.tokens.stack.items)
