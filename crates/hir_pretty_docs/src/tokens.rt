@@ -1,7 +1,8 @@
 //! The tokens that are still to be printed, and what is added to them.
 #![tactic(auto, using(crate::proofs::AddLemmas::adding))]
 
-ghost use Rattle.std.specs.Prelude.{◌≡◌, [], false, Ok, OnOk, codes, option_copied};
+ghost use Rattle.std.specs.Prelude.{◌≡◌, ◌∷◌, [], false, Ok, OnOk, codes, option_copied};
+ghost use Rattle.hir_collections.specs.Stacks.{Defers};
 ghost use Rattle.hir_pretty_docs.specs.Prelude.{text, when, with_number, found_name, type_param_docs, binding_docs, Adds, AddsTokens};
 
 use crate::{Lookup, Token};
@@ -17,6 +18,13 @@ use std::alloc::{AllocError, Global};
 pub struct Tokens<'a> {
     /// The stack.
     pub stack: Stack<Token<'a>>,
+}
+
+/// Puts a copy of an item on a stack.
+fn defer_copy<T: Copy + Drop>(stack: &mut Stack<T>, item: &T)
+    ensures { Defers stack.old (item.now ∷ []) stack.new }
+{
+    stack.defer(*item)
 }
 
 impl<'a> Tokens<'a> {
@@ -44,7 +52,7 @@ impl<'a> Tokens<'a> {
         ensures { AddsTokens self.old.stack tokens.now self.new.stack }
     {
         for token in tokens {
-            self.stack.defer(*token);
+            defer_copy(&mut self.stack, token);
         }
     }
 

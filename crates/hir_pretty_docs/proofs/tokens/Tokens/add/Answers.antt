@@ -11,7 +11,7 @@ loop-token-init c = defers_none c.args.self.now.stack
 pub loop-token-preserved : goal.loop-token-preserved
 loop-token-preserved c =
     deferred_more c.args.tokens.now c.loop-token.token-index c.token-item.result c.loop-token-test.true c.token-item.is
-    c.loop-token.invariant c.defer.ensures
+    c.loop-token.invariant c.defer_copy.ensures
 
 pub returns : goal.returns
 returns c = record {
