@@ -11,14 +11,14 @@ use Rattle.hir_node.specs.declared.node_id.NodeId.TheVariants as node
 use Rattle.hir_pretty_layout.specs.Page.{Page, empty_page, page_text, render}
 use Rattle.hir_pretty_layout.specs.Layouts.{Layout}
 use Rattle.hir_pretty_layout.specs.Steps.{steps}
-use Rattle.hir_pretty_docs.proofs.AddLemmas.{meant-append, stood_is}
+use Rattle.hir_pretty_docs.proofs.AddLemmas.{meant-append}
 use Rattle.hir_pretty_docs.specs.declared.token.Token.{Token}
 use Rattle.hir_pretty_docs.specs.declared.token.Token.TheVariants as token
 use Rattle.hir_pretty_nodes.specs.declared.printer.Printer.{Printer}
 use Rattle.hir_pretty_nodes.specs.declared.lookups.Found.{Found}
 use Rattle.hir_pretty_nodes.specs.declared.fault.PrintFault.{PrintFault}
 use Rattle.hir_pretty_nodes.specs.declared.fault.PrintFault.TheVariants as fault
-use Rattle.hir_pretty_nodes.specs.Prelude.{NodeId, Missing, PrintEnv, Doc, MissingDoc, ExprDoc, ExprIn, DocPiece, Present, Absent, PrintsPieces, WritesPieces, opt, format_of, first_missing, docs_of, pieces, doc_list_pieces, stands_in_parentheses, precedence_found, DocsDecrease, size, stands_for, docs_of_tokens, docs_one_by_one, Adds, AddsTokens, Printing, env_of, printing_of, on_page, AddsTo, printing, Stacked, stacked, enclose, AddsAt, PrintsAlike, FindsAt, WritesToken, ExpandsToken, ComesTo, NextNode}
+use Rattle.hir_pretty_nodes.specs.Prelude.{NodeId, Missing, PrintEnv, Doc, MissingDoc, ExprDoc, ExprIn, DocPiece, Present, PrintsPieces, WritesPieces, opt, format_of, first_missing, docs_of, pieces, doc_list_pieces, stands_in_parentheses, precedence_found, DocsDecrease, size, stands_for, docs_of_tokens, Adds, Printing, env_of, printing_of, on_page, AddsTo, printing, Stacked, enclose, AddsAt, PrintsAlike, FindsAt, WritesToken, ExpandsToken, ComesTo}
 use Rattle.hir_pretty_nodes.proofs.StepLemmas.{pieces_at}
 use Rattle.hir_pretty_nodes.proofs.PieceLemmas.{printed-append, enclosed_printed, pieces_alike, missing_is, value_of_pieces, nothing_left, is_missing}
 use Rattle.hir_pretty_nodes.proofs.SizeLemmas.{size-append, node_size_at, enclosed_size}

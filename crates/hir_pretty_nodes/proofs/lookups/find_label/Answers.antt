@@ -1,5 +1,4 @@
 use Rattle.hir_pretty_nodes.proofs.Common.{sym, ap, ◌∙◌, slice_get, not_there, opt, name_docs}
-use Rattle.std.proofs.Common.{List}
 use Rattle.hir_node.specs.declared.binding.Label.{Label}
 use Rattle.hir_validate.specs.declared.node_arenas.Nodes.{Nodes}
 use Rattle.hir_pretty_nodes.proofs.lookups.find_label.Goals as goal

@@ -1,4 +1,4 @@
-use Rattle.hir_pretty_nodes.proofs.Common.{sym, ap, slice_get, not_there, opt, print_env, lookups_of, lifetime_docs, finds_as}
+use Rattle.hir_pretty_nodes.proofs.Common.{sym, ap, not_there, opt, print_env, lookups_of, lifetime_docs, finds_as}
 use Rattle.hir_pretty_nodes.proofs.lookups.find_lifetime.Goals as goal
 
 pub returns-then-has_lifetime : goal.returns-then-has_lifetime

@@ -1,4 +1,4 @@
-use Rattle.hir_pretty_docs.proofs.Common.{ap, sym, subst, defers_none, deferred_more}
+use Rattle.hir_pretty_docs.proofs.Common.{subst, defers_none, deferred_more}
 use Rattle.std.proofs.lemmas.List.{take_all}
 use Rattle.hir_pretty_docs.specs.declared.token.Token.{Token}
 use Rattle.hir_collections.specs.Stacks.{Defers}

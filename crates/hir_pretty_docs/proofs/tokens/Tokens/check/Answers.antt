@@ -1,4 +1,4 @@
-use Rattle.std.proofs.Common.{refl, sym, ◌∙◌}
+use Rattle.std.proofs.Common.{sym, ◌∙◌}
 use Rattle.hir_pretty_docs.proofs.Common.{on_ok_weaker, checked}
 use Rattle.hir_pretty_docs.proofs.tokens.Tokens.check.Goals as goal
 

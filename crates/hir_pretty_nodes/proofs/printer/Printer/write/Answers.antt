@@ -1,4 +1,4 @@
-use Rattle.hir_pretty_nodes.proofs.Common.{refl, sym, ap, subst, ◌∙◌, arith, err_from_is_err_and, DocsDecrease, env_of, never_turned, turned_all, comes_expanded, less_expanded, comes_over, comes_to_missing}
+use Rattle.hir_pretty_nodes.proofs.Common.{refl, sym, subst, ◌∙◌, DocsDecrease, env_of, never_turned, turned_all, comes_expanded, less_expanded, comes_over}
 use Rattle.hir_pretty_nodes.proofs.printer.Printer.write.Goals as goal
 
 pub loop-node-init : goal.loop-node-init
