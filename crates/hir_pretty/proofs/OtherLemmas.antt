@@ -6,10 +6,8 @@ use Rattle.hir_base.specs.declared.defs.VariantId.TheVariants as variant
 use Rattle.hir_pretty_layout.specs.Page.{rendering}
 use Rattle.hir_pretty_nodes.specs.declared.fault.PrintFault.{PrintFault}
 use Rattle.hir_pretty_nodes.specs.Prelude.{NodeId, Missing, PrintEnv, Doc, Put, MissingDoc, ExprDoc, ExprIn, Pattern, TypeDoc, text, found_name, DocPiece, Present, Absent, AllNodes, first_missing, layout, format_of, PrintsPieces, doc_list_pieces}
-use Rattle.hir_pretty_nodes.proofs.StepLemmas.{nodes_append}
-use Rattle.hir_pretty_nodes.proofs.LoopLemmas.{prints_refused}
-use Rattle.hir_pretty.specs.Bodies.{Parents, of_enum}
-use Rattle.hir_pretty.specs.Variants.{variant_head, without_fields}
+use Rattle.hir_pretty_nodes.proofs.{StepLemmas.nodes_append, LoopLemmas.prints_refused}
+use Rattle.hir_pretty.specs.{Bodies.Parents, Bodies.of_enum, Variants.variant_head, Variants.without_fields}
 
 -- documents without nodes
 abbrev NoNode : NodeId → Type 0

@@ -1,27 +1,20 @@
 -- Steps of the printer's loop, and what is printed of all that was added.
 use Rattle.std.proofs.Common.{◌≡◌, ℕ, ◌+◌, ◌<◌, ◌≤◌, Bool, true, false, List, [], ◌∷◌, ◌++◌, map, length, Option, Some, None, refl, sym, ap, ap₂, subst, ◌∙◌, arith, append_assoc, append-nil, Result, Ok, Err, IsTrue, String, string_bytes, slice_get, inl, inr}
+use Rattle.std.proofs.lemmas.{Bool.cases_lt, List.reverse-append, List.reverse-reverse, Option.slice_get_past}
 use Rattle.std.specs.Prelude.{reverse}
-use Rattle.std.proofs.lemmas.Bool.{cases_lt}
-use Rattle.std.proofs.lemmas.List.{reverse-append, reverse-reverse}
-use Rattle.std.proofs.lemmas.Option.{slice_get_past}
 use Rattle.hir_collections.specs.Stacks.{StackItems, Defers}
 use Rattle.hir_collections.proofs.DeferredLemmas.{defers_none, defers_two}
 use Rattle.hir_base.specs.declared.prec.ExprPrecedence.{ExprPrecedence}
 use Rattle.hir_node.specs.declared.node_id.NodeId.TheVariants as node
-use Rattle.hir_pretty_layout.specs.Page.{Page, empty_page, page_text, render}
-use Rattle.hir_pretty_layout.specs.Layouts.{Layout}
-use Rattle.hir_pretty_layout.specs.Steps.{steps}
+use Rattle.hir_pretty_layout.specs.{Page.Page, Page.empty_page, Page.page_text, Page.render, Layouts.Layout, Steps.steps}
 use Rattle.hir_pretty_docs.proofs.AddLemmas.{meant-append}
 use Rattle.hir_pretty_docs.specs.declared.token.Token.{Token}
 use Rattle.hir_pretty_docs.specs.declared.token.Token.TheVariants as token
-use Rattle.hir_pretty_nodes.specs.declared.printer.Printer.{Printer}
-use Rattle.hir_pretty_nodes.specs.declared.lookups.Found.{Found}
-use Rattle.hir_pretty_nodes.specs.declared.fault.PrintFault.{PrintFault}
+use Rattle.hir_pretty_nodes.specs.Prelude.{NodeId, Missing, PrintEnv, Doc, MissingDoc, ExprDoc, ExprIn, DocPiece, Present, PrintsPieces, WritesPieces, opt, format_of, first_missing, docs_of, pieces, doc_list_pieces, stands_in_parentheses, precedence_found, DocsDecrease, size, stands_for, docs_of_tokens, Adds, Printing, env_of, printing_of, on_page, AddsTo, printing, Stacked, all_printed, enclose, AddsAt, PrintsAlike, FindsAt, WritesToken, ExpandsToken, ComesTo}
+use Rattle.hir_pretty_nodes.specs.declared.{printer.Printer.Printer, lookups.Found.Found, fault.PrintFault.PrintFault}
 use Rattle.hir_pretty_nodes.specs.declared.fault.PrintFault.TheVariants as fault
-use Rattle.hir_pretty_nodes.specs.Prelude.{NodeId, Missing, PrintEnv, Doc, MissingDoc, ExprDoc, ExprIn, DocPiece, Present, PrintsPieces, WritesPieces, opt, format_of, first_missing, docs_of, pieces, doc_list_pieces, stands_in_parentheses, precedence_found, DocsDecrease, size, stands_for, docs_of_tokens, Adds, Printing, env_of, printing_of, on_page, AddsTo, printing, Stacked, enclose, AddsAt, PrintsAlike, FindsAt, WritesToken, ExpandsToken, ComesTo}
-use Rattle.hir_pretty_nodes.proofs.StepLemmas.{pieces_at}
 use Rattle.hir_pretty_nodes.proofs.PieceLemmas.{printed-append, enclosed_printed, pieces_alike, missing_is, value_of_pieces, nothing_left, is_missing}
-use Rattle.hir_pretty_nodes.proofs.SizeLemmas.{size-append, node_size_at, enclosed_size}
+use Rattle.hir_pretty_nodes.proofs.{StepLemmas.pieces_at, SizeLemmas.size-append, SizeLemmas.node_size_at, SizeLemmas.enclosed_size}
 
 -- what is out of range isn't found
 pub not_there : {X : Type 0} (xs : List X) (id : ℕ) (b : Bool) → (IsTrue b → id < length xs) × (id < length xs → IsTrue b) → b ≡ false → slice_get xs id ≡ None
@@ -170,7 +163,7 @@ module _ {W : Type 0} {step : Layout → W → W} where
 
   -- or it is missing
   pub comes_missing : {old taken : Stacked W} {w : Token} {m : Missing} → ComesTo step old (w ∷ taken.tokens.items) taken → stands_for taken.from w ≡ MissingDoc m ∷ []
-      → (printing step old.value (doc_list_pieces old.from (docs_of_tokens old.from old.tokens.items))).1 ≡ Some m
+      → (all_printed step old).1 ≡ Some m
   comes_missing {old} {taken} {w} {m} c lacks =
       let s = old.from in
       let here : stands_for s w ≡ MissingDoc m ∷ [] = subst (λ t. stands_for t w ≡ MissingDoc m ∷ []) c.from lacks in
@@ -179,30 +172,48 @@ module _ {W : Type 0} {step : Layout → W → W} where
 
 -- 5. All that waits
 
+-- a stack was turned over from this height
+abbrev pub TurnsOver : ℕ → StackItems Token → StackItems Token → Type 0
+TurnsOver below old new = (before : StackItems Token) (items : List Token) → length before.items ≡ below
+    → Defers before items old → new ≡ record { items = items ++ before.items; refused = false }
+
+turned_items : {old new : StackItems Token} → TurnsOver 0 old new → new.items ≡ reverse old.items
+turned_items {old} turn =
+    let all = reverse old.items in
+    let pushed : Defers (record { items = []; refused = false }) all old
+    = λ h. (refl, sym (append-nil (reverse all) ∙ reverse-reverse old.items)) in
+    ap (λ (v : StackItems Token). v.items) (turn (record { items = []; refused = false }) all refl pushed) ∙ append-nil all
+
+-- what was added was turned over
+module _ {W : Type 0} {step : Layout → W → W} {s : PrintEnv} {value : W} {old new : StackItems Token} (turn : TurnsOver 0 old new) where
+  pub turned_over : printing step value (doc_list_pieces s (docs_of_tokens s (reverse old.items)))
+      ≡ printing step value (doc_list_pieces s (docs_of_tokens s new.items))
+  turned_over = ap (λ ws. printing step value (doc_list_pieces s (docs_of_tokens s ws))) (sym (turned_items turn))
+
+  pub turned_missing : {m : Missing} → (printing step value (doc_list_pieces s (docs_of_tokens s new.items))).1 ≡ Some m
+      → (printing step value (doc_list_pieces s (docs_of_tokens s (reverse old.items)))).1 ≡ Some m
+  turned_missing e = ap (λ (r : W × Option Missing). r.1) turned_over ∙ e
+
+-- a stack that refused isn't turned over
+pub never_turned : {old new : StackItems Token} → old.refused ≡ true → TurnsOver 0 old new → ⊥
+never_turned {old} {new} refused turn =
+    let none : new ≡ record { items = []; refused = false } = turn (record { items = []; refused = false }) [] refl (λ f. absurd (cc)) in
+    let some : new ≡ record { items = token.Space ∷ []; refused = false }
+    = turn (record { items = []; refused = false }) (token.Space ∷ []) refl (λ f. absurd (cc)) in
+    let long = ap (λ (v : StackItems Token). length v.items) (sym none ∙ some) in absurd (omega arith)
+
 -- what is printed of the tokens on the stack comes to this
 pub record Comes {W : Type 0} (step : Layout → W → W) (s : PrintEnv) (whole : W × Option Missing) (now : Stacked W) : Type 0 where
   pub from : now.from ≡ s
   pub same : whole ≡ printing step now.value (doc_list_pieces s (docs_of_tokens s now.tokens.items))
 
-module _ {W : Type 0} {step : Layout → W → W} {s : PrintEnv} {whole : W × Option Missing} where
-  -- what was added is turned over
-  pub turned_all : {old new : Stacked W} → whole ≡ printing step old.value (doc_list_pieces s (docs_of_tokens s (reverse old.tokens.items)))
-      → ((before : StackItems Token) (items : List Token) → length before.items ≡ 0 → Defers before items old.tokens → new.tokens ≡ record { items = items ++ before.items; refused = false })
-      → old.from ≡ s → new.from ≡ old.from → new.value ≡ old.value → Comes step s whole new
-  turned_all {old} {new} same turn at from value =
-      let all = reverse old.tokens.items in
-      let pushed : Defers (record { items = []; refused = false }) all old.tokens = λ h. (refl, sym (append-nil (reverse all) ∙ reverse-reverse old.tokens.items)) in
-      let items : new.tokens.items ≡ all = ap (λ (v : StackItems Token). v.items) (turn (record { items = []; refused = false }) all refl pushed) ∙ append-nil all in
-      record {
-        from = from ∙ at;
-        same = same ∙ ap (λ v. printing step v (doc_list_pieces s (docs_of_tokens s all))) (sym value)
-            ∙ ap (λ ws. printing step new.value (doc_list_pieces s (docs_of_tokens s ws))) (sym items);
-      }
+pub comes_first : {W : Type 0} {step : Layout → W → W} (now : Stacked W) → Comes step now.from (all_printed step now) now
+comes_first now = record { from = refl; same = refl }
 
+module _ {W : Type 0} {step : Layout → W → W} {s : PrintEnv} {whole : W × Option Missing} where
   -- a node and what it expanded to, which was turned over
   module _ {now taken between new : Stacked W} {w : Token} (c : Comes step s whole now) (next : ComesTo step now (w ∷ taken.tokens.items) taken) (a : ExpandsToken step w taken between)
-      (turn : (before : StackItems Token) (items : List Token) → length before.items ≡ length taken.tokens.items → Defers before items between.tokens → new.tokens ≡ record { items = items ++ before.items; refused = false })
-      (from : new.from ≡ between.from) (value : new.value ≡ between.value) where
+      (turn : TurnsOver (length taken.tokens.items) between.tokens new.tokens) (from : new.from ≡ between.from) (value : new.value ≡ between.value) where
     items : new.tokens.items ≡ a.expansion ++ taken.tokens.items
     items = ap (λ (v : StackItems Token). v.items) (turn taken.tokens a.expansion refl a.defers)
 
@@ -238,17 +249,10 @@ module _ {W : Type 0} {step : Layout → W → W} {s : PrintEnv} {whole : W × O
       c.same ∙ subst (λ t. printing step now.value (doc_list_pieces t (docs_of_tokens t now.tokens.items)) ≡ printing step last.value (doc_list_pieces t (docs_of_tokens t last.tokens.items))) c.from next.same
       ∙ ap (λ ws. printing step last.value (doc_list_pieces s (docs_of_tokens s ws))) over ∙ nothing_left step last.value
 
-  pub comes_to_missing : {now : Stacked W} {m : Missing} → Comes step s whole now → (printing step now.value (doc_list_pieces now.from (docs_of_tokens now.from now.tokens.items))).1 ≡ Some m → whole.1 ≡ Some m
+  pub comes_to_missing : {now : Stacked W} {m : Missing} → Comes step s whole now → (all_printed step now).1 ≡ Some m → whole.1 ≡ Some m
   comes_to_missing {now} {m} c lacks =
-      ap (λ (r : W × Option Missing). r.1) c.same ∙ subst (λ t. (printing step now.value (doc_list_pieces t (docs_of_tokens t now.tokens.items))).1 ≡ Some m) c.from lacks
-
--- a stack that refused isn't turned over
-pub never_turned : {old new : StackItems Token} → old.refused ≡ true
-    → ((before : StackItems Token) (items : List Token) → length before.items ≡ 0 → Defers before items old → new ≡ record { items = items ++ before.items; refused = false }) → ⊥
-never_turned {old} {new} refused turn =
-    let none : new ≡ record { items = []; refused = false } = turn (record { items = []; refused = false }) [] refl (λ f. absurd (cc)) in
-    let some : new ≡ record { items = token.Space ∷ []; refused = false } = turn (record { items = []; refused = false }) (token.Space ∷ []) refl (λ f. absurd (cc)) in
-    let long = ap (λ (v : StackItems Token). length v.items) (sym none ∙ some) in absurd (omega arith)
+      ap (λ (r : W × Option Missing). r.1) c.same
+      ∙ subst (λ t. (printing step now.value (doc_list_pieces t (docs_of_tokens t now.tokens.items))).1 ≡ Some m) c.from lacks
 
 -- 6. What is printed of all that was added
 
@@ -272,7 +276,7 @@ prints_text {ps = ps} result a t e = record { text = (a.exit.0, t ∙ ap page_te
 pub prints_fault : {A : Type 0} {s : PrintEnv} {ps : List DocPiece} {entry : Page} (found : PrintFault) → WritesPieces {W = Page} render ps entry (Err found) → PrintsPieces {A = A} s ps (Err found)
 prints_fault found a = record { text = tt; missing = λ m e. a.missing m (cc) }
 
-pub prints_refused : {Z : Type 0} {s : PrintEnv} {ps : List DocPiece} → PrintsPieces s ps (let answer : Result (String Z) PrintFault = Err fault.Memory in answer)
+pub prints_refused : {Z : Type 0} {s : PrintEnv} {ps : List DocPiece} → PrintsPieces {A = Z} s ps (Err fault.Memory)
 prints_refused = record { text = tt; missing = λ n e. absurd (cc) }
 
 -- 7. What a call prints that begins a printer and adds to it

@@ -1,19 +1,17 @@
 -- Documents that are layouts, and what printing makes of a value with them.
 use Rattle.std.proofs.Common.{◌≡◌, ℕ, Bool, true, false, List, [], ◌∷◌, ◌++◌, map, codes, Some, None, refl, sym, ap, ◌∙◌, append-nil, flat_map}
 use Rattle.std.proofs.lemmas.List.Concat.{flat_map-append}
-use Rattle.hir_node.specs.declared.literal.Literal.{Literal}
+use Rattle.hir_node.specs.declared.{literal.Literal.Literal, binding.BindingAnnotation.BindingAnnotation}
 use Rattle.hir_node.specs.declared.literal.Literal.TheVariants as literal
 use Rattle.hir_node.specs.declared.node_id.NodeId.TheVariants as node
-use Rattle.hir_node.specs.declared.binding.BindingAnnotation.{BindingAnnotation}
 use Rattle.hir_node.specs.declared.binding.BindingAnnotation.TheVariants as annotation
 use Rattle.hir_pretty_docs.specs.declared.token.Token.{Token}
 use Rattle.hir_pretty_docs.specs.declared.token.Token.TheVariants as token
 use Rattle.hir_pretty_nodes.specs.declared.lookups.Found.{Found}
-use Rattle.hir_pretty_nodes.specs.declared.lookups.Found.TheVariants as found
 use Rattle.hir_pretty_nodes.specs.Prelude.{Missing, PrintEnv, Doc, Put, MissingDoc, ExprDoc, ExprIn, Pattern, TypeDoc, text, br, name_parts, name_docs, annotation_docs, literal_docs, put_pieces, DocPiece, Present, Absent, docs_of, doc_pieces, pieces, doc_list_pieces, with_parentheses, first_missing, layout, DocsDecrease, stands_for, is_plain, found_docs, last_field_end, plain_pieces, found_pieces, enclose, printing, PrintsAlike}
-use Rattle.hir_pretty_layout.specs.Layouts.{Layout, Text}
-use Rattle.hir_pretty_layout.specs.Steps.{steps}
+use Rattle.hir_pretty_nodes.specs.declared.lookups.Found.TheVariants as found
 use Rattle.hir_pretty_layout.specs.Literals.{string_literal, char_literal, bytes_literal, c_string_literal}
+use Rattle.hir_pretty_layout.specs.{Layouts.Layout, Layouts.Text, Steps.steps}
 use Rattle.hir_pretty_nodes.proofs.StepLemmas.{pieces_at}
 
 -- 1. Documents and doc pieces

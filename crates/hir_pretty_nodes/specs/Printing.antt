@@ -1,13 +1,8 @@
 -- The model of a printer.
 use Rattle.std.specs.Prelude.{◌≡◌, Bool, false, List, [], ◌++◌, reverse}
 use Rattle.hir_pretty_layout.specs.Page.{Page, empty_page}
-use Rattle.hir_pretty_docs.specs.NameLookups.{PrintEnv}
-use Rattle.hir_pretty_docs.specs.Docs.{Doc}
-use Rattle.hir_pretty_docs.specs.Tokens.{docs_of_tokens}
-use Rattle.hir_pretty_nodes.specs.declared.printer.Printer.{Printer}
-use Rattle.hir_pretty_nodes.specs.PrintEnvs.{print_env}
-use Rattle.hir_pretty_nodes.specs.TableLookups.{lookups_of}
-use Rattle.hir_pretty_nodes.specs.DocPieces.{format_of}
+use Rattle.hir_pretty_docs.specs.{NameLookups.PrintEnv, Docs.Doc, Tokens.docs_of_tokens}
+use Rattle.hir_pretty_nodes.specs.{declared.printer.Printer.Printer, PrintEnvs.print_env, TableLookups.lookups_of, DocPieces.format_of}
 
 -- What is printed from; the documents that were added, in order; whether an allocation for one failed, so
 -- that they say nothing; and the value of what is written to.

@@ -2,7 +2,7 @@
 
 ghost use Rattle.std.specs.Prelude.{◌≡◌, true, None, Some, Err, OnOk, IfOk};
 ghost use Rattle.hir_pretty_layout.specs.Page.{empty_page};
-ghost use Rattle.hir_pretty_nodes.specs.Prelude.{Missing, doc_list_pieces, PrintsPieces, WritesPieces, format_of, printing_of, printing, env_of, stacked, NextNode, docs_of_tokens};
+ghost use Rattle.hir_pretty_nodes.specs.Prelude.{Missing, doc_list_pieces, PrintsPieces, WritesPieces, format_of, printing_of, stacked, all_printed, NextNode};
 ghost use Rattle.hir_pretty_nodes.specs.declared.fault.PrintFault.TheVariants as fault;
 
 use crate::laws::docs_decrease;
@@ -13,9 +13,8 @@ impl<'a, W: PieceWriter> Printer<'a, W> {
     /// Writes what waits up to the next node, and returns that node, or that nothing waits any more.
     fn next_node(&mut self) -> Result<Option<Token<'a>>, PrintFault>
         ensures ok { IfOk result (λ found. NextNode W.step (stacked self.old) found (stacked self.new)) }
-        ensures missing { let old = stacked self.old in (m : Missing) → result ≡ Err (fault.Missing m)
-            → (printing W.step old.value (doc_list_pieces old.from
-            (docs_of_tokens old.from old.tokens.items))).1 ≡ Some m }
+        ensures missing { (m : Missing) → result ≡ Err (fault.Missing m)
+            → (all_printed W.step (stacked self.old)).1 ≡ Some m }
     {
         while let Some(token) = self.tokens.stack.pop() {
             if token.is_node() {
@@ -26,18 +25,15 @@ impl<'a, W: PieceWriter> Printer<'a, W> {
         Ok(None)
     }
 
-    /// Writes the doc pieces of what was added, up to the first fault.
+    /// Writes what waits, up to the first fault.
     fn write(&mut self) -> Result<(), PrintFault>
-        ensures ok { let old = printing_of self.old in OnOk result
-            (printing W.step old.value (doc_list_pieces old.from old.added) ≡ (self.new.writer, None)) }
-        ensures missing { let old = printing_of self.old in (m : Missing) → result ≡ Err (fault.Missing m)
-            → (printing W.step old.value (doc_list_pieces old.from old.added)).1 ≡ Some m }
-        ensures memory { (printing_of self.old).refused ≡ true → result ≡ Err fault.Memory }
+        ensures ok { OnOk result (all_printed W.step (stacked self.old) ≡ (self.new.writer, None)) }
+        ensures missing { (m : Missing) → result ≡ Err (fault.Missing m)
+            → (all_printed W.step (stacked self.old)).1 ≡ Some m }
     {
         self.store.has_no_fault();
         docs_decrease();
-        self.tokens.stack.push_deferred(0)?;
-        while let Some(node) = self.next_node()? {
+        'nodes: while let Some(node) = self.next_node()? {
             let below = self.tokens.stack.len();
             self.expand(&node)?;
             self.tokens.stack.push_deferred(below)?;
@@ -71,6 +67,7 @@ impl<'a, W: PieceWriter + Drop> Printer<'a, W> {
             WritesPieces W.step (doc_list_pieces p.from p.added) p.value result }
         ensures memory { (printing_of self.entry).refused ≡ true → result ≡ Err fault.Memory }
     {
+        self.tokens.stack.push_deferred(0)?;
         self.write()?;
         Ok(self.into_writer())
     }

@@ -1,12 +1,9 @@
 -- What is printed of what was found, and of what is missing.
 use Rattle.std.specs.Prelude.{◌≡◌, Bool, List, [], ◌∷◌, ◌++◌, ℕ, Result, IfOk, IfErr, codes, decimal}
-use Rattle.hir_store_core.specs.Contents.{Contents}
-use Rattle.hir_store_core.specs.declared.missing.Missing.{Missing}
-use Rattle.hir_pretty_docs.specs.NameLookups.{NameLookups, PrintEnv}
-use Rattle.hir_pretty_docs.specs.Docs.{Doc, MissingDoc, text}
-use Rattle.hir_pretty_docs.specs.Names.{name_docs, of_binding}
-use Rattle.hir_pretty_nodes.specs.PrintEnvs.{print_env}
-use Rattle.hir_pretty_nodes.specs.declared.lookups.Found.{Found}
+use Rattle.hir_store_core.specs.{Contents.Contents, declared.missing.Missing.Missing}
+use Rattle.hir_pretty_docs.specs.{NameLookups.NameLookups, NameLookups.PrintEnv, Docs.Doc, Docs.MissingDoc, Docs.text, Names.name_docs}
+use Rattle.hir_pretty_docs.specs.Names.{of_binding}
+use Rattle.hir_pretty_nodes.specs.{PrintEnvs.print_env, declared.lookups.Found.Found}
 use Rattle.hir_pretty_nodes.specs.declared.lookups.Found.TheVariants as found
 
 abbrev pub found_docs : PrintEnv → Found → List Doc

@@ -2,9 +2,7 @@
 use Rattle.std.specs.Prelude.{ℕ, Bool, true, false, List, [], ◌∷◌, ◌++◌, map, codes, decimal}
 use Rattle.hir_node.specs.declared.binding.Binding.{Binding}
 use Rattle.hir_pretty_layout.specs.Layouts.{Layout, Text, SoftSpace, Break, Indent, Outdent}
-use Rattle.hir_pretty_docs.specs.Docs.{Doc, Put}
-use Rattle.hir_pretty_docs.specs.Names.{name_parts, annotation_docs}
-use Rattle.hir_pretty_docs.specs.Literals.{literal_docs}
+use Rattle.hir_pretty_docs.specs.{Docs.Doc, Docs.Put, Names.name_parts, Names.annotation_docs, Literals.literal_docs}
 use Rattle.hir_pretty_docs.specs.declared.token.Token.{Token}
 use Rattle.hir_pretty_docs.specs.declared.token.Token.TheVariants as token
 use Rattle.hir_pretty_nodes.specs.declared.lookups.Found.{Found}

@@ -1,18 +1,12 @@
 -- What a step of the printer's loop does to the tokens that wait, and to the value.
 use Rattle.std.specs.Prelude.{◌≡◌, ◌<◌, ◌≤◌, Bool, true, List, [], ◌∷◌, ◌++◌, ℕ, Option, Some, None, IfSome, codes, option_to_list}
 use Rattle.hir_collections.specs.Stacks.{StackItems, Defers}
-use Rattle.hir_store_core.specs.Contents.{Contents}
-use Rattle.hir_store_core.specs.declared.missing.Missing.{Missing}
+use Rattle.hir_store_core.specs.{Contents.Contents, declared.missing.Missing.Missing}
 use Rattle.hir_pretty_layout.specs.Layouts.{Layout}
-use Rattle.hir_pretty_docs.specs.declared.token.Token.{Token}
-use Rattle.hir_pretty_docs.specs.NameLookups.{NameLookups, PrintEnv}
-use Rattle.hir_pretty_docs.specs.Docs.{Doc, text, when}
+use Rattle.hir_pretty_docs.specs.{declared.token.Token.Token, NameLookups.NameLookups, NameLookups.PrintEnv, Docs.Doc, Docs.text, Docs.when}
 use Rattle.hir_pretty_docs.specs.Tokens.{stands_for, is_node, docs_of_tokens}
-use Rattle.hir_pretty_nodes.specs.PrintEnvs.{print_env}
-use Rattle.hir_pretty_nodes.specs.DocPieces.{DocPiece, Present, Absent, doc_list_pieces}
-use Rattle.hir_pretty_nodes.specs.Sizes.{size}
-use Rattle.hir_pretty_nodes.specs.declared.printer.Printer.{Printer}
-use Rattle.hir_pretty_nodes.specs.Printing.{env_of}
+use Rattle.hir_pretty_nodes.specs.{PrintEnvs.print_env, DocPieces.DocPiece, DocPieces.Present, DocPieces.Absent, DocPieces.doc_list_pieces}
+use Rattle.hir_pretty_nodes.specs.{Sizes.size, declared.printer.Printer.Printer, Printing.env_of}
 
 -- What printing makes of a value: the value after the steps of the doc pieces before the first definition
 -- that is missing, and that definition.
@@ -29,6 +23,10 @@ pub record Stacked (W : Type 0) : Type 0 where
 
 abbrev pub stacked : {W : Type 0} → Printer W → Stacked W
 stacked p = record { from = env_of p; tokens = p.tokens.stack; value = p.writer }
+
+-- what printing all that waits makes of the value
+abbrev pub all_printed : {W : Type 0} → (Layout → W → W) → Stacked W → W × Option Missing
+all_printed step p = printing step p.value (doc_list_pieces p.from (docs_of_tokens p.from p.tokens.items))
 
 -- documents, in parentheses where they need them
 abbrev pub enclose : Bool → List Doc → List Doc
@@ -69,8 +67,7 @@ pub record ExpandsToken {W : Type 0} (step : Layout → W → W) (w : Token) (ol
 pub record ComesTo {W : Type 0} (step : Layout → W → W) (old : Stacked W) (tokens : List Token)
     (new : Stacked W) : Type 0 where
   pub from : new.from ≡ old.from
-  pub same : printing step old.value (doc_list_pieces old.from (docs_of_tokens old.from old.tokens.items))
-      ≡ printing step new.value (doc_list_pieces old.from (docs_of_tokens old.from tokens))
+  pub same : all_printed step old ≡ printing step new.value (doc_list_pieces old.from (docs_of_tokens old.from tokens))
   pub size : size old.from (docs_of_tokens old.from tokens)
       ≤ size old.from (docs_of_tokens old.from old.tokens.items)
 

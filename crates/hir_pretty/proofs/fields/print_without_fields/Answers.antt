@@ -1,8 +1,7 @@
 use Rattle.hir_pretty_docs.proofs.Common.{refl, adds_more}
 use Rattle.hir_pretty_nodes.proofs.Common.{prints, print_env, lookups_of}
 use Rattle.hir_pretty_nodes.specs.Prelude.{words_of}
-use Rattle.hir_pretty.specs.Prelude.{false}
-use Rattle.hir_pretty.specs.FoundParts.{parents}
+use Rattle.hir_pretty.specs.{Prelude.false, FoundParts.parents}
 use Rattle.hir_pretty.proofs.OtherLemmas.{fields_outside, in_any_store}
 use Rattle.hir_pretty.proofs.fields.print_without_fields.Goals as goal
 

@@ -1,6 +1,5 @@
 use Rattle.hir_pretty_nodes.proofs.Common.{map, ap, ◌∙◌, annotation_docs, name_parts, put_pieces, on_ok_weaker, steps_then}
-use Rattle.hir_pretty_layout.specs.Layouts.{Text}
-use Rattle.hir_pretty_layout.specs.Steps.{steps}
+use Rattle.hir_pretty_layout.specs.{Layouts.Text, Steps.steps}
 use Rattle.hir_pretty_nodes.proofs.write.write_binding.Goals as goal
 
 pub returns : goal.returns
