@@ -60,10 +60,10 @@ in_another {ps = ps} {result = result} a e = record {
   missing = a.missing;
 }
 
-pub in_any_store : {Z : Type 0} {s : PrintEnv} {is : List Doc} {result : Result (String Z) PrintFault} (other : PrintEnv)
+pub in_any_store : {Z : Type 0} {s : PrintEnv} {result : Result (String Z) PrintFault} (other : PrintEnv) (is : List Doc)
     → Outside is → other.one_line ≡ s.one_line → PrintsPieces s (doc_list_pieces s is) result
     → PrintsPieces other (doc_list_pieces other is) result
-in_any_store {s = s} {is} {result} other a e h =
+in_any_store {s = s} {result} other is a e h =
     subst (λ ps. PrintsPieces other ps result) (printed_outside s other is a) (in_another h e)
 
 pub ruleset others = (prints_refused)

@@ -1,12 +1,11 @@
 -- Documents that were added to a stack of tokens, one after another.
 use Rattle.std.proofs.Common.{◌≡◌, ◌+◌, ◌<◌, ℕ, Bool, true, false, arith, List, [], ◌∷◌, ◌++◌, refl, sym, ap, ap₂, subst, ◌∙◌, append_assoc, append-nil, length, take, get_or}
-use Rattle.std.proofs.lemmas.List.{take_more}
-use Rattle.std.proofs.lemmas.List.Concat.{flat_map-append}
+use Rattle.std.proofs.lemmas.List.{take_more, Concat.flat_map-append}
 use Rattle.hir_collections.specs.Stacks.{StackItems, Defers}
 use Rattle.hir_collections.proofs.DeferredLemmas.{defers_none, defers_two}
 use Rattle.hir_pretty_docs.specs.declared.token.Token.{Token}
-use Rattle.hir_pretty_docs.specs.declared.token.Token.TheVariants as token
 use Rattle.hir_pretty_docs.specs.Prelude.{PrintEnv, Doc, stands_for, docs_of_tokens, docs_one_by_one, stood_after, Adds, AddsTokens}
+use Rattle.hir_pretty_docs.specs.declared.token.Token.TheVariants as token
 
 stood_is-after : (s : PrintEnv) (is : List Doc) (tokens : List Token) → is ++ docs_of_tokens s tokens ≡ stood_after s is tokens
 stood_is-after s is [] = append-nil is
@@ -22,9 +21,9 @@ pub meant-append : (s : PrintEnv) (xs ys : List Token)
 meant-append s xs ys = flat_map-append (stands_for s) xs ys
 
 -- one more token of a list
-pub deferred_more : {u v w : StackItems Token} (ws : List Token) (i : ℕ) (x : Token) → i < length ws → x ≡ get_or ws i x
+pub deferred_more : (u v w : StackItems Token) (ws : List Token) (i : ℕ) (x : Token) → i < length ws → x ≡ get_or ws i x
     → Defers u (take i ws) v → Defers v (x ∷ []) w → Defers u (take (i + 1) ws) w
-deferred_more {u} {v} {w} ws i x h e a b =
+deferred_more u v w ws i x h e a b =
     subst (λ (ts : List Token). Defers u ts w) (ap (λ y. take i ws ++ (y ∷ [])) e ∙ sym (take_more ws i x h))
     (defers_two u v w (take i ws) (x ∷ []) a b)
 

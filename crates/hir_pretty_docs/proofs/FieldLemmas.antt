@@ -1,12 +1,11 @@
 -- Fields of patterns, and parameters of closures, one after another.
 use Rattle.std.proofs.Common.{◌≡◌, ℕ, ◌+◌, ◌<◌, ◌≤◌, Bool, true, false, List, [], ◌∷◌, ◌++◌, codes, length, drop, get_or, Option, refl, sym, ap, ap₂, ◌∙◌, arith, append_assoc, append-nil, ◌||◌, ◌==◌, not}
+use Rattle.std.proofs.lemmas.List.{drop_all}
 use Rattle.hir_path.specs.declared.path.Path.{Path}
 use Rattle.hir_node.specs.declared.pat.Pat.TheVariants as pat
 use Rattle.hir_node.specs.declared.pat.RecordFieldPat.{RecordFieldPat}
 use Rattle.hir_pretty_docs.specs.Prelude.{PrintEnv, text, br, into, out, p, t, opt, when, field_pattern, after_last, field_patterns, pat_docs, path_docs, params, following}
-use Rattle.std.proofs.lemmas.List.{drop_all}
-use Rattle.hir_pretty_docs.proofs.ListLemmas.{drop_item, is_cons}
-use Rattle.hir_pretty_docs.proofs.OrderLemmas.{not_empty}
+use Rattle.hir_pretty_docs.proofs.{ListLemmas.drop_item, ListLemmas.is_cons, OrderLemmas.not_empty}
 
 field_more : (s : PrintEnv) (b : Bool) (f g : RecordFieldPat) (fs : List RecordFieldPat)
     → field_pattern s f ++ (text (codes ",") ++ br) ++ field_patterns s b (g ∷ fs) ≡ field_patterns s b (f ∷ g ∷ fs)

@@ -1,8 +1,7 @@
 -- The documents of a function type by its parameters and its result.
 use Rattle.std.proofs.Common.{◌≡◌, ℕ, ◌-◌, Bool, true, false, List, [], ◌∷◌, ◌++◌, codes, map, length, Option, refl, sym, ap, ap₂, ◌∙◌, arith, append_assoc, append-nil, length-append, ◌&&◌, ◌==◌, not, flat_map}
 use Rattle.hir_pretty_docs.specs.Prelude.{Doc, text, t, when, join, comma_joined, all_but_last, last, varargs_docs, signature_docs}
-use Rattle.hir_pretty_docs.proofs.ListLemmas.{is_cons}
-use Rattle.hir_pretty_docs.proofs.OrderLemmas.{not_empty}
+use Rattle.hir_pretty_docs.proofs.{ListLemmas.is_cons, OrderLemmas.not_empty}
 
 -- the types of parameters
 abbrev pub types_of : List (Option (List ℕ) × ℕ) → List ℕ

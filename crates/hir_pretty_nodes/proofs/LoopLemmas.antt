@@ -177,26 +177,27 @@ abbrev pub TurnsOver : ℕ → StackItems Token → StackItems Token → Type 0
 TurnsOver below old new = (before : StackItems Token) (items : List Token) → length before.items ≡ below
     → Defers before items old → new ≡ record { items = items ++ before.items; refused = false }
 
-turned_items : {old new : StackItems Token} → TurnsOver 0 old new → new.items ≡ reverse old.items
-turned_items {old} turn =
+turned_items : (old : StackItems Token) {new : StackItems Token} → TurnsOver 0 old new → new.items ≡ reverse old.items
+turned_items old turn =
     let all = reverse old.items in
     let pushed : Defers (record { items = []; refused = false }) all old
     = λ h. (refl, sym (append-nil (reverse all) ∙ reverse-reverse old.items)) in
     ap (λ (v : StackItems Token). v.items) (turn (record { items = []; refused = false }) all refl pushed) ∙ append-nil all
 
 -- what was added was turned over
-module _ {W : Type 0} {step : Layout → W → W} {s : PrintEnv} {value : W} {old new : StackItems Token} (turn : TurnsOver 0 old new) where
+module _ {W : Type 0} {step : Layout → W → W} {s : PrintEnv} {value : W} (old : StackItems Token) {new : StackItems Token}
+    (turn : TurnsOver 0 old new) where
   pub turned_over : printing step value (doc_list_pieces s (docs_of_tokens s (reverse old.items)))
       ≡ printing step value (doc_list_pieces s (docs_of_tokens s new.items))
-  turned_over = ap (λ ws. printing step value (doc_list_pieces s (docs_of_tokens s ws))) (sym (turned_items turn))
+  turned_over = ap (λ ws. printing step value (doc_list_pieces s (docs_of_tokens s ws))) (sym (turned_items old turn))
 
   pub turned_missing : {m : Missing} → (printing step value (doc_list_pieces s (docs_of_tokens s new.items))).1 ≡ Some m
       → (printing step value (doc_list_pieces s (docs_of_tokens s (reverse old.items)))).1 ≡ Some m
   turned_missing e = ap (λ (r : W × Option Missing). r.1) turned_over ∙ e
 
 -- a stack that refused isn't turned over
-pub never_turned : {old new : StackItems Token} → old.refused ≡ true → TurnsOver 0 old new → ⊥
-never_turned {old} {new} refused turn =
+pub never_turned : (old : StackItems Token) {new : StackItems Token} → old.refused ≡ true → TurnsOver 0 old new → ⊥
+never_turned old {new} refused turn =
     let none : new ≡ record { items = []; refused = false } = turn (record { items = []; refused = false }) [] refl (λ f. absurd (cc)) in
     let some : new ≡ record { items = token.Space ∷ []; refused = false }
     = turn (record { items = []; refused = false }) (token.Space ∷ []) refl (λ f. absurd (cc)) in
@@ -212,35 +213,38 @@ comes_first now = record { from = refl; same = refl }
 
 module _ {W : Type 0} {step : Layout → W → W} {s : PrintEnv} {whole : W × Option Missing} where
   -- a node and what it expanded to, which was turned over
-  module _ {now taken between new : Stacked W} {w : Token} (c : Comes step s whole now) (next : ComesTo step now (w ∷ taken.tokens.items) taken) (a : ExpandsToken step w taken between)
-      (turn : TurnsOver (length taken.tokens.items) between.tokens new.tokens) (from : new.from ≡ between.from) (value : new.value ≡ between.value) where
-    items : new.tokens.items ≡ a.expansion ++ taken.tokens.items
-    items = ap (λ (v : StackItems Token). v.items) (turn taken.tokens a.expansion refl a.defers)
-
+  module _ {now taken between : Stacked W} {stack : StackItems Token} {w : Token} (c : Comes step s whole now)
+      (next : ComesTo step now (w ∷ taken.tokens.items) taken) (a : ExpandsToken step w taken between)
+      (turn : TurnsOver (length taken.tokens.items) between.tokens stack) where
     at : taken.from ≡ s
     at = next.from ∙ c.from
 
-    pub comes_expanded : Comes step s whole new
+    docs_now : docs_of_tokens s stack.items ≡ docs_of_tokens s a.expansion ++ docs_of_tokens s taken.tokens.items
+    docs_now = ap (λ (v : StackItems Token). docs_of_tokens s v.items) (turn taken.tokens a.expansion refl a.defers)
+        ∙ meant-append s a.expansion taken.tokens.items
+
+    pub comes_expanded : Comes step s whole (record between { tokens = stack })
     comes_expanded =
-        let rest = docs_of_tokens s taken.tokens.items in
-        let before : printing step now.value (doc_list_pieces s (docs_of_tokens s now.tokens.items)) ≡ printing step taken.value (doc_list_pieces s (stands_for s w ++ rest))
-        = subst (λ t. printing step now.value (doc_list_pieces t (docs_of_tokens t now.tokens.items)) ≡ printing step taken.value (doc_list_pieces t (docs_of_tokens t (w ∷ taken.tokens.items)))) c.from next.same in
+        let before : printing step now.value (doc_list_pieces s (docs_of_tokens s now.tokens.items))
+            ≡ printing step taken.value (doc_list_pieces s (docs_of_tokens s (w ∷ taken.tokens.items)))
+        = subst (λ t. printing step now.value (doc_list_pieces t (docs_of_tokens t now.tokens.items))
+            ≡ printing step taken.value (doc_list_pieces t (docs_of_tokens t (w ∷ taken.tokens.items)))) c.from next.same in
         let alike : PrintsAlike step s taken.value (stands_for s w) between.value (docs_of_tokens s a.expansion)
         = subst (λ t. PrintsAlike step t taken.value (stands_for t w) between.value (docs_of_tokens t a.expansion)) at a.alike in
         record {
-          from = from ∙ a.from ∙ at;
-          same = c.same ∙ before ∙ alike.alike rest
-              ∙ ap (λ is. printing step between.value (doc_list_pieces s is)) (sym (ap (docs_of_tokens s) items ∙ meant-append s a.expansion taken.tokens.items))
-              ∙ ap (λ v. printing step v (doc_list_pieces s (docs_of_tokens s new.tokens.items))) (sym value);
+          from = a.from ∙ at;
+          same = c.same ∙ before ∙ alike.alike (docs_of_tokens s taken.tokens.items)
+              ∙ ap (λ is. printing step between.value (doc_list_pieces s is)) (sym docs_now);
         }
 
-    pub less_expanded : size s (docs_of_tokens s new.tokens.items) < size s (docs_of_tokens s now.tokens.items)
+    pub less_expanded : size s (docs_of_tokens s stack.items) < size s (docs_of_tokens s now.tokens.items)
     less_expanded =
         let most : size s (docs_of_tokens s (w ∷ taken.tokens.items)) ≤ size s (docs_of_tokens s now.tokens.items)
         = subst (λ t. size t (docs_of_tokens t (w ∷ taken.tokens.items)) ≤ size t (docs_of_tokens t now.tokens.items)) c.from next.size in
-        let less : size s (docs_of_tokens s a.expansion) < size s (stands_for s w) = subst (λ t. size t (docs_of_tokens t a.expansion) < size t (stands_for t w)) at a.less in
+        let less : size s (docs_of_tokens s a.expansion) < size s (stands_for s w)
+        = subst (λ t. size t (docs_of_tokens t a.expansion) < size t (stands_for t w)) at a.less in
         let k = size-append s (stands_for s w) (docs_of_tokens s taken.tokens.items) in
-        let m = ap (size s) (ap (docs_of_tokens s) items ∙ meant-append s a.expansion taken.tokens.items) in
+        let m = ap (size s) docs_now in
         let n = size-append s (docs_of_tokens s a.expansion) (docs_of_tokens s taken.tokens.items) in omega arith
 
   -- nothing waits
@@ -302,30 +306,31 @@ stack_more {old} {new} a h s =
     ap (λ ws. docs_of_tokens s (reverse ws)) (a.defers h).1 ∙ ap (docs_of_tokens s) (reverse-append (reverse a.tokens) old.items ∙ ap (λ ws. reverse old.items ++ ws) (reverse-reverse a.tokens))
     ∙ meant-append s (reverse old.items) a.tokens ∙ ap (λ is. docs_of_tokens s (reverse old.items) ++ is) (a.same s)
 
-pub added_to : {W : Type 0} {old new : Printer W} {between : StackItems Token} {docs : PrintEnv → List Doc} → Adds old.tokens.stack docs between
+pub added_to : {W : Type 0} (old : Printer W) {new : Printer W} {between : StackItems Token} {docs : PrintEnv → List Doc} → Adds old.tokens.stack docs between
     → (between.refused ≡ false) × (new.tokens.stack ≡ between) → new ≡ record old { tokens = new.tokens } → AddsTo (printing_of old) docs (printing_of new)
-added_to {old = old} {new} {between} {docs} a h same =
+added_to old {new} {between} {docs} a h same =
     let s = env_of old in
     let stack : new.tokens.stack ≡ between = h.1 in
     let is : docs_of_tokens s (reverse new.tokens.stack.items) ≡ (printing_of old).added ++ docs s
     = ap (λ (v : StackItems Token). docs_of_tokens s (reverse v.items)) stack ∙ stack_more a h.0 s in
     let whole : new.tokens.stack.refused ≡ false = ap (λ (v : StackItems Token). v.refused) stack ∙ h.0 in
-    ap printing_of same ∙ ap₂ (λ ds b. record (printing_of old) { added = ds; refused = b }) is whole
+    record { same = ap printing_of same ∙ ap₂ (λ ds b. record (printing_of old) { added = ds; refused = b }) is whole }
 
 -- by its own calls
 pub prints_added : {Z : Type 0} {s : PrintEnv} {first added : Printing Page} {docs : PrintEnv → List Doc} {result : Result (String Z) PrintFault} → first ≡ on_page s → AddsTo first docs added
     → (added.value ≡ empty_page (format_of added.from.one_line) → PrintsPieces added.from (doc_list_pieces added.from added.added) result)
     → (added.refused ≡ true → result ≡ Err fault.Memory) → PrintsPieces s (doc_list_pieces s (docs s)) result
-prints_added {first = first} {added} {docs} b a pieces memory =
-    prints_docs added (ap (λ (p : Printing Page). p.from) a ∙ ap (λ (p : Printing Page). p.from) b) (ap (λ (p : Printing Page). p.value) a ∙ ap (λ (p : Printing Page). p.value) b)
-    (λ _. ap (λ (p : Printing Page). p.added) a ∙ ap (λ (p : Printing Page). p.added ++ docs p.from) b) pieces memory
+prints_added {added = added} {docs} b a pieces memory =
+    let is = a.same ∙ ap (λ (p : Printing Page). record p { added = p.added ++ docs p.from; refused = false }) b in
+    prints_docs added (ap (λ (p : Printing Page). p.from) is) (ap (λ (p : Printing Page). p.value) is)
+    (λ _. ap (λ (p : Printing Page). p.added) is) pieces memory
 
 -- by those of its tokens
-pub prints : {Z : Type 0} {s : PrintEnv} {first added : Printer Page} {docs : PrintEnv → List Doc} {result : Result (String Z) PrintFault} → printing_of first ≡ on_page s
+pub prints : {Z : Type 0} {s : PrintEnv} (first : Printer Page) {added : Printer Page} {docs : PrintEnv → List Doc} {result : Result (String Z) PrintFault} → printing_of first ≡ on_page s
     → added ≡ record first { tokens = added.tokens } → Adds first.tokens.stack docs added.tokens.stack
     → ((printing_of added).value ≡ empty_page (format_of (env_of added).one_line) → PrintsPieces (env_of added) (doc_list_pieces (env_of added) (printing_of added).added) result)
     → ((printing_of added).refused ≡ true → result ≡ Err fault.Memory) → PrintsPieces s (doc_list_pieces s (docs s)) result
-prints {s = s} {first} {added} {docs} b same a pieces memory =
+prints {s = s} first {added} {docs} b same a pieces memory =
     let first_from : env_of first ≡ s = ap (λ (p : Printing Page). p.from) b in
     let from : env_of added ≡ env_of first = ap env_of same in
     let none : docs_of_tokens (env_of first) (reverse first.tokens.stack.items) ≡ [] = ap (λ (p : Printing Page). p.added) b in

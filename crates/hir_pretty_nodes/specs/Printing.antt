@@ -32,6 +32,6 @@ begun s value = record { from = s; added = []; refused = false; value = value }
 abbrev pub on_page : PrintEnv → Printing Page
 on_page s = begun s (empty_page (format_of s.one_line))
 
--- a printer to which these documents were added
-abbrev pub AddsTo : {W : Type 0} → Printing W → (PrintEnv → List Doc) → Printing W → Type 0
-AddsTo old docs new = new ≡ record old { added = old.added ++ docs old.from; refused = false }
+-- these documents were added to a printer
+pub record AddsTo {W : Type 0} (old : Printing W) (docs : PrintEnv → List Doc) (new : Printing W) : Type 0 where
+  pub same : new ≡ record old { added = old.added ++ docs old.from; refused = false }

@@ -7,4 +7,4 @@ returns-in_err-add_function c =
 
 pub returns : goal.returns
 returns c =
-    prints (rw c.store.ensures.store at c.new-printer.ensures) refl c.in_ok-add_function.ensures c.print.ensures.pieces c.print.ensures.memory
+    prints c.new-printer.result (rw c.store.ensures.store at c.new-printer.ensures) refl c.in_ok-add_function.ensures c.print.ensures.pieces c.print.ensures.memory

@@ -1,8 +1,7 @@
 use Rattle.hir_pretty_docs.proofs.Common.{subst, defers_none, deferred_more}
-use Rattle.std.proofs.lemmas.List.{take_all}
+use Rattle.std.proofs.{Common.List, lemmas.List.take_all}
 use Rattle.hir_pretty_docs.specs.declared.token.Token.{Token}
 use Rattle.hir_collections.specs.Stacks.{Defers}
-use Rattle.std.proofs.Common.{List}
 use Rattle.hir_pretty_docs.proofs.tokens.Tokens.add.Goals as goal
 
 pub loop-token-init : goal.loop-token-init
@@ -10,8 +9,8 @@ loop-token-init c = defers_none c.args.self.now.stack
 
 pub loop-token-preserved : goal.loop-token-preserved
 loop-token-preserved c =
-    deferred_more c.args.tokens.now c.loop-token.token-index c.token-item.result c.loop-token-test.true c.token-item.is
-    c.loop-token.invariant c.defer_copy.ensures
+    deferred_more c.args.self.now.stack c.loop-token.self.stack c.defer_copy.new.stack c.args.tokens.now c.loop-token.token-index
+    c.token-item.result c.loop-token-test.true c.token-item.is c.loop-token.invariant c.defer_copy.ensures
 
 pub returns : goal.returns
 returns c = record {

@@ -3,4 +3,4 @@ use Rattle.std.proofs.Common.{refl}
 use Rattle.hir_pretty_nodes.proofs.printer.Printer.add_path.Goals as goal
 
 pub returns : goal.returns
-returns g c = on_ok_weaker c.check.result (λ h. added_to c.add_path.ensures h refl) c.check.ensures
+returns g c = on_ok_weaker c.check.result (λ h. added_to c.args.self.now c.add_path.ensures h refl) c.check.ensures
