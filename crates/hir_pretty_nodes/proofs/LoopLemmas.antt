@@ -136,7 +136,7 @@ module _ {W : Type 0} {step : Layout → W → W} where
   -- 4. What waits comes to the same
 
   pub comes_same : (old : Stacked W) → ComesTo step old old.tokens.items old
-  comes_same old = record { from = refl; same = refl; size = omega arith }
+  comes_same old = record { from = refl; same = refl; most = omega arith }
 
   -- the next token was taken from the stack
   pub comes_taken : {old now taken : Stacked W} {w : Token} → ComesTo step old now.tokens.items now → now.tokens.items ≡ w ∷ taken.tokens.items → taken.from ≡ now.from → taken.value ≡ now.value
@@ -146,7 +146,7 @@ module _ {W : Type 0} {step : Layout → W → W} where
       record {
         from = from ∙ c.from;
         same = c.same ∙ ap (λ ws. printing step now.value (doc_list_pieces s (docs_of_tokens s ws))) next ∙ ap (λ v. printing step v (doc_list_pieces s (docs_of_tokens s (w ∷ taken.tokens.items)))) (sym value);
-        size = let h = c.size in let k = ap (λ ws. size s (docs_of_tokens s ws)) next in omega arith;
+        most = let h = c.most in let k = ap (λ ws. size s (docs_of_tokens s ws)) next in omega arith;
       }
 
   -- and it was written
@@ -158,7 +158,7 @@ module _ {W : Type 0} {step : Layout → W → W} where
       record {
         from = ap (λ (p : Stacked W). p.from) a.same ∙ c.from;
         same = c.same ∙ alike.alike (docs_of_tokens s taken.tokens.items) ∙ ap (λ ws. printing step new.value (doc_list_pieces s (docs_of_tokens s ws))) (sym tokens);
-        size = let h = c.size in let k = size-append s (stands_for s w) (docs_of_tokens s taken.tokens.items) in let m = ap (λ ws. size s (docs_of_tokens s ws)) tokens in omega arith;
+        most = let h = c.most in let k = size-append s (stands_for s w) (docs_of_tokens s taken.tokens.items) in let m = ap (λ ws. size s (docs_of_tokens s ws)) tokens in omega arith;
       }
 
   -- or it is missing
@@ -226,9 +226,9 @@ module _ {W : Type 0} {step : Layout → W → W} {s : PrintEnv} {whole : W × O
     pub comes_expanded : Comes step s whole (record between { tokens = stack })
     comes_expanded =
         let before : printing step now.value (doc_list_pieces s (docs_of_tokens s now.tokens.items))
-            ≡ printing step taken.value (doc_list_pieces s (docs_of_tokens s (w ∷ taken.tokens.items)))
+        ≡ printing step taken.value (doc_list_pieces s (docs_of_tokens s (w ∷ taken.tokens.items)))
         = subst (λ t. printing step now.value (doc_list_pieces t (docs_of_tokens t now.tokens.items))
-            ≡ printing step taken.value (doc_list_pieces t (docs_of_tokens t (w ∷ taken.tokens.items)))) c.from next.same in
+        ≡ printing step taken.value (doc_list_pieces t (docs_of_tokens t (w ∷ taken.tokens.items)))) c.from next.same in
         let alike : PrintsAlike step s taken.value (stands_for s w) between.value (docs_of_tokens s a.expansion)
         = subst (λ t. PrintsAlike step t taken.value (stands_for t w) between.value (docs_of_tokens t a.expansion)) at a.alike in
         record {
@@ -240,7 +240,7 @@ module _ {W : Type 0} {step : Layout → W → W} {s : PrintEnv} {whole : W × O
     pub less_expanded : size s (docs_of_tokens s stack.items) < size s (docs_of_tokens s now.tokens.items)
     less_expanded =
         let most : size s (docs_of_tokens s (w ∷ taken.tokens.items)) ≤ size s (docs_of_tokens s now.tokens.items)
-        = subst (λ t. size t (docs_of_tokens t (w ∷ taken.tokens.items)) ≤ size t (docs_of_tokens t now.tokens.items)) c.from next.size in
+        = subst (λ t. size t (docs_of_tokens t (w ∷ taken.tokens.items)) ≤ size t (docs_of_tokens t now.tokens.items)) c.from next.most in
         let less : size s (docs_of_tokens s a.expansion) < size s (stands_for s w)
         = subst (λ t. size t (docs_of_tokens t a.expansion) < size t (stands_for t w)) at a.less in
         let k = size-append s (stands_for s w) (docs_of_tokens s taken.tokens.items) in

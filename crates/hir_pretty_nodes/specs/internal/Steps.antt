@@ -68,7 +68,7 @@ pub record ComesTo {W : Type 0} (step : Layout → W → W) (old : Stacked W) (t
     (new : Stacked W) : Type 0 where
   pub from : new.from ≡ old.from
   pub same : all_printed step old ≡ printing step new.value (doc_list_pieces old.from (docs_of_tokens old.from tokens))
-  pub size : size old.from (docs_of_tokens old.from tokens)
+  pub most : size old.from (docs_of_tokens old.from tokens)
       ≤ size old.from (docs_of_tokens old.from old.tokens.items)
 
 -- What waited up to the next node was written; without one, all was.
