@@ -6,3 +6,9 @@ returns-in-StaticId c = rw c.in-StaticId.is (adds_more c.add_keyword-in-StaticId
 
 pub returns-in-ConstId : goal.returns-in-ConstId
 returns-in-ConstId c = rw c.in-ConstId.is (adds c.add-in-ConstId.ensures (λ s. refl))
+
+pub returns-in-FunctionId : goal.returns-in-FunctionId
+returns-in-FunctionId c = rw c.in-FunctionId.is c.add_keyword.ensures
+
+pub returns-in-VariantId : goal.returns-in-VariantId
+returns-in-VariantId c = rw c.in-VariantId.is c.add_variant_name.ensures
