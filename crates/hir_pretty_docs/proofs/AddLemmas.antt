@@ -1,10 +1,12 @@
 -- Documents that were added to a stack of tokens, one after another.
-use Rattle.std.proofs.Common.{◌≡◌, ◌+◌, ◌<◌, ℕ, Bool, true, false, arith, List, [], ◌∷◌, ◌++◌, refl, sym, ap, ap₂, subst, ◌∙◌, append_assoc, append-nil, length, take, get_or}
-use Rattle.std.proofs.lemmas.List.{take_more, Concat.flat_map-append}
+use Rattle.std.proofs.Common.{◌≡◌, ◌+◌, ◌-◌, ◌<◌, ℕ, Bool, true, false, arith, List, [], ◌∷◌, ◌++◌, refl, sym, ap, ap₂, subst, ◌∙◌, append_assoc, append-nil, length, take, get_or}
+use Rattle.std.specs.Prelude.{reverse}
+use Rattle.std.proofs.lemmas.List.{take_more, length-append, reverse-reverse, Concat.flat_map-append}
+use Rattle.std.proofs.Math.Seq.{take-append_seam}
 use Rattle.hir_collections.specs.Stacks.{StackItems, Defers}
 use Rattle.hir_collections.proofs.DeferredLemmas.{defers_none, defers_two}
 use Rattle.hir_pretty_docs.specs.declared.token.Token.{Token}
-use Rattle.hir_pretty_docs.specs.Prelude.{PrintEnv, Doc, stands_for, docs_of_tokens, docs_one_by_one, stood_after, Adds, AddsTokens}
+use Rattle.hir_pretty_docs.specs.Prelude.{PrintEnv, Doc, stands_for, docs_of_tokens, docs_one_by_one, stood_after, above, Adds, AddsTokens}
 use Rattle.hir_pretty_docs.specs.declared.token.Token.TheVariants as token
 
 stood_is-after : (s : PrintEnv) (is : List Doc) (tokens : List Token) → is ++ docs_of_tokens s tokens ≡ stood_after s is tokens
@@ -28,7 +30,7 @@ deferred_more u v w ws i x h e a b =
     (defers_two u v w (take i ws) (x ∷ []) a b)
 
 -- a stack that returned no refusal when it turned nothing over
-is_false : (b : Bool) → (b ≡ true → ⊥) → b ≡ false
+pub is_false : (b : Bool) → (b ≡ true → ⊥) → b ≡ false
 is_false true k = absurd (k refl)
 is_false false k = refl
 
@@ -44,28 +46,43 @@ checked {old} {new} h =
 
 -- 1. Documents that were added
 
+above_is : (old new : StackItems Token) (tokens : List Token) → new.items ≡ reverse tokens ++ old.items → above old new ≡ tokens
+above_is old new tokens e =
+    let long : length new.items - length old.items ≡ length (reverse tokens)
+    = let k = ap length e in let l = length-append (reverse tokens) old.items in omega arith in
+    ap₂ (λ n xs. reverse (take n xs)) long e ∙ ap (reverse {A = Token}) (take-append_seam (reverse tokens) old.items)
+    ∙ reverse-reverse tokens
+
+-- by the tokens
+adding_of : {docs : PrintEnv → List Doc} (old new : StackItems Token) (tokens : List Token) → Defers old tokens new
+    → (new.refused ≡ false → (s : PrintEnv) → docs_of_tokens s tokens ≡ docs s) → Adds old docs new
+adding_of old new tokens d e = record {
+  defers = λ h. let k = d h in (k.0, k.1 ∙ ap (λ ws. reverse ws ++ old.items) (sym (above_is old new tokens k.1)));
+  same = λ h s. ap (docs_of_tokens s) (above_is old new tokens (d h).1) ∙ e h s;
+}
+
 -- none
 pub adds_none : {old : StackItems Token} {docs : PrintEnv → List Doc} → ((s : PrintEnv) → [] ≡ docs s) → Adds old docs old
-adds_none {old} e = record { tokens = []; defers = defers_none old; same = e }
+adds_none {old} e = adding_of old old [] (defers_none old) (λ h. e)
 
 -- documents after others
 pub adds_then : {old between new : StackItems Token} {f g : PrintEnv → List Doc} → Adds old f between → Adds between g new
     → Adds old (λ s. f s ++ g s) new
-adds_then {old} {between} {new} a b = record {
-  tokens = a.tokens ++ b.tokens;
-  defers = defers_two old between new a.tokens b.tokens a.defers b.defers;
-  same = λ s. meant-append s a.tokens b.tokens ∙ ap₂ (λ xs ys. xs ++ ys) (a.same s) (b.same s);
-}
+adds_then {old} {between} {new} a b =
+    adding_of old new (above old between ++ above between new)
+    (defers_two old between new (above old between) (above between new) a.defers b.defers)
+    (λ h s. meant-append s (above old between) (above between new)
+    ∙ ap₂ (λ xs ys. xs ++ ys) (a.same (b.defers h).0 s) (b.same h s))
 
 -- the same documents in other words
 pub adds_as : {old new : StackItems Token} {f g : PrintEnv → List Doc} → Adds old f new → ((s : PrintEnv) → f s ≡ g s)
     → Adds old g new
-adds_as a e = record { tokens = a.tokens; defers = a.defers; same = λ s. a.same s ∙ e s }
+adds_as a e = record { defers = a.defers; same = λ h s. a.same h s ∙ e s }
 
 -- tokens that stand for the documents, and tokens after others
 pub adds : {tokens : List Token} {old new : StackItems Token} {is : PrintEnv → List Doc} → AddsTokens old tokens new
     → ((s : PrintEnv) → docs_one_by_one s tokens ≡ is s) → Adds old is new
-adds {tokens} a e = record { tokens = tokens; defers = a.defers; same = λ s. stood_is s tokens ∙ e s }
+adds {tokens} {old} {new} a e = adding_of old new tokens a.defers (λ h s. stood_is s tokens ∙ e s)
 
 pub adds_more : {tokens : List Token} {old between new : StackItems Token} {f : PrintEnv → List Doc} → Adds old f between
     → AddsTokens between tokens new → Adds old (λ s. stood_after s (f s) tokens) new

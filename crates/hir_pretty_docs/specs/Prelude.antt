@@ -8,4 +8,4 @@ pub use Rattle.hir_pretty_docs.specs.Types.{type_param_docs, extern_docs, vararg
 pub use Rattle.hir_pretty_docs.specs.Literals.{bool_text, literal_docs}
 pub use Rattle.hir_pretty_docs.specs.Exprs.{label_before, to_label, operand, each_line, in_lines, arguments, arm_docs, field_docs, spread_docs, raw_keyword, operator_docs, array_docs, statement_docs, unsafe_docs, inside_block, coroutine_keyword, movability_keyword, closure_head, capture_keyword, params, header, of_coroutine, coroutine_body, printed_body, expr_docs}
 pub use Rattle.hir_pretty_docs.specs.Pats.{with_rest, in_parentheses, has_printed_name, is_short, field_pattern, after_last, field_patterns, pat_docs}
-pub use Rattle.hir_pretty_docs.specs.Tokens.{ending_docs, exprs_docs, lookup_docs, stands_for, is_plain, is_node, docs_of_tokens, stood_after, docs_one_by_one, following, Adds, AddsTokens}
+pub use Rattle.hir_pretty_docs.specs.Tokens.{ending_docs, exprs_docs, lookup_docs, stands_for, is_plain, is_node, docs_of_tokens, stood_after, docs_one_by_one, following, above, Adds, AddsTokens}

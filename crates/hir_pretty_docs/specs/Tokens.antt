@@ -1,5 +1,5 @@
 -- What tokens stand for, and when documents were added to a stack of them.
-use Rattle.std.specs.Prelude.{◌≡◌, Bool, true, false, List, [], ◌∷◌, ◌++◌, codes, decimal, slice_get, flat_map}
+use Rattle.std.specs.Prelude.{◌≡◌, ◌-◌, Bool, true, false, List, [], ◌∷◌, ◌++◌, codes, decimal, slice_get, flat_map, length, take, reverse}
 use Rattle.hir_base.specs.declared.defs.NamedDef.TheVariants as named
 use Rattle.hir_collections.specs.Stacks.{StackItems, Defers}
 use Rattle.hir_path.specs.NodeIds.{ExprId}
@@ -102,11 +102,15 @@ abbrev pub following : List Doc → Bool → List (List Doc) → List Doc
 following separator after [] = []
 following separator after (x ∷ xs) = when after separator ++ x ++ following separator true xs
 
--- Tokens were added that stand for these documents, whatever they are printed from.
+-- the tokens on a stack above those that were there before
+abbrev pub above : StackItems Token → StackItems Token → List Token
+above old new = reverse (take (length new.items - length old.items) new.items)
+
+-- Tokens were added that stand for these documents, whatever they are printed from. It holds no data: so a
+-- search for a proof goes by equations too.
 pub record Adds (old : StackItems Token) (docs : PrintEnv → List Doc) (new : StackItems Token) : Type 0 where
-  pub tokens : List Token
-  pub defers : Defers old tokens new
-  pub same : (s : PrintEnv) → docs_of_tokens s tokens ≡ docs s
+  pub defers : Defers old (above old new) new
+  pub same : new.refused ≡ false → (s : PrintEnv) → docs_of_tokens s (above old new) ≡ docs s
 
 -- These tokens were added.
 pub record AddsTokens (old : StackItems Token) (tokens : List Token) (new : StackItems Token) : Type 0 where

@@ -7,10 +7,10 @@ use Rattle.hir_collections.proofs.DeferredLemmas.{defers_none, defers_two}
 use Rattle.hir_base.specs.declared.prec.ExprPrecedence.{ExprPrecedence}
 use Rattle.hir_node.specs.declared.node_id.NodeId.TheVariants as node
 use Rattle.hir_pretty_layout.specs.{Page.Page, Page.empty_page, Page.page_text, Page.render, Layouts.Layout, Steps.steps}
-use Rattle.hir_pretty_docs.proofs.AddLemmas.{meant-append}
+use Rattle.hir_pretty_docs.proofs.AddLemmas.{meant-append, is_false}
 use Rattle.hir_pretty_docs.specs.declared.token.Token.{Token}
 use Rattle.hir_pretty_docs.specs.declared.token.Token.TheVariants as token
-use Rattle.hir_pretty_nodes.specs.Prelude.{NodeId, Missing, PrintEnv, Doc, MissingDoc, ExprDoc, ExprIn, DocPiece, Present, PrintsPieces, WritesPieces, opt, format_of, first_missing, docs_of, pieces, doc_list_pieces, stands_in_parentheses, precedence_found, DocsDecrease, size, stands_for, docs_of_tokens, Adds, Printing, env_of, printing_of, on_page, AddsTo, printing, Stacked, all_printed, enclose, AddsAt, PrintsAlike, FindsAt, WritesToken, ExpandsToken, ComesTo}
+use Rattle.hir_pretty_nodes.specs.Prelude.{NodeId, Missing, PrintEnv, Doc, MissingDoc, ExprDoc, ExprIn, DocPiece, Present, PrintsPieces, WritesPieces, opt, format_of, first_missing, docs_of, pieces, doc_list_pieces, stands_in_parentheses, precedence_found, DocsDecrease, size, stands_for, docs_of_tokens, above, Adds, Printing, env_of, printing_of, on_page, AddsTo, printing, Stacked, all_printed, enclose, AddsAt, PrintsAlike, FindsAt, WritesToken, ExpandsToken, ComesTo}
 use Rattle.hir_pretty_nodes.specs.declared.{printer.Printer.Printer, lookups.Found.Found, fault.PrintFault.PrintFault}
 use Rattle.hir_pretty_nodes.specs.declared.fault.PrintFault.TheVariants as fault
 use Rattle.hir_pretty_nodes.proofs.PieceLemmas.{printed-append, enclosed_printed, pieces_alike, missing_is, value_of_pieces, nothing_left, is_missing}
@@ -30,25 +30,27 @@ finds_as {s} {result = result} e a = subst (λ ds. FindsAt s ds result) e a
 -- 1. Tokens that were added for one store
 
 pub adds_at : {old new : StackItems Token} {docs : PrintEnv → List Doc} → Adds old docs new → (s : PrintEnv) → AddsAt s old (docs s) new
-adds_at a s = record { tokens = a.tokens; defers = a.defers; same = a.same s }
+adds_at {old} {new} a s = record { tokens = above old new; defers = a.defers; same = λ h. a.same h s }
 
 pub at_none : {s : PrintEnv} {old : StackItems Token} → AddsAt s old [] old
-at_none {old = old} = record { tokens = []; defers = defers_none old; same = refl }
+at_none {old = old} = record { tokens = []; defers = defers_none old; same = λ h. refl }
 
 pub at_as : {s : PrintEnv} {old new : StackItems Token} {is js : List Doc} → is ≡ js → AddsAt s old is new → AddsAt s old js new
-at_as e a = record { tokens = a.tokens; defers = a.defers; same = a.same ∙ e }
+at_as e a = record { tokens = a.tokens; defers = a.defers; same = λ h. a.same h ∙ e }
 
 pub at_then : {s : PrintEnv} {old between new : StackItems Token} {is js : List Doc} → AddsAt s old is between → AddsAt s between js new → AddsAt s old (is ++ js) new
 at_then {s} {old} {between} {new} {is} {js} a b = record {
   tokens = a.tokens ++ b.tokens;
   defers = defers_two old between new a.tokens b.tokens a.defers b.defers;
-  same = meant-append s a.tokens b.tokens ∙ ap (λ xs. xs ++ docs_of_tokens s b.tokens) a.same ∙ ap (λ ys. is ++ ys) b.same;
+  same = λ h. meant-append s a.tokens b.tokens ∙ ap (λ xs. xs ++ docs_of_tokens s b.tokens) (a.same (b.defers h).0)
+      ∙ ap (λ ys. is ++ ys) (b.same h);
 }
 
 -- of a node that is found, and of one that isn't
 pub at_found : {X : Type 0} {s : PrintEnv} {old new : StackItems Token} (docs : PrintEnv → X → List Doc) (found : Option X) (x : X) → found ≡ Some x
     → Adds old (λ t. docs t x) new → AddsAt s old (opt (docs s) found) new
-at_found {s = s} docs found x e a = record { tokens = a.tokens; defers = a.defers; same = a.same s ∙ sym (ap (opt (docs s)) e) }
+at_found {s = s} {old} {new} docs found x e a =
+    record { tokens = above old new; defers = a.defers; same = λ h. a.same h s ∙ sym (ap (opt (docs s)) e) }
 
 pub at_absent : {X : Type 0} {s : PrintEnv} {old : StackItems Token} (docs : X → List Doc) (found : Option X) → found ≡ None → AddsAt s old (opt docs found) old
 at_absent docs found e = at_as (sym (ap (opt docs) e)) at_none
@@ -72,11 +74,11 @@ module _ {W : Type 0} {step : Layout → W → W} where
         from = ap (λ (p : Stacked W). p.from) same;
         expansion = a.tokens;
         defers = a.defers;
-        alike = record {
-          alike = λ more. ap (printing step old.value) (e more) ∙ ap (λ xs. printing step old.value (doc_list_pieces s (xs ++ more))) (sym a.same)
+        alike = λ r. record {
+          alike = λ more. ap (printing step old.value) (e more) ∙ ap (λ xs. printing step old.value (doc_list_pieces s (xs ++ more))) (sym (a.same r))
               ∙ ap (λ v. printing step v (doc_list_pieces s (docs_of_tokens s a.tokens ++ more))) value;
         };
-        less = let k = ap (size s) a.same in omega arith;
+        less = λ r. let k = ap (size s) (a.same r) in omega arith;
       }
 
   -- of which the first layouts were written
@@ -89,13 +91,13 @@ module _ {W : Type 0} {step : Layout → W → W} where
         from = from;
         expansion = a.tokens;
         defers = a.defers;
-        alike = record {
+        alike = λ r. record {
           alike = λ more. ap (λ xs. printing step old.value (doc_list_pieces s (xs ++ more))) means
               ∙ ap (λ xs. printing step old.value (doc_list_pieces s xs)) (append_assoc first is more)
               ∙ first_alike.alike (is ++ more)
-              ∙ ap (λ xs. printing step new.value (doc_list_pieces s (xs ++ more))) (sym a.same);
+              ∙ ap (λ xs. printing step new.value (doc_list_pieces s (xs ++ more))) (sym (a.same r));
         };
-        less = let k = ap (size s) a.same in let m = ap (size s) means in let n = size-append s first is in omega arith;
+        less = λ r. let k = ap (size s) (a.same r) in let m = ap (size s) means in let n = size-append s first is in omega arith;
       }
 
 node_printed : (s : PrintEnv) → DocsDecrease s → (n : NodeId) (more : List Doc) → pieces s n ++ doc_list_pieces s more ≡ doc_list_pieces s (docs_of s n ++ more)
@@ -196,12 +198,16 @@ module _ {W : Type 0} {step : Layout → W → W} {s : PrintEnv} {value : W} (ol
   turned_missing e = ap (λ (r : W × Option Missing). r.1) turned_over ∙ e
 
 -- a stack that refused isn't turned over
+turned_whole : (before old : StackItems Token) {new : StackItems Token} → TurnsOver (length before.items) old new → old.refused ≡ false
+turned_whole before old {new} turn = is_false old.refused (λ e.
+    let none : new ≡ record { items = before.items; refused = false } = turn before [] refl (λ f. absurd (cc)) in
+    let some : new ≡ record { items = token.Space ∷ before.items; refused = false }
+    = turn before (token.Space ∷ []) refl (λ f. absurd (cc)) in
+    let long = ap (λ (v : StackItems Token). length v.items) (sym none ∙ some) in absurd (omega arith))
+
 pub never_turned : (old : StackItems Token) {new : StackItems Token} → old.refused ≡ true → TurnsOver 0 old new → ⊥
-never_turned old {new} refused turn =
-    let none : new ≡ record { items = []; refused = false } = turn (record { items = []; refused = false }) [] refl (λ f. absurd (cc)) in
-    let some : new ≡ record { items = token.Space ∷ []; refused = false }
-    = turn (record { items = []; refused = false }) (token.Space ∷ []) refl (λ f. absurd (cc)) in
-    let long = ap (λ (v : StackItems Token). length v.items) (sym none ∙ some) in absurd (omega arith)
+never_turned old refused turn =
+    let whole : old.refused ≡ false = turned_whole (record { items = []; refused = false }) old turn in absurd (cc)
 
 -- what is printed of the tokens on the stack comes to this
 pub record Comes {W : Type 0} (step : Layout → W → W) (s : PrintEnv) (whole : W × Option Missing) (now : Stacked W) : Type 0 where
@@ -230,7 +236,8 @@ module _ {W : Type 0} {step : Layout → W → W} {s : PrintEnv} {whole : W × O
         = subst (λ t. printing step now.value (doc_list_pieces t (docs_of_tokens t now.tokens.items))
         ≡ printing step taken.value (doc_list_pieces t (docs_of_tokens t (w ∷ taken.tokens.items)))) c.from next.same in
         let alike : PrintsAlike step s taken.value (stands_for s w) between.value (docs_of_tokens s a.expansion)
-        = subst (λ t. PrintsAlike step t taken.value (stands_for t w) between.value (docs_of_tokens t a.expansion)) at a.alike in
+        = subst (λ t. PrintsAlike step t taken.value (stands_for t w) between.value (docs_of_tokens t a.expansion)) at
+        (a.alike (turned_whole taken.tokens between.tokens turn)) in
         record {
           from = a.from ∙ at;
           same = c.same ∙ before ∙ alike.alike (docs_of_tokens s taken.tokens.items)
@@ -242,7 +249,7 @@ module _ {W : Type 0} {step : Layout → W → W} {s : PrintEnv} {whole : W × O
         let most : size s (docs_of_tokens s (w ∷ taken.tokens.items)) ≤ size s (docs_of_tokens s now.tokens.items)
         = subst (λ t. size t (docs_of_tokens t (w ∷ taken.tokens.items)) ≤ size t (docs_of_tokens t now.tokens.items)) c.from next.most in
         let less : size s (docs_of_tokens s a.expansion) < size s (stands_for s w)
-        = subst (λ t. size t (docs_of_tokens t a.expansion) < size t (stands_for t w)) at a.less in
+        = subst (λ t. size t (docs_of_tokens t a.expansion) < size t (stands_for t w)) at (a.less (turned_whole taken.tokens between.tokens turn)) in
         let k = size-append s (stands_for s w) (docs_of_tokens s taken.tokens.items) in
         let m = ap (size s) docs_now in
         let n = size-append s (docs_of_tokens s a.expansion) (docs_of_tokens s taken.tokens.items) in omega arith
@@ -303,8 +310,8 @@ prints_docs {s = s} {docs} {result} p from value whole pieces memory =
 stack_more : {old new : StackItems Token} {docs : PrintEnv → List Doc} → Adds old docs new → new.refused ≡ false → (s : PrintEnv)
     → docs_of_tokens s (reverse new.items) ≡ docs_of_tokens s (reverse old.items) ++ docs s
 stack_more {old} {new} a h s =
-    ap (λ ws. docs_of_tokens s (reverse ws)) (a.defers h).1 ∙ ap (docs_of_tokens s) (reverse-append (reverse a.tokens) old.items ∙ ap (λ ws. reverse old.items ++ ws) (reverse-reverse a.tokens))
-    ∙ meant-append s (reverse old.items) a.tokens ∙ ap (λ is. docs_of_tokens s (reverse old.items) ++ is) (a.same s)
+    ap (λ ws. docs_of_tokens s (reverse ws)) (a.defers h).1 ∙ ap (docs_of_tokens s) (reverse-append (reverse (above old new)) old.items ∙ ap (λ ws. reverse old.items ++ ws) (reverse-reverse (above old new)))
+    ∙ meant-append s (reverse old.items) (above old new) ∙ ap (λ is. docs_of_tokens s (reverse old.items) ++ is) (a.same h s)
 
 pub added_to : {W : Type 0} (old : Printer W) {new : Printer W} {between : StackItems Token} {docs : PrintEnv → List Doc} → Adds old.tokens.stack docs between
     → (between.refused ≡ false) × (new.tokens.stack ≡ between) → new ≡ record old { tokens = new.tokens } → AddsTo (printing_of old) docs (printing_of new)

@@ -7,7 +7,7 @@ pub use Rattle.hir_pretty_docs.specs.Prelude.{for_names, modifier_docs, use_docs
 pub use Rattle.hir_pretty_docs.specs.Prelude.{type_param_docs, extern_docs, varargs_docs, all_but_last, last, signature_docs, fn_docs, type_docs, bool_text, literal_docs}
 pub use Rattle.hir_pretty_docs.specs.Prelude.{label_before, to_label, operand, each_line, in_lines, arguments, arm_docs, field_docs, spread_docs, raw_keyword, operator_docs, array_docs, statement_docs, unsafe_docs, inside_block, coroutine_keyword, movability_keyword, closure_head, capture_keyword, params, header, of_coroutine, coroutine_body, printed_body, expr_docs}
 pub use Rattle.hir_pretty_docs.specs.Prelude.{with_rest, in_parentheses, has_printed_name, is_short, field_pattern, after_last, field_patterns, pat_docs}
-pub use Rattle.hir_pretty_docs.specs.Prelude.{ending_docs, exprs_docs, lookup_docs, stands_for, is_plain, is_node, docs_of_tokens, stood_after, docs_one_by_one, following, Adds, AddsTokens}
+pub use Rattle.hir_pretty_docs.specs.Prelude.{ending_docs, exprs_docs, lookup_docs, stands_for, is_plain, is_node, docs_of_tokens, stood_after, docs_one_by_one, following, above, Adds, AddsTokens}
 pub use Rattle.hir_pretty_nodes.specs.DocPieces.{DocPiece, Present, Absent, docs_of, is_chain, stands_in_parentheses, precedence_found, with_parentheses, doc_pieces, pieces_step, doc_list_pieces, path_pieces, first_missing, layout, format_of, text_of}
 unfoldable pub use Rattle.hir_pretty_nodes.specs.DocPieces.{pieces}
 pub use Rattle.hir_pretty_nodes.specs.DocNodes.{AllNodes, DocsDecrease}

@@ -1,5 +1,5 @@
 -- What a step of the printer's loop does to the tokens that wait, and to the value.
-use Rattle.std.specs.Prelude.{◌≡◌, ◌<◌, ◌≤◌, Bool, true, List, [], ◌∷◌, ◌++◌, ℕ, Option, Some, None, IfSome, codes, option_to_list}
+use Rattle.std.specs.Prelude.{◌≡◌, ◌<◌, ◌≤◌, Bool, true, false, List, [], ◌∷◌, ◌++◌, ℕ, Option, Some, None, IfSome, codes, option_to_list}
 use Rattle.hir_collections.specs.Stacks.{StackItems, Defers}
 use Rattle.hir_store_core.specs.{Contents.Contents, declared.missing.Missing.Missing}
 use Rattle.hir_pretty_layout.specs.Layouts.{Layout}
@@ -36,7 +36,7 @@ enclose b is = when b (text (codes "(")) ++ is ++ when b (text (codes ")"))
 pub record AddsAt (s : PrintEnv) (old : StackItems Token) (docs : List Doc) (new : StackItems Token) : Type 0 where
   pub tokens : List Token
   pub defers : Defers old tokens new
-  pub same : docs_of_tokens s tokens ≡ docs
+  pub same : new.refused ≡ false → docs_of_tokens s tokens ≡ docs
 
 abbrev pub AddsIn : Contents → StackItems Token → (PrintEnv → List Doc) → StackItems Token → Type 0
 AddsIn store old docs new = (tables : NameLookups) (words : List (List ℕ)) (one_line : Bool)
@@ -59,9 +59,9 @@ pub record ExpandsToken {W : Type 0} (step : Layout → W → W) (w : Token) (ol
   pub from : new.from ≡ old.from
   pub expansion : List Token
   pub defers : Defers old.tokens expansion new.tokens
-  pub alike : PrintsAlike step old.from old.value (stands_for old.from w) new.value
+  pub alike : new.tokens.refused ≡ false → PrintsAlike step old.from old.value (stands_for old.from w) new.value
       (docs_of_tokens old.from expansion)
-  pub less : size old.from (docs_of_tokens old.from expansion) < size old.from (stands_for old.from w)
+  pub less : new.tokens.refused ≡ false → size old.from (docs_of_tokens old.from expansion) < size old.from (stands_for old.from w)
 
 -- What waits came to the same as other tokens on another value, and no more.
 pub record ComesTo {W : Type 0} (step : Layout → W → W) (old : Stacked W) (tokens : List Token)
