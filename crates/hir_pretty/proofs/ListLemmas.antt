@@ -1,21 +1,16 @@
 -- Lists with separators, and places of arguments.
 use Rattle.std.proofs.Common.{◌≡◌, ℕ, ◌+◌, ◌<◌, ◌≤◌, ◌==◌, Bool, true, false, List, [], ◌∷◌, ◌++◌, length, map, drop, get_or, Option, Some, None, refl, sym, ap, ap₂, subst, ◌∙◌, append_assoc, append-nil, arith, codes, is_some, nat_lt, Ok}
+use Rattle.std.proofs.lemmas.{Bool.lt-ltb, Bool.true≢false, List.drop_all}
 use Rattle.std.specs.List.{enumerate_from, list_any}
-use Rattle.std.proofs.lemmas.Bool.{lt-ltb, true≢false}
-use Rattle.std.proofs.lemmas.List.{drop_all}
-use Rattle.hir_base.specs.declared.mod_path.PathKind.{PathKind}
-use Rattle.hir_base.specs.declared.mod_path.PathKind.TheVariants.{Plain}
+use Rattle.hir_base.specs.declared.mod_path.PathKind.{PathKind, TheVariants.Plain}
 use Rattle.hir_signature.specs.declared.{param_data.LifetimeParamData.LifetimeParamData, predicate.WherePredicate.WherePredicate, any_param.TypeOrConstParamData.TypeOrConstParamData}
-use Rattle.hir_body.specs.Bodies.{formals_of}
-use Rattle.hir_body.specs.declared.{formals.Param.Param}
 use Rattle.hir_signature.specs.declared.{signatures.FunctionParts.FunctionParts}
+use Rattle.hir_body.specs.{Bodies.formals_of, declared.formals.Param.Param}
 use Rattle.hir_pretty_nodes.specs.Prelude.{PrintEnv, Doc, text, br, into, out, t, p, opt, when, join, comma_joined, binding_docs, colons_first, type_param_docs, following}
-use Rattle.hir_pretty_nodes.proofs.ListLemmas.{drop_item, is_cons, following_append, following_joined}
-use Rattle.hir_pretty_nodes.proofs.OrderLemmas.{cons_length}
-use Rattle.hir_pretty.specs.internal.AddedDocs.{marked_docs}
-use Rattle.hir_pretty.specs.Bodies.{formal_params}
+use Rattle.hir_pretty_docs.proofs.ListLemmas.{drop_item, is_cons, following_append, following_joined}
+use Rattle.hir_pretty_docs.proofs.OrderLemmas.{cons_length}
 use Rattle.hir_pretty.specs.Signatures.{type_name, argument_docs, arguments, function_types, each_lifetime, each_type_or_const, in_angles, each_predicate, where_docs}
-use Rattle.hir_pretty.specs.Variants.{kind_word}
+use Rattle.hir_pretty.specs.{internal.AddedDocs.marked_docs, Bodies.formal_params, Variants.kind_word}
 
 -- 1. Separators
 

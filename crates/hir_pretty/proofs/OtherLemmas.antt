@@ -1,36 +1,69 @@
--- What printings answer, and what is missing first.
-use Rattle.std.proofs.Common.{◌≡◌, List, [], ◌∷◌, ◌++◌, Option, Some, None, Result, Err, IfOk, refl, sym, ap, subst, ◌∙◌, String, string_bytes}
-use Rattle.std.proofs.lemmas.List.Concat.{flat_map-append}
+-- What printings return for definitions whose documents have no nodes.
+use Rattle.std.proofs.Common.{◌≡◌, ℕ, List, [], ◌∷◌, ◌++◌, codes, Option, Some, None, Result, Ok, Err, IfOk, refl, sym, ap, subst, String, string_bytes}
+use Rattle.hir_base.specs.declared.defs.NamedDef.TheVariants as named
+use Rattle.hir_base.specs.declared.defs.VariantId.{VariantId}
+use Rattle.hir_base.specs.declared.defs.VariantId.TheVariants as variant
 use Rattle.hir_pretty_layout.specs.Page.{rendering}
 use Rattle.hir_pretty_nodes.specs.declared.fault.PrintFault.{PrintFault}
-use Rattle.hir_pretty_nodes.specs.declared.fault.PrintFault.TheVariants as fault
-use Rattle.hir_pretty_nodes.specs.Prelude.{Missing, PrintEnv, Doc, MissingDoc, DocPiece, Present, Absent, first_missing, layout, doc_pieces, pieces, format_of, PrintsPieces, doc_list_pieces}
+use Rattle.hir_pretty_nodes.specs.Prelude.{NodeId, Missing, PrintEnv, Doc, Put, MissingDoc, ExprDoc, ExprIn, Pattern, TypeDoc, text, found_name, DocPiece, Present, Absent, AllNodes, first_missing, layout, format_of, PrintsPieces, doc_list_pieces}
+use Rattle.hir_pretty_nodes.proofs.{StepLemmas.nodes_append, LoopLemmas.prints_refused}
+use Rattle.hir_pretty.specs.{Bodies.Parents, Bodies.of_enum, Variants.variant_head, Variants.without_fields}
 
--- the first that is missing, or another
-abbrev pub missing_or : Option Missing → Missing → Missing
-missing_or None m = m
-missing_or (Some first) m = first
+-- documents without nodes
+abbrev NoNode : NodeId → Type 0
+NoNode k = ⊥
 
-pub missing_after : (ps : List DocPiece) (m : Missing) → first_missing (ps ++ (Absent m ∷ [])) ≡ Some (missing_or (first_missing ps) m)
-missing_after [] m = refl
-missing_after (Present piece ∷ ps) m = missing_after ps m
-missing_after (Absent first ∷ ps) m = refl
+abbrev pub Outside : List Doc → Type 0
+Outside is = AllNodes NoNode is
 
-pub lacks_after : (s : PrintEnv) (is : List Doc) (m : Missing) → first_missing (doc_list_pieces s (is ++ (MissingDoc m ∷ []))) ≡ Some (missing_or (first_missing (doc_list_pieces s is)) m)
-lacks_after s is m = ap first_missing (flat_map-append (doc_pieces s (pieces s)) is (MissingDoc m ∷ [])) ∙ missing_after (doc_list_pieces s is) m
+found_outside : (default : List ℕ) (found : Result (Option (List ℕ)) Missing) → Outside (found_name default found)
+found_outside default (Ok (Some name)) = tt
+found_outside default (Ok None) = tt
+found_outside default (Err missing) = tt
+
+enum_outside : (s : PrintEnv) (id : ℕ) (parent : Result ℕ Missing) → Outside (of_enum s id parent)
+enum_outside s id (Err missing) = tt
+enum_outside s id (Ok parent) =
+    let of_parent = found_name (codes "<missing>") (s.tables.name (named.EnumId parent)) in
+    let of_variant = found_name (codes "<missing>") (s.tables.name (named.EnumVariantId id)) in
+    let colons = text (codes "::") in
+    nodes_append NoNode ((text (codes "enum ") ++ of_parent) ++ colons) of_variant
+    (nodes_append NoNode (text (codes "enum ") ++ of_parent) colons
+    (found_outside (codes "<missing>") (s.tables.name (named.EnumId parent))) tt)
+    (found_outside (codes "<missing>") (s.tables.name (named.EnumVariantId id)))
+
+head_outside : (s : PrintEnv) (parents : Parents) (owner : VariantId) → Outside (variant_head s parents owner)
+head_outside s parents (variant.StructId id) = found_outside (codes "<missing>") (s.tables.name (named.StructId id))
+head_outside s parents (variant.EnumVariantId id) = enum_outside s id (parents id)
+head_outside s parents (variant.UnionId id) = found_outside (codes "<missing>") (s.tables.name (named.UnionId id))
+
+pub fields_outside : (s : PrintEnv) (parents : Parents) (owner : VariantId) → Outside (without_fields s parents owner)
+fields_outside s parents owner =
+    nodes_append NoNode (variant_head s parents owner) _ (head_outside s parents owner) tt
+
+-- their doc pieces are the same for any store
+printed_outside : (s other : PrintEnv) (is : List Doc) → Outside is → doc_list_pieces s is ≡ doc_list_pieces other is
+printed_outside s other [] a = refl
+printed_outside s other (Put piece ∷ is) a = ap (λ ps. Present piece ∷ ps) (printed_outside s other is a)
+printed_outside s other (MissingDoc m ∷ is) a = ap (λ ps. Absent m ∷ ps) (printed_outside s other is a)
+printed_outside s other (ExprDoc id ∷ is) a = absurd a.0
+printed_outside s other (ExprIn id parent ∷ is) a = absurd a.0
+printed_outside s other (Pattern id ∷ is) a = absurd a.0
+printed_outside s other (TypeDoc id ∷ is) a = absurd a.0
 
 -- the same doc pieces are printed the same from any store, where lines are
-pub in_another : {Z : Type 0} {s other : PrintEnv} {ps : List DocPiece} {result : Result (String Z) PrintFault} → PrintsPieces s ps result → other.one_line ≡ s.one_line → PrintsPieces other ps result
+pub in_another : {Z : Type 0} {s other : PrintEnv} {ps : List DocPiece} {result : Result (String Z) PrintFault}
+    → PrintsPieces s ps result → other.one_line ≡ s.one_line → PrintsPieces other ps result
 in_another {ps = ps} {result = result} a e = record {
-  text = subst (λ b. IfOk result (λ text. (first_missing ps ≡ None) × (string_bytes text ≡ rendering (format_of b) (layout ps)))) (sym e) a.text;
+  text = subst (λ b. IfOk result (λ text. (first_missing ps ≡ None) × (string_bytes text ≡ rendering (format_of b) (layout ps))))
+      (sym e) a.text;
   missing = a.missing;
 }
 
--- what is returned of doc pieces of which one is missing, and where an allocation fails
-pub prints_missing : {Z : Type 0} {s : PrintEnv} {ps : List DocPiece} {m : Missing} → first_missing ps ≡ Some m → PrintsPieces s ps (let answer : Result (String Z) PrintFault = Err (fault.Missing m) in answer)
-prints_missing h = record { text = tt; missing = λ n e. cc }
-
-pub prints_refused : {Z : Type 0} {s : PrintEnv} {ps : List DocPiece} → PrintsPieces s ps (let answer : Result (String Z) PrintFault = Err fault.Memory in answer)
-prints_refused = record { text = tt; missing = λ n e. absurd (cc) }
+pub in_any_store : {Z : Type 0} {s : PrintEnv} {result : Result (String Z) PrintFault} (other : PrintEnv) (is : List Doc)
+    → Outside is → other.one_line ≡ s.one_line → PrintsPieces s (doc_list_pieces s is) result
+    → PrintsPieces other (doc_list_pieces other is) result
+in_any_store {s = s} {result} other is a e h =
+    subst (λ ps. PrintsPieces other ps result) (printed_outside s other is a) (in_another h e)
 
 pub ruleset others = (prints_refused)

@@ -1,8 +1,7 @@
 -- Worked bodies, fields and signatures, and the texts that their doc pieces give.
 use Rattle.std.proofs.Common.{◌≡◌, ℕ, true, false, List, [], ◌∷◌, Option, Some, None, refl, codes, pos, Result, Ok, Err}
 use Rattle.std.specs.Fmt.{digits}
-use Rattle.hir_forest.specs.Height.{height}
-use Rattle.hir_forest.specs.declared.roots.Root.{Root}
+use Rattle.hir_forest.specs.{Height.height, declared.roots.Root.Root}
 use Rattle.hir_base.specs.declared.hygiene.SyntaxContext.TheVariants as context
 use Rattle.hir_base.specs.declared.edition.Edition.TheVariants as edition
 use Rattle.hir_base.specs.declared.abi.ExternAbi.TheVariants as abi
@@ -24,7 +23,8 @@ use Rattle.hir_node.specs.declared.expr_types.Unsafe.TheVariants as unsafety
 use Rattle.hir_node.specs.declared.type_ref.TypeRef.TheVariants as type
 use Rattle.hir_signature.specs.declared.param_data.LifetimeBoundType.TheVariants as bound_type
 use Rattle.hir_signature.specs.declared.param_data.TypeParamProvenance.TheVariants as provenance
-use Rattle.hir_signature.specs.declared.any_param.TypeOrConstParamData.{TypeOrConstParamData}
+use Rattle.hir_signature.specs.declared.{any_param.TypeOrConstParamData.TypeOrConstParamData, signatures.FunctionParts.FunctionParts}
+use Rattle.hir_signature.specs.Generics.{Generics, empty}
 use Rattle.hir_signature.specs.declared.any_param.TypeOrConstParamData.TheVariants as param
 use Rattle.hir_signature.specs.declared.predicate.WherePredicate.TheVariants as predicate
 use Rattle.hir_validate.specs.Recursion.{fold_down, rank}
@@ -34,11 +34,8 @@ use Rattle.hir_store_core.specs.declared.missing.Missing.TheVariants as missing
 use Rattle.hir_signature.specs.declared.signatures.FieldsShape.TheVariants as shape
 use Rattle.hir_signature.specs.declared.signatures.RawVisibility.TheVariants as visibility
 use Rattle.hir_body.specs.Bodies.{BodyContents}
-use Rattle.hir_signature.specs.declared.signatures.FunctionParts.{FunctionParts}
-use Rattle.hir_signature.specs.Generics.{Generics, empty}
-use Rattle.hir_pretty.specs.Bodies.{Parents, body_docs}
-use Rattle.hir_pretty.specs.Variants.{variant_docs, without_fields}
-use Rattle.hir_pretty.specs.Signatures.{function_docs, struct_docs, unimplemented_docs}
+use Rattle.hir_pretty.specs.{Bodies.Parents, Bodies.body_docs, Variants.variant_docs, Variants.without_fields, Signatures.function_docs}
+use Rattle.hir_pretty.specs.Signatures.{struct_docs, unimplemented_docs}
 
 -- constants have no name, statics are `S`, functions `foo`, structs `T`, enums `E`, variants `V`
 abbrev name : NamedDef → Result (Option (List ℕ)) Missing

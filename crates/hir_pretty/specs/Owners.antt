@@ -1,13 +1,13 @@
 -- What printing the signature of any definition returns.
 use Rattle.std.specs.Prelude.{◌≡◌, ◌∷◌}
 use Rattle.hir_pretty.specs.Prelude.{ℕ, false, List, [], Option, Some, None, Result, Err, codes, String, FunctionId, StructId, AdtId, GenericDefId, FunctionParts, StructParts, Tables, PrintFault, PrintEnv, print_env, lookups_of, PrintsPieces, doc_list_pieces}
+use Rattle.hir_pretty.specs.FoundParts.{function_found, struct_found}
+use Rattle.hir_pretty.specs.Signatures.{function_docs, struct_docs, unimplemented_docs}
 use Rattle.std.specs.FinMap as map
 use Rattle.hir_base.specs.declared.defs.AdtId.TheVariants as adt
 use Rattle.hir_base.specs.declared.defs.GenericDefId.TheVariants as generic
 use Rattle.hir_store_core.specs.declared.missing.Missing.TheVariants as missing
 use Rattle.hir_pretty_nodes.specs.declared.fault.PrintFault.TheVariants as fault
-use Rattle.hir_pretty.specs.FoundParts.{function_found, struct_found}
-use Rattle.hir_pretty.specs.Signatures.{function_docs, struct_docs, unimplemented_docs}
 
 -- The signature of a function: it is missing, or its doc pieces are printed, with the signature's own store.
 abbrev pub PrintsFunction : {Z : Type 0} → Tables → List (List ℕ) → FunctionId → Option FunctionParts

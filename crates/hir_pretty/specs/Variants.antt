@@ -1,12 +1,12 @@
 -- What structs, unions and variants of enums are printed as, with their fields.
 use Rattle.std.specs.Prelude.{◌∷◌, ◌++◌}
 use Rattle.hir_pretty.specs.Prelude.{List, [], map, codes, flat_map, ModPath, VariantId, PathKind, Plain, Super, Crate, Abs, DollarCrate, PrintEnv, Doc, MissingDoc, text, br, t, when, join, name_docs, found_name, supers, FieldData, FieldsShape, RawVisibility, VariantParts}
+use Rattle.hir_pretty.specs.Bodies.{Parents, variant_name}
 use Rattle.hir_base.specs.declared.defs.NamedDef.TheVariants as named
 use Rattle.hir_base.specs.declared.defs.VariantId.TheVariants as variant
 use Rattle.hir_store_core.specs.declared.missing.Missing.TheVariants as missing
 use Rattle.hir_signature.specs.declared.signatures.FieldsShape.TheVariants as shape
 use Rattle.hir_signature.specs.declared.signatures.RawVisibility.TheVariants as visibility
-use Rattle.hir_pretty.specs.Bodies.{Parents, variant_name}
 
 -- The path of a module: its kind and its names, separated by `::`
 abbrev pub kind_word : PrintEnv → PathKind → List (List Doc)

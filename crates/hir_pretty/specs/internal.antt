@@ -1,3 +1,2 @@
 -- What only contracts within this crate cite: how its code goes on, step by step.
-pub mod Variants
 pub mod AddedDocs

@@ -1,7 +1,7 @@
 //! Bodies as text.
-#![tactic(auto, using(hir_pretty_nodes::proofs::AddLemmas::adding))]
+#![tactic(auto, using(hir_pretty_docs::proofs::AddLemmas::adding))]
 
-ghost use Rattle.std.specs.Prelude.{◌≡◌, OnOk, false};
+ghost use Rattle.std.specs.Prelude.{◌≡◌, false};
 ghost use Rattle.hir_pretty_nodes.specs.Prelude.{words_of, print_env, opt, comma_joined, binding_docs, lookups_of, PrintsPieces, doc_list_pieces, Adds};
 ghost use Rattle.hir_body.specs.Bodies.{formals_of};
 ghost use Rattle.hir_pretty.specs.Bodies.{formal_self, formal_params, body_params, body_end, body_docs};
@@ -11,74 +11,64 @@ use crate::body_heads::add_body_head;
 use hir_base::{DefWithBodyId, Edition};
 use hir_defs::{Body, Param, Tables};
 use hir_node::{BindingId, PatId};
-use hir_pretty_layout::PieceWriter;
-use hir_pretty_nodes::{PrintFault, Printer, Token};
-use std::alloc::{AllocError, Global};
+use hir_pretty_nodes::{PrintFault, Printer, Token, Tokens};
+use std::alloc::Global;
 
 /// Adds the binding of `self`, where there is one.
-fn add_self<W: PieceWriter>(
-    printer: &mut Printer<'_, W>,
-    binding: Option<BindingId>,
-) -> Result<(), AllocError>
-    ensures { OnOk result (Adds W.step printer.old (λ s. opt (binding_docs s) binding) printer.new) }
+fn add_self(tokens: &mut Tokens<'_>, binding: Option<BindingId>)
+    ensures { Adds tokens.old.stack (λ s. opt (binding_docs s) binding) tokens.new.stack }
 {
     match binding {
-        None => Ok(()),
-        Some(binding) => printer.add_binding(binding),
+        None => {}
+        Some(binding) => tokens.add_binding(binding),
     }
 }
 
 /// Adds the binding of `self`, where there is one, and the formal patterns.
-fn add_all_formals<W: PieceWriter>(
-    printer: &mut Printer<'_, W>,
+fn add_all_formals(
+    tokens: &mut Tokens<'_>,
     self_binding: Option<BindingId>,
     params: &[Param<PatId>],
-) -> Result<(), AllocError>
-    ensures { OnOk result (Adds W.step printer.old
-        (λ s. comma_joined (formal_params s self_binding (formals_of params.now))) printer.new) }
+)
+    ensures { Adds tokens.old.stack
+        (λ s. comma_joined (formal_params s self_binding (formals_of params.now))) tokens.new.stack }
 {
-    add_self(printer, self_binding)?;
+    add_self(tokens, self_binding);
     let mut after = self_binding.is_some();
     for param in params {
-        printer.add_if(after, ", ")?;
-        printer.add(&[Token::Pattern(param.formal)])?;
+        tokens.add_if(after, ", ");
+        tokens.add(&[Token::Pattern(param.formal)]);
         after = true;
     }
-    Ok(())
 }
 
 /// Adds the parameters in parentheses, which only a function has.
-fn add_params<W: PieceWriter>(
-    printer: &mut Printer<'_, W>,
+fn add_params(
+    tokens: &mut Tokens<'_>,
     owner: &DefWithBodyId,
     self_binding: Option<BindingId>,
     params: &[Param<PatId>],
-) -> Result<(), AllocError>
-    ensures { OnOk result (Adds W.step printer.old
-        (λ s. body_params s self_binding (formals_of params.now) owner.now) printer.new) }
+)
+    ensures { Adds tokens.old.stack
+        (λ s. body_params s self_binding (formals_of params.now) owner.now) tokens.new.stack }
 {
     match owner {
         DefWithBodyId::FunctionId(_) => {
-            printer.add(&[Token::Text("(")])?;
-            add_all_formals(printer, self_binding, params)?;
-            printer.add(&[Token::Text(") ")])
+            tokens.add(&[Token::Text("(")]);
+            add_all_formals(tokens, self_binding, params);
+            tokens.add(&[Token::Text(") ")])
         }
-        DefWithBodyId::StaticId(_) | DefWithBodyId::ConstId(_) | DefWithBodyId::VariantId(_) => Ok(
-            (),
-        ),
+        DefWithBodyId::StaticId(_) | DefWithBodyId::ConstId(_) | DefWithBodyId::VariantId(_) => {}
     }
 }
 
 /// Adds what follows the last root.
-fn add_end<W: PieceWriter>(
-    printer: &mut Printer<'_, W>,
-    owner: &DefWithBodyId,
-) -> Result<(), AllocError>
-    ensures { OnOk result (Adds W.step printer.old (λ s. body_end owner.now) printer.new) }
+fn add_end(tokens: &mut Tokens<'_>, owner: &DefWithBodyId)
+    ensures { Adds tokens.old.stack (λ s. body_end owner.now) tokens.new.stack }
 {
     match owner {
-        DefWithBodyId::FunctionId(_) | DefWithBodyId::VariantId(_) => Ok(()),
-        DefWithBodyId::StaticId(_) | DefWithBodyId::ConstId(_) => printer.add(&[Token::Text(";")]),
+        DefWithBodyId::FunctionId(_) | DefWithBodyId::VariantId(_) => {}
+        DefWithBodyId::StaticId(_) | DefWithBodyId::ConstId(_) => tokens.add(&[Token::Text(";")]),
     }
 }
 
@@ -92,19 +82,14 @@ fn formal_self(body: &Body) -> Option<BindingId>
     }
 }
 
-fn add_body<W: PieceWriter>(
-    printer: &mut Printer<'_, W>,
-    tables: &Tables,
-    body: &Body,
-    owner: &DefWithBodyId,
-) -> Result<(), AllocError>
-    ensures { OnOk result (Adds W.step printer.old
-        (λ s. body_docs s (parents tables.now) owner.now body.now) printer.new) }
+fn add_body(tokens: &mut Tokens<'_>, tables: &Tables, body: &Body, owner: &DefWithBodyId)
+    ensures { Adds tokens.old.stack
+        (λ s. body_docs s (parents tables.now) owner.now body.now) tokens.new.stack }
 {
-    add_body_head(printer, tables, owner)?;
-    add_params(printer, owner, formal_self(body), body.params())?;
-    printer.add(&[Token::Expr(body.root_expr())])?;
-    add_end(printer, owner)
+    add_body_head(tokens, tables, owner);
+    add_params(tokens, owner, formal_self(body), body.params());
+    tokens.add(&[Token::Expr(body.root_expr())]);
+    add_end(tokens, owner)
 }
 
 /// The text of a body of this owner, in lines: its head with the names that the tables have, the formal
@@ -125,6 +110,6 @@ pub fn print_body_hir(
         PrintsPieces s (doc_list_pieces s (body_docs s (parents tables.now) owner body.now)) result }
 {
     let mut printer = Printer::new(alloc, body.store(), tables, edition, false);
-    add_body(&mut printer, tables, body, &owner)?;
+    add_body(&mut printer.tokens, tables, body, &owner);
     printer.print()
 }

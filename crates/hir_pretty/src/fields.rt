@@ -1,73 +1,62 @@
 //! Structs, unions and variants of enums as text, with their fields.
-#![tactic(auto, using(hir_pretty_nodes::proofs::AddLemmas::adding))]
+#![tactic(auto, using(hir_pretty_docs::proofs::AddLemmas::adding))]
 
-ghost use Rattle.std.specs.Prelude.{◌≡◌, OnOk, codes, false, IfSome, IfOk, IfErr, Some, None};
+ghost use Rattle.std.specs.Prelude.{◌≡◌, codes, false, IfSome, None};
 ghost use Rattle.hir_pretty_nodes.specs.Prelude.{words_of, print_env, text, join, lookups_of, PrintsPieces, doc_list_pieces, Adds};
 ghost use Rattle.hir_store_core.specs.Contents.{Contents};
-ghost use Rattle.hir_pretty.specs.internal.Variants.{LacksFields};
 ghost use Rattle.hir_pretty.specs.Variants.{kind_word, module_docs, visibility_docs, field_line, fields_begin, fields_end, fields_docs, variant_docs, without_fields};
 ghost use Rattle.hir_pretty.specs.FoundParts.{parents, fields_found};
 
-use crate::body_heads::{add_variant_head, missing_in_head};
+use crate::body_heads::add_variant_head;
 use hir_base::{Edition, ModPath, PathKind, VariantId};
 use hir_defs::{FieldData, FieldsShape, RawVisibility, Tables, VariantFields};
-use hir_pretty_layout::PieceWriter;
-use hir_pretty_nodes::{PrintFault, Printer, Token, colons_first};
-use hir_store_core::Missing;
-use std::alloc::{AllocError, Global};
+use hir_pretty_nodes::{PrintFault, Printer, Token, Tokens, colons_first};
+use hir_store_core::{ExpressionStore, Missing};
+use std::alloc::Global;
 
 /// Adds what the path of a module begins with.
-fn add_kind<W: PieceWriter>(printer: &mut Printer<'_, W>, kind: PathKind) -> Result<(), AllocError>
-    ensures { OnOk result (Adds W.step printer.old
-        (λ s. join (text (codes "::")) (kind_word s kind)) printer.new) }
+fn add_kind(tokens: &mut Tokens<'_>, kind: PathKind)
+    ensures { Adds tokens.old.stack
+        (λ s. join (text (codes "::")) (kind_word s kind)) tokens.new.stack }
 {
     match kind {
-        PathKind::Plain | PathKind::Abs => Ok(()),
-        PathKind::Super(times) => printer.add_supers(times),
-        PathKind::Crate => printer.add(&[Token::Text("crate")]),
-        PathKind::DollarCrate(_) => printer.add(&[Token::Text("$crate")]),
+        PathKind::Plain | PathKind::Abs => {}
+        PathKind::Super(times) => tokens.add_supers(times),
+        PathKind::Crate => tokens.add(&[Token::Text("crate")]),
+        PathKind::DollarCrate(_) => tokens.add(&[Token::Text("$crate")]),
     }
 }
 
 /// Adds the path of a module: where it begins, and its names.
-fn add_module<'a, W: PieceWriter>(
-    printer: &mut Printer<'a, W>,
-    path: &'a ModPath,
-) -> Result<(), AllocError>
-    ensures { OnOk result (Adds W.step printer.old (λ s. module_docs s path.now) printer.new) }
+fn add_module<'a>(tokens: &mut Tokens<'a>, path: &'a ModPath)
+    ensures { Adds tokens.old.stack (λ s. module_docs s path.now) tokens.new.stack }
 {
-    add_kind(printer, path.kind())?;
-    printer.add_list(colons_first(path.kind()), "::", path.segments())
+    add_kind(tokens, path.kind());
+    tokens.add_list(colons_first(path.kind()), "::", path.segments())
 }
 
-fn add_visibility<'a, W: PieceWriter>(
-    printer: &mut Printer<'a, W>,
-    visibility: &'a RawVisibility,
-) -> Result<(), AllocError>
-    ensures { OnOk result (Adds W.step printer.old (λ s. visibility_docs s visibility.now) printer.new) }
+fn add_visibility<'a>(tokens: &mut Tokens<'a>, visibility: &'a RawVisibility)
+    ensures { Adds tokens.old.stack (λ s. visibility_docs s visibility.now) tokens.new.stack }
 {
     match visibility {
         RawVisibility::Module(path) => {
-            printer.add(&[Token::Text("pub(in ")])?;
-            add_module(printer, path)?;
-            printer.add(&[Token::Text(") ")])
+            tokens.add(&[Token::Text("pub(in ")]);
+            add_module(tokens, path);
+            tokens.add(&[Token::Text(") ")])
         }
-        RawVisibility::Public => printer.add(&[Token::Text("pub ")]),
-        RawVisibility::PubCrate => printer.add(&[Token::Text("pub(crate) ")]),
-        RawVisibility::PubSelf => printer.add(&[Token::Text("pub(self) ")]),
+        RawVisibility::Public => tokens.add(&[Token::Text("pub ")]),
+        RawVisibility::PubCrate => tokens.add(&[Token::Text("pub(crate) ")]),
+        RawVisibility::PubSelf => tokens.add(&[Token::Text("pub(self) ")]),
     }
 }
 
 /// Adds a field, on a line of its own.
-fn add_field<'a, W: PieceWriter>(
-    printer: &mut Printer<'a, W>,
-    field: &'a FieldData,
-) -> Result<(), AllocError>
-    ensures { OnOk result (Adds W.step printer.old (λ s. field_line s field.now) printer.new) }
+fn add_field<'a>(tokens: &mut Tokens<'a>, field: &'a FieldData)
+    ensures { Adds tokens.old.stack (λ s. field_line s field.now) tokens.new.stack }
 {
-    add_visibility(printer, &field.visibility)?;
-    printer.add_if(field.is_unsafe, "unsafe ")?;
-    printer.add(&[
+    add_visibility(tokens, &field.visibility);
+    tokens.add_if(field.is_unsafe, "unsafe ");
+    tokens.add(&[
         Token::Name(field.name.as_str()),
         Token::Text(": "),
         Token::Type(field.type_ref),
@@ -76,58 +65,48 @@ fn add_field<'a, W: PieceWriter>(
     ])
 }
 
-fn add_begin<W: PieceWriter>(
-    printer: &mut Printer<'_, W>,
-    shape: FieldsShape,
-) -> Result<(), AllocError>
-    ensures { OnOk result (Adds W.step printer.old (λ s. fields_begin shape) printer.new) }
+fn add_begin(tokens: &mut Tokens<'_>, shape: FieldsShape)
+    ensures { Adds tokens.old.stack (λ s. fields_begin shape) tokens.new.stack }
 {
     match shape {
-        FieldsShape::Record => printer.add(&[Token::Text(" {"), Token::Break]),
-        FieldsShape::Tuple => printer.add(&[Token::Text("("), Token::Break]),
-        FieldsShape::Unit => Ok(()),
+        FieldsShape::Record => tokens.add(&[Token::Text(" {"), Token::Break]),
+        FieldsShape::Tuple => tokens.add(&[Token::Text("("), Token::Break]),
+        FieldsShape::Unit => {}
     }
 }
 
-fn add_end<W: PieceWriter>(
-    printer: &mut Printer<'_, W>,
-    shape: FieldsShape,
-) -> Result<(), AllocError>
-    ensures { OnOk result (Adds W.step printer.old (λ s. fields_end shape) printer.new) }
+fn add_end(tokens: &mut Tokens<'_>, shape: FieldsShape)
+    ensures { Adds tokens.old.stack (λ s. fields_end shape) tokens.new.stack }
 {
     match shape {
-        FieldsShape::Record => printer.add(&[Token::Text("}"), Token::Break]),
-        FieldsShape::Tuple => printer.add(&[Token::Text(");"), Token::Break]),
-        FieldsShape::Unit => printer.add(&[Token::Text(";"), Token::Break]),
+        FieldsShape::Record => tokens.add(&[Token::Text("}"), Token::Break]),
+        FieldsShape::Tuple => tokens.add(&[Token::Text(");"), Token::Break]),
+        FieldsShape::Unit => tokens.add(&[Token::Text(";"), Token::Break]),
     }
 }
 
 /// Adds fields, and what is around them.
-fn add_fields<'a, W: PieceWriter>(
-    printer: &mut Printer<'a, W>,
-    shape: FieldsShape,
-    fields: &'a [FieldData],
-) -> Result<(), AllocError>
-    ensures { OnOk result (Adds W.step printer.old (λ s. fields_docs s shape fields.now) printer.new) }
+fn add_fields<'a>(tokens: &mut Tokens<'a>, shape: FieldsShape, fields: &'a [FieldData])
+    ensures { Adds tokens.old.stack (λ s. fields_docs s shape fields.now) tokens.new.stack }
 {
-    add_begin(printer, shape)?;
+    add_begin(tokens, shape);
     for field in fields {
-        add_field(printer, field)?;
+        add_field(tokens, field);
     }
-    add_end(printer, shape)
+    add_end(tokens, shape)
 }
 
-fn add_variant<'a, W: PieceWriter>(
-    printer: &mut Printer<'a, W>,
+fn add_variant<'a>(
+    tokens: &mut Tokens<'a>,
     tables: &Tables,
     owner: &VariantId,
     fields: &'a VariantFields,
-) -> Result<(), AllocError>
-    ensures { OnOk result (Adds W.step printer.old
-        (λ s. variant_docs s (parents tables.now) owner.now fields.now) printer.new) }
+)
+    ensures { Adds tokens.old.stack
+        (λ s. variant_docs s (parents tables.now) owner.now fields.now) tokens.new.stack }
 {
-    add_variant_head(printer, tables, owner)?;
-    add_fields(printer, fields.shape(), fields.fields())
+    add_variant_head(tokens, tables, owner);
+    add_fields(tokens, fields.shape(), fields.fields())
 }
 
 /// The text of a variant with these fields.
@@ -144,23 +123,28 @@ fn print_fields(
         result }
 {
     let mut printer = Printer::new(alloc, fields.store(), tables, edition, false);
-    add_variant(&mut printer, tables, owner, fields)?;
+    add_variant(&mut printer.tokens, tables, owner, fields);
     printer.print()
 }
 
-/// The fields that the tables have, or the first that is missing: in the head, or the fields.
-fn fields_of<'a>(tables: &'a Tables, owner: &VariantId) -> Result<&'a VariantFields, Missing>
-    ensures found { IfOk result (λ fields. fields_found tables.now owner.now ≡ Some fields.now) }
-    ensures absent { IfErr result (λ missing. (fields_found tables.now owner.now ≡ None)
-        × LacksFields (lookups_of tables.now) (parents tables.now) owner.now missing) }
+/// The text of a variant whose fields are missing: what is missing first, in the head, or the fields.
+fn print_without_fields(
+    alloc: Global,
+    tables: &Tables,
+    owner: &VariantId,
+    edition: Edition,
+) -> Result<String, PrintFault>
+    ensures { (store : Contents) →
+        let s = print_env store (lookups_of tables.now) (words_of tables.now.words edition) false in
+        PrintsPieces s (doc_list_pieces s (without_fields s (parents tables.now) owner.now)) result }
 {
-    match tables.variant_fields(*owner) {
-        Ok(fields) => Ok(fields),
-        Err(missing) => match missing_in_head(tables, owner) {
-            Some(earlier) => Err(earlier),
-            None => Err(missing),
-        },
-    }
+    let store = ExpressionStore::empty(alloc);
+    let mut printer = Printer::new(alloc, &store, tables, edition, false);
+    add_variant_head(&mut printer.tokens, tables, owner);
+    printer
+        .tokens
+        .add(&[Token::Missing(Missing::Fields(*owner))]);
+    printer.print()
 }
 
 /// The text of a struct, a union or a variant of an enum with the fields that the tables have, in lines. The
@@ -181,8 +165,8 @@ pub fn print_variant_body_hir(
         let s = print_env store (lookups_of tables.now) (words_of tables.now.words edition) false in
         PrintsPieces s (doc_list_pieces s (without_fields s (parents tables.now) variant)) result }
 {
-    match fields_of(tables, &variant) {
+    match tables.variant_fields(variant) {
         Ok(fields) => print_fields(alloc, tables, &variant, fields, edition),
-        Err(missing) => Err(PrintFault::Missing(missing)),
+        Err(_) => print_without_fields(alloc, tables, &variant, edition),
     }
 }

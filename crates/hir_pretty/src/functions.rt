@@ -1,5 +1,5 @@
 //! Signatures of functions as text.
-#![tactic(auto, using(hir_pretty_nodes::proofs::AddLemmas::adding))]
+#![tactic(auto, using(hir_pretty_docs::proofs::AddLemmas::adding))]
 
 ghost use Rattle.std.specs.Prelude.{◌≡◌, ◌<◌, ◌==◌, ◌++◌, OnOk, IfOk, map, ℕ, length, Some, get_or, false, codes, option_map};
 ghost use Rattle.std.specs.List.{enumerate_from, list_any};
@@ -11,18 +11,14 @@ use crate::generics::{add_generics, add_where};
 use hir_base::{Edition, ExternAbi, FunctionId};
 use hir_defs::{FunctionSignature, Tables};
 use hir_node::TypeRefId;
-use hir_pretty_layout::PieceWriter;
-use hir_pretty_nodes::{PrintFault, Printer, Token};
+use hir_pretty_nodes::{PrintFault, Printer, Token, Tokens};
 use std::alloc::{AllocError, Global};
 
-fn add_quoted<'a, W: PieceWriter>(
-    printer: &mut Printer<'a, W>,
-    abi: &'a str,
-) -> Result<(), AllocError>
-    ensures { OnOk result (Adds W.step printer.old
-        (λ s. text (codes "extern \"") ++ text abi.now ++ text (codes "\" ")) printer.new) }
+fn add_quoted<'a>(tokens: &mut Tokens<'a>, abi: &'a str)
+    ensures { Adds tokens.old.stack
+        (λ s. text (codes "extern \"") ++ text abi.now ++ text (codes "\" ")) tokens.new.stack }
 {
-    printer.add(&[
+    tokens.add(&[
         Token::Text("extern \""),
         Token::Text(abi),
         Token::Text("\" "),
@@ -30,19 +26,16 @@ fn add_quoted<'a, W: PieceWriter>(
 }
 
 /// Adds the calling convention, unless it is that of Rust.
-fn add_abi<'a, W: PieceWriter>(
-    printer: &mut Printer<'a, W>,
-    abi: &'a ExternAbi,
-) -> Result<(), AllocError>
-    ensures { OnOk result (Adds W.step printer.old (λ s. abi_docs abi.now) printer.new) }
+fn add_abi<'a>(tokens: &mut Tokens<'a>, abi: &'a ExternAbi)
+    ensures { Adds tokens.old.stack (λ s. abi_docs abi.now) tokens.new.stack }
 {
     match abi {
-        ExternAbi::Rust => Ok(()),
-        ExternAbi::C => add_quoted(printer, abi.as_str()),
-        ExternAbi::CUnwind => add_quoted(printer, abi.as_str()),
-        ExternAbi::System => add_quoted(printer, abi.as_str()),
-        ExternAbi::SystemUnwind => add_quoted(printer, abi.as_str()),
-        ExternAbi::Named(_) => add_quoted(printer, abi.as_str()),
+        ExternAbi::Rust => {}
+        ExternAbi::C => add_quoted(tokens, abi.as_str()),
+        ExternAbi::CUnwind => add_quoted(tokens, abi.as_str()),
+        ExternAbi::System => add_quoted(tokens, abi.as_str()),
+        ExternAbi::SystemUnwind => add_quoted(tokens, abi.as_str()),
+        ExternAbi::Named(_) => add_quoted(tokens, abi.as_str()),
     }
 }
 
@@ -63,100 +56,89 @@ fn marks_of(alloc: Global, places: &[u32], count: usize) -> Result<Vec<bool>, Al
 }
 
 /// Adds the types of arguments, each with `const: ` before it where its place is marked.
-fn add_marked<W: PieceWriter>(
-    printer: &mut Printer<'_, W>,
-    marks: &[bool],
-    params: &[TypeRefId],
-) -> Result<(), AllocError>
+fn add_marked(tokens: &mut Tokens<'_>, marks: &[bool], params: &[TypeRefId])
     requires { length marks.now ≡ length params.now }
-    ensures { OnOk result (Adds W.step printer.old
-        (λ s. comma_joined (map (marked_docs marks.now) (enumerate_from 0 params.now))) printer.new) }
+    ensures { Adds tokens.old.stack
+        (λ s. comma_joined (map (marked_docs marks.now) (enumerate_from 0 params.now))) tokens.new.stack }
 {
     for (at, param) in params.iter().enumerate() {
-        printer.add_if(at > 0, ", ")?;
-        printer.add_if(marks[at], "const: ")?;
-        printer.add(&[Token::Type(*param)])?;
+        tokens.add_if(at > 0, ", ");
+        tokens.add_if(marks[at], "const: ");
+        tokens.add(&[Token::Type(*param)]);
     }
-    Ok(())
 }
 
 /// Adds the types of arguments, each with `const: ` before it where its place is listed.
-fn add_arguments<'a, W: PieceWriter>(
-    printer: &mut Printer<'a, W>,
+fn add_arguments<'a>(
+    tokens: &mut Tokens<'a>,
     alloc: Global,
     places: Option<&[u32]>,
     params: &'a [TypeRefId],
 ) -> Result<(), AllocError>
-    ensures { OnOk result (Adds W.step printer.old
-        (λ s. arguments (option_map (λ list. list.now) places.entry) params.now) printer.new) }
+    ensures { OnOk result (Adds tokens.old.stack
+        (λ s. arguments (option_map (λ list. list.now) places.entry) params.now) tokens.new.stack) }
 {
     match places {
-        None => printer.add_joined(", ", params),
+        None => Ok(tokens.add_joined(", ", params)),
         Some(places) => {
             let marks = marks_of(alloc, places, params.len())?;
-            add_marked(printer, &marks, params)
+            Ok(add_marked(tokens, &marks, params))
         }
     }
 }
 
-fn add_flags<W: PieceWriter>(
-    printer: &mut Printer<'_, W>,
-    signature: &FunctionSignature,
-) -> Result<(), AllocError>
-    ensures { OnOk result (Adds W.step printer.old (λ s. flags signature.now) printer.new) }
+fn add_flags(tokens: &mut Tokens<'_>, signature: &FunctionSignature)
+    ensures { Adds tokens.old.stack (λ s. flags signature.now) tokens.new.stack }
 {
-    printer.add_if(signature.is_const(), "const ")?;
-    printer.add_if(signature.is_async(), "async ")?;
-    printer.add_if(signature.is_unsafe(), "unsafe ")?;
-    printer.add_if(signature.is_explicit_safe(), "safe ")
+    tokens.add_if(signature.is_const(), "const ");
+    tokens.add_if(signature.is_async(), "async ");
+    tokens.add_if(signature.is_unsafe(), "unsafe ");
+    tokens.add_if(signature.is_explicit_safe(), "safe ")
 }
 
 /// Adds all up to the list of arguments.
-fn add_head<'a, W: PieceWriter>(
-    printer: &mut Printer<'a, W>,
-    signature: &'a FunctionSignature,
-) -> Result<(), AllocError>
-    ensures { OnOk result (Adds W.step printer.old (λ s. function_head s signature.now) printer.new) }
+fn add_head<'a>(tokens: &mut Tokens<'a>, signature: &'a FunctionSignature)
+    ensures { Adds tokens.old.stack (λ s. function_head s signature.now) tokens.new.stack }
 {
-    add_flags(printer, signature)?;
-    add_abi(printer, signature.abi())?;
-    printer.add(&[Token::Text("fn "), Token::Name(signature.name().as_str())])?;
-    add_generics(printer, signature.generic_params())
+    add_flags(tokens, signature);
+    add_abi(tokens, signature.abi());
+    tokens.add(&[Token::Text("fn "), Token::Name(signature.name().as_str())]);
+    add_generics(tokens, signature.generic_params())
 }
 
 /// Adds the arguments and the return type.
-fn add_types<'a, W: PieceWriter>(
-    printer: &mut Printer<'a, W>,
+fn add_types<'a>(
+    tokens: &mut Tokens<'a>,
     alloc: Global,
     signature: &'a FunctionSignature,
 ) -> Result<(), AllocError>
-    ensures { OnOk result (Adds W.step printer.old (λ s. function_types signature.now) printer.new) }
+    ensures { OnOk result (Adds tokens.old.stack (λ s. function_types signature.now) tokens.new.stack) }
 {
-    printer.add(&[Token::Text("(")])?;
+    tokens.add(&[Token::Text("(")]);
     add_arguments(
-        printer,
+        tokens,
         alloc,
         signature.legacy_const_indices(),
         signature.params(),
     )?;
-    printer.add(&[Token::Text(")")])?;
+    tokens.add(&[Token::Text(")")]);
     match signature.ret_type() {
         None => Ok(()),
-        Some(ret) => printer.add(&[Token::Text(" -> "), Token::Type(ret)]),
+        Some(ret) => Ok(tokens.add(&[Token::Text(" -> "), Token::Type(ret)])),
     }
 }
 
-fn add_function<'a, W: PieceWriter>(
-    printer: &mut Printer<'a, W>,
+fn add_function<'a>(
+    tokens: &mut Tokens<'a>,
     alloc: Global,
     signature: &'a FunctionSignature,
 ) -> Result<(), AllocError>
-    ensures { OnOk result (Adds W.step printer.old (λ s. function_docs s signature.now) printer.new) }
+    ensures { OnOk result (Adds tokens.old.stack (λ s. function_docs s signature.now) tokens.new.stack) }
 {
-    add_head(printer, signature)?;
-    add_types(printer, alloc, signature)?;
-    add_where(printer, signature.generic_params().where_predicates())?;
-    printer.add(&[Token::Text(" {...}"), Token::Break])
+    add_head(tokens, signature);
+    add_types(tokens, alloc, signature)?;
+    add_where(tokens, signature.generic_params().where_predicates());
+    Ok(tokens.add(&[Token::Text(" {...}"), Token::Break]))
 }
 
 /// The text of a function's signature, in lines. Which function has it makes no difference to the text. Other
@@ -177,6 +159,6 @@ pub fn print_function(
         PrintsPieces s (doc_list_pieces s (function_docs s signature.now)) result }
 {
     let mut printer = Printer::new(alloc, signature.store(), tables, edition, false);
-    add_function(&mut printer, alloc, signature)?;
+    add_function(&mut printer.tokens, alloc, signature)?;
     printer.print()
 }

@@ -1,7 +1,7 @@
 //! Generic parameters and the predicates on them.
-#![tactic(auto, using(hir_pretty_nodes::proofs::AddLemmas::adding))]
+#![tactic(auto, using(hir_pretty_docs::proofs::AddLemmas::adding))]
 
-ghost use Rattle.std.specs.Prelude.{◌++◌, OnOk, codes, false};
+ghost use Rattle.std.specs.Prelude.{◌++◌, codes, false};
 ghost use Rattle.std.specs.List.{enumerate_from};
 ghost use Rattle.hir_pretty_nodes.specs.Prelude.{text, e, opt, comma_joined, Adds, following};
 ghost use Rattle.hir_pretty.specs.Signatures.{generic_param_docs, each_lifetime, each_type_or_const, each_param, generics_docs, predicate_docs, where_docs};
@@ -12,136 +12,101 @@ use hir_defs::{
     WherePredicate,
 };
 use hir_node::ConstRef;
-use hir_pretty_layout::PieceWriter;
-use hir_pretty_nodes::{Part, Printer, Token};
-use std::alloc::AllocError;
+use hir_pretty_nodes::{Part, Token, Tokens};
 
 /// Adds a type: its name or its place, and its default.
-fn add_type<'a, W: PieceWriter>(
-    printer: &mut Printer<'a, W>,
-    at: u32,
-    param: &'a TypeParamData,
-) -> Result<(), AllocError>
-    ensures { OnOk result (Adds W.step printer.old
-        (λ s. generic_param_docs s at (TypeOrConstParamData.TypeParamData param.now)) printer.new) }
+fn add_type<'a>(tokens: &mut Tokens<'a>, at: u32, param: &'a TypeParamData)
+    ensures { Adds tokens.old.stack
+        (λ s. generic_param_docs s at (TypeOrConstParamData.TypeParamData param.now)) tokens.new.stack }
 {
-    printer.add_param_name(at, param.name.as_ref())?;
-    printer.add_after(" = ", &param.default)
+    tokens.add_param_name(at, param.name.as_ref());
+    tokens.add_after(" = ", &param.default)
 }
 
-fn add_default<W: PieceWriter>(
-    printer: &mut Printer<'_, W>,
-    default: Option<ConstRef>,
-) -> Result<(), AllocError>
-    ensures { OnOk result (Adds W.step printer.old (λ s. opt (λ d. text (codes " = ") ++ e d.expr) default)
-        printer.new) }
+fn add_default(tokens: &mut Tokens<'_>, default: Option<ConstRef>)
+    ensures { Adds tokens.old.stack (λ s. opt (λ d. text (codes " = ") ++ e d.expr) default)
+        tokens.new.stack }
 {
     match default {
-        None => Ok(()),
-        Some(default) => printer.add(&[Token::Text(" = "), Token::Expr(default.expr)]),
+        None => {}
+        Some(default) => tokens.add(&[Token::Text(" = "), Token::Expr(default.expr)]),
     }
 }
 
 /// Adds a constant with its type and its default.
-fn add_const<'a, W: PieceWriter>(
-    printer: &mut Printer<'a, W>,
-    at: u32,
-    param: &'a ConstParamData,
-) -> Result<(), AllocError>
-    ensures { OnOk result (Adds W.step printer.old
-        (λ s. generic_param_docs s at (TypeOrConstParamData.ConstParamData param.now)) printer.new) }
+fn add_const<'a>(tokens: &mut Tokens<'a>, at: u32, param: &'a ConstParamData)
+    ensures { Adds tokens.old.stack
+        (λ s. generic_param_docs s at (TypeOrConstParamData.ConstParamData param.now)) tokens.new.stack }
 {
-    printer.add(&[
+    tokens.add(&[
         Token::Text("const "),
         Token::Name(param.name.as_str()),
         Token::Text(": "),
         Token::Type(param.ty),
-    ])?;
-    add_default(printer, param.default)
+    ]);
+    add_default(tokens, param.default)
 }
 
-fn add_type_or_const<'a, W: PieceWriter>(
-    printer: &mut Printer<'a, W>,
-    at: u32,
-    param: &'a TypeOrConstParamData,
-) -> Result<(), AllocError>
-    ensures { OnOk result (Adds W.step printer.old (λ s. generic_param_docs s at param.now) printer.new) }
+fn add_type_or_const<'a>(tokens: &mut Tokens<'a>, at: u32, param: &'a TypeOrConstParamData)
+    ensures { Adds tokens.old.stack (λ s. generic_param_docs s at param.now) tokens.new.stack }
 {
     match param {
-        TypeOrConstParamData::TypeParamData(param) => add_type(printer, at, param),
-        TypeOrConstParamData::ConstParamData(param) => add_const(printer, at, param),
+        TypeOrConstParamData::TypeParamData(param) => add_type(tokens, at, param),
+        TypeOrConstParamData::ConstParamData(param) => add_const(tokens, at, param),
     }
 }
 
 /// Adds the lifetimes, with `, ` between them.
-fn add_lifetimes<'a, W: PieceWriter>(
-    printer: &mut Printer<'a, W>,
-    params: &'a GenericParams,
-) -> Result<(), AllocError>
-    ensures { OnOk result (Adds W.step printer.old
-        (λ s. following (text (codes ", ")) false (each_lifetime s params.now.lifetimes)) printer.new) }
+fn add_lifetimes<'a>(tokens: &mut Tokens<'a>, params: &'a GenericParams)
+    ensures { Adds tokens.old.stack
+        (λ s. following (text (codes ", ")) false (each_lifetime s params.now.lifetimes)) tokens.new.stack }
 {
     let mut after = false;
     for (_, lifetime) in params.iter_lt() {
-        printer.add_if(after, ", ")?;
-        printer.add(&[Token::Name(lifetime.name.as_str())])?;
+        tokens.add_if(after, ", ");
+        tokens.add(&[Token::Name(lifetime.name.as_str())]);
         after = true;
     }
-    Ok(())
 }
 
 /// Adds types and constants in their places, each after `, `; the first only where something is before it.
-fn add_types_and_consts<'a, W: PieceWriter>(
-    printer: &mut Printer<'a, W>,
-    params: &'a GenericParams,
-    first: bool,
-) -> Result<(), AllocError>
-    ensures { OnOk result (Adds W.step printer.old
+fn add_types_and_consts<'a>(tokens: &mut Tokens<'a>, params: &'a GenericParams, first: bool)
+    ensures { Adds tokens.old.stack
         (λ s. following (text (codes ", ")) first
-        (each_type_or_const s (enumerate_from 0 params.now.type_or_consts))) printer.new) }
+        (each_type_or_const s (enumerate_from 0 params.now.type_or_consts))) tokens.new.stack }
 {
     let mut after = first;
     for (at, param) in params.iter_type_or_consts() {
-        printer.add_if(after, ", ")?;
-        add_type_or_const(printer, at.into_raw(), param)?;
+        tokens.add_if(after, ", ");
+        add_type_or_const(tokens, at.into_raw(), param);
         after = true;
     }
-    Ok(())
 }
 
 /// Adds all parameters in `<` and `>`.
-fn add_in_angles<'a, W: PieceWriter>(
-    printer: &mut Printer<'a, W>,
-    params: &'a GenericParams,
-) -> Result<(), AllocError>
-    ensures { OnOk result (Adds W.step printer.old
-        (λ s. text (codes "<") ++ comma_joined (each_param s params.now) ++ text (codes ">")) printer.new) }
+fn add_in_angles<'a>(tokens: &mut Tokens<'a>, params: &'a GenericParams)
+    ensures { Adds tokens.old.stack
+        (λ s. text (codes "<") ++ comma_joined (each_param s params.now) ++ text (codes ">")) tokens.new.stack }
 {
-    printer.add(&[Token::Text("<")])?;
-    add_lifetimes(printer, params)?;
-    add_types_and_consts(printer, params, params.len_lifetimes() > 0)?;
-    printer.add(&[Token::Text(">")])
+    tokens.add(&[Token::Text("<")]);
+    add_lifetimes(tokens, params);
+    add_types_and_consts(tokens, params, params.len_lifetimes() > 0);
+    tokens.add(&[Token::Text(">")])
 }
 
 /// Adds all parameters in `<` and `>`, where there are any.
-pub(crate) fn add_generics<'a, W: PieceWriter>(
-    printer: &mut Printer<'a, W>,
-    params: &'a GenericParams,
-) -> Result<(), AllocError>
-    ensures { OnOk result (Adds W.step printer.old (λ s. generics_docs s params.now) printer.new) }
+pub(crate) fn add_generics<'a>(tokens: &mut Tokens<'a>, params: &'a GenericParams)
+    ensures { Adds tokens.old.stack (λ s. generics_docs s params.now) tokens.new.stack }
 {
     if params.is_empty() {
-        return Ok(());
+        return;
     }
-    add_in_angles(printer, params)
+    add_in_angles(tokens, params)
 }
 
 /// Adds a predicate.
-fn add_predicate<'a, W: PieceWriter>(
-    printer: &mut Printer<'a, W>,
-    predicate: &'a WherePredicate,
-) -> Result<(), AllocError>
-    ensures { OnOk result (Adds W.step printer.old (λ s. predicate_docs s predicate.now) printer.new) }
+fn add_predicate<'a>(tokens: &mut Tokens<'a>, predicate: &'a WherePredicate)
+    ensures { Adds tokens.old.stack (λ s. predicate_docs s predicate.now) tokens.new.stack }
 {
     match predicate {
         WherePredicate::TypeBound {
@@ -149,34 +114,31 @@ fn add_predicate<'a, W: PieceWriter>(
             target,
             bound,
         } => {
-            printer.add_binder(lifetimes)?;
-            printer.add(&[Token::Type(*target), Token::Text(": ")])?;
-            bound.add_to(printer)
+            tokens.add_binder(lifetimes);
+            tokens.add(&[Token::Type(*target), Token::Text(": ")]);
+            bound.add_to(tokens)
         }
         WherePredicate::Lifetime { target, bound } => {
-            target.add_to(printer)?;
-            printer.add(&[Token::Text(": ")])?;
-            bound.add_to(printer)
+            target.add_to(tokens);
+            tokens.add(&[Token::Text(": ")]);
+            bound.add_to(tokens)
         }
     }
 }
 
 /// Adds the predicates, each on a line of its own after `where`, where there are any.
-pub(crate) fn add_where<'a, W: PieceWriter>(
-    printer: &mut Printer<'a, W>,
-    predicates: &'a [WherePredicate],
-) -> Result<(), AllocError>
-    ensures { OnOk result (Adds W.step printer.old (λ s. where_docs s predicates.now) printer.new) }
+pub(crate) fn add_where<'a>(tokens: &mut Tokens<'a>, predicates: &'a [WherePredicate])
+    ensures { Adds tokens.old.stack (λ s. where_docs s predicates.now) tokens.new.stack }
 {
     if predicates.is_empty() {
-        return Ok(());
+        return;
     }
-    printer.add(&[Token::Text("\nwhere\n"), Token::Indent])?;
+    tokens.add(&[Token::Text("\nwhere\n"), Token::Indent]);
     let mut after = false;
     for predicate in predicates {
-        printer.add_if(after, ",\n")?;
-        add_predicate(printer, predicate)?;
+        tokens.add_if(after, ",\n");
+        add_predicate(tokens, predicate);
         after = true;
     }
-    printer.add(&[Token::Outdent, Token::Break])
+    tokens.add(&[Token::Outdent, Token::Break])
 }

@@ -1,7 +1,6 @@
 //! Signatures of any definition as text.
 #![tactic(auto, using(crate::proofs::OtherLemmas::others))]
 
-ghost use Rattle.std.specs.Prelude.{OnOk};
 ghost use Rattle.hir_pretty_nodes.specs.Prelude.{words_of, Adds};
 ghost use Rattle.hir_pretty.specs.FoundParts.{function_found, struct_found};
 ghost use Rattle.hir_pretty.specs.Owners.{PrintsFunction, PrintsStruct, PrintsOther, PrintsAdt, PrintsSignature};
@@ -11,21 +10,16 @@ use crate::functions::print_function;
 use crate::structs::print_struct;
 use hir_base::{AdtId, Edition, FunctionId, GenericDefId, StructId};
 use hir_defs::Tables;
-use hir_pretty_layout::PieceWriter;
-use hir_pretty_nodes::{PrintFault, Printer, Token};
+use hir_pretty_nodes::{PrintFault, Printer, Token, Tokens};
 use hir_store_core::ExpressionStore;
-use std::alloc::{AllocError, Global};
+use std::alloc::Global;
 
 /// Adds that the signature of a definition of this kind isn't printed.
-fn add_other<'a, W: PieceWriter>(
-    printer: &mut Printer<'a, W>,
-    kind: &'a str,
-    id: u32,
-) -> Result<(), AllocError>
-    ensures { OnOk result (Adds W.step printer.old (λ s. unimplemented_docs kind.now id) printer.new) }
+fn add_other<'a>(tokens: &mut Tokens<'a>, kind: &'a str, id: u32)
+    ensures { Adds tokens.old.stack (λ s. unimplemented_docs kind.now id) tokens.new.stack }
 {
-    printer.add(&[Token::Text("unimplemented ")])?;
-    printer.add_numbered(kind, id)
+    tokens.add(&[Token::Text("unimplemented ")]);
+    tokens.add_numbered(kind, id)
 }
 
 /// The text for a definition whose signature isn't printed.
@@ -40,7 +34,7 @@ fn print_other<'a>(
 {
     let store = ExpressionStore::empty(alloc);
     let mut printer = Printer::new(alloc, &store, tables, edition, false);
-    add_other(&mut printer, kind, id)?;
+    add_other(&mut printer.tokens, kind, id);
     printer.print()
 }
 

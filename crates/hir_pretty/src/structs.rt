@@ -1,7 +1,7 @@
 //! Signatures of structs as text.
-#![tactic(auto, using(hir_pretty_nodes::proofs::AddLemmas::adding))]
+#![tactic(auto, using(hir_pretty_docs::proofs::AddLemmas::adding))]
 
-ghost use Rattle.std.specs.Prelude.{◌++◌, ◌∷◌, [], OnOk, codes, Some, false, decimal};
+ghost use Rattle.std.specs.Prelude.{◌++◌, ◌∷◌, [], codes, Some, false, decimal};
 ghost use Rattle.std.specs.FinMap as map;
 ghost use Rattle.hir_pretty_nodes.specs.Prelude.{words_of, print_env, text, br, opt, when, lookups_of, PrintsPieces, doc_list_pieces, Adds};
 ghost use Rattle.hir_pretty.specs.Signatures.{repr_docs, shape_begin, shape_end, struct_head, struct_docs};
@@ -9,35 +9,25 @@ ghost use Rattle.hir_pretty.specs.Signatures.{repr_docs, shape_begin, shape_end,
 use crate::generics::{add_generics, add_where};
 use hir_base::{Edition, StructId};
 use hir_defs::{FieldsShape, Repr, StructSignature, Tables};
-use hir_pretty_layout::PieceWriter;
-use hir_pretty_nodes::{PrintFault, Printer, Token};
-use std::alloc::{AllocError, Global};
+use hir_pretty_nodes::{PrintFault, Printer, Token, Tokens};
+use std::alloc::Global;
 
-fn add_attribute_if<W: PieceWriter>(
-    printer: &mut Printer<'_, W>,
-    holds: bool,
-    attribute: &'static str,
-) -> Result<(), AllocError>
-    ensures { OnOk result (Adds W.step printer.old (λ s. when holds (text attribute.now ++ br)) printer.new) }
+fn add_attribute_if(tokens: &mut Tokens<'_>, holds: bool, attribute: &'static str)
+    ensures { Adds tokens.old.stack (λ s. when holds (text attribute.now ++ br)) tokens.new.stack }
 {
     if holds {
-        return printer.add(&[Token::Text(attribute), Token::Break]);
+        return tokens.add(&[Token::Text(attribute), Token::Break]);
     }
-    Ok(())
 }
 
 /// Adds an attribute with this many bytes, where there are any.
-fn add_bytes<W: PieceWriter>(
-    printer: &mut Printer<'_, W>,
-    before: &'static str,
-    bytes: Option<u64>,
-) -> Result<(), AllocError>
-    ensures { OnOk result (Adds W.step printer.old
-        (λ s. opt (λ n. text before.now ++ text (decimal n) ++ text (codes "))]") ++ br) bytes) printer.new) }
+fn add_bytes(tokens: &mut Tokens<'_>, before: &'static str, bytes: Option<u64>)
+    ensures { Adds tokens.old.stack
+        (λ s. opt (λ n. text before.now ++ text (decimal n) ++ text (codes "))]") ++ br) bytes) tokens.new.stack }
 {
     match bytes {
-        None => Ok(()),
-        Some(bytes) => printer.add(&[
+        None => {}
+        Some(bytes) => tokens.add(&[
             Token::Text(before),
             Token::Number(bytes),
             Token::Text("))]"),
@@ -46,79 +36,62 @@ fn add_bytes<W: PieceWriter>(
     }
 }
 
-fn add_repr<W: PieceWriter>(printer: &mut Printer<'_, W>, repr: Repr) -> Result<(), AllocError>
-    ensures { OnOk result (Adds W.step printer.old (λ s. repr_docs (Some repr)) printer.new) }
+fn add_repr(tokens: &mut Tokens<'_>, repr: Repr)
+    ensures { Adds tokens.old.stack (λ s. repr_docs (Some repr)) tokens.new.stack }
 {
-    add_attribute_if(printer, repr.c, "#[repr(C)]")?;
-    add_bytes(printer, "#[repr(align(", repr.align)?;
-    add_bytes(printer, "#[repr(pack(", repr.pack)
+    add_attribute_if(tokens, repr.c, "#[repr(C)]");
+    add_bytes(tokens, "#[repr(align(", repr.align);
+    add_bytes(tokens, "#[repr(pack(", repr.pack)
 }
 
-fn add_repr_opt<W: PieceWriter>(
-    printer: &mut Printer<'_, W>,
-    repr: Option<Repr>,
-) -> Result<(), AllocError>
-    ensures { OnOk result (Adds W.step printer.old (λ s. repr_docs repr) printer.new) }
+fn add_repr_opt(tokens: &mut Tokens<'_>, repr: Option<Repr>)
+    ensures { Adds tokens.old.stack (λ s. repr_docs repr) tokens.new.stack }
 {
     match repr {
-        None => Ok(()),
-        Some(repr) => add_repr(printer, repr),
+        None => {}
+        Some(repr) => add_repr(tokens, repr),
     }
 }
 
-fn add_begin<W: PieceWriter>(
-    printer: &mut Printer<'_, W>,
-    shape: FieldsShape,
-) -> Result<(), AllocError>
-    ensures { OnOk result (Adds W.step printer.old (λ s. shape_begin shape) printer.new) }
+fn add_begin(tokens: &mut Tokens<'_>, shape: FieldsShape)
+    ensures { Adds tokens.old.stack (λ s. shape_begin shape) tokens.new.stack }
 {
     match shape {
-        FieldsShape::Record => printer.add(&[Token::Text(" {...}"), Token::Break]),
-        FieldsShape::Tuple => printer.add(&[Token::Text("(...)"), Token::Break]),
-        FieldsShape::Unit => Ok(()),
+        FieldsShape::Record => tokens.add(&[Token::Text(" {...}"), Token::Break]),
+        FieldsShape::Tuple => tokens.add(&[Token::Text("(...)"), Token::Break]),
+        FieldsShape::Unit => {}
     }
 }
 
-fn add_end<W: PieceWriter>(
-    printer: &mut Printer<'_, W>,
-    shape: FieldsShape,
-) -> Result<(), AllocError>
-    ensures { OnOk result (Adds W.step printer.old (λ s. shape_end shape) printer.new) }
+fn add_end(tokens: &mut Tokens<'_>, shape: FieldsShape)
+    ensures { Adds tokens.old.stack (λ s. shape_end shape) tokens.new.stack }
 {
     match shape {
-        FieldsShape::Record => printer.add(&[Token::Break]),
-        FieldsShape::Tuple | FieldsShape::Unit => printer.add(&[Token::Text(";"), Token::Break]),
+        FieldsShape::Record => tokens.add(&[Token::Break]),
+        FieldsShape::Tuple | FieldsShape::Unit => tokens.add(&[Token::Text(";"), Token::Break]),
     }
 }
 
 /// Adds the attributes, the name and the parameters.
-fn add_head<'a, W: PieceWriter>(
-    printer: &mut Printer<'a, W>,
-    repr: Option<Repr>,
-    signature: &'a StructSignature,
-) -> Result<(), AllocError>
-    ensures { OnOk result (Adds W.step printer.old (λ s. struct_head s repr signature.now) printer.new) }
+fn add_head<'a>(tokens: &mut Tokens<'a>, repr: Option<Repr>, signature: &'a StructSignature)
+    ensures { Adds tokens.old.stack (λ s. struct_head s repr signature.now) tokens.new.stack }
 {
-    add_repr_opt(printer, repr)?;
-    add_attribute_if(printer, signature.is_fundamental(), "#[fundamental]")?;
-    printer.add(&[
+    add_repr_opt(tokens, repr);
+    add_attribute_if(tokens, signature.is_fundamental(), "#[fundamental]");
+    tokens.add(&[
         Token::Text("struct "),
         Token::Name(signature.name().as_str()),
-    ])?;
-    add_generics(printer, signature.generic_params())
+    ]);
+    add_generics(tokens, signature.generic_params())
 }
 
-fn add_struct<'a, W: PieceWriter>(
-    printer: &mut Printer<'a, W>,
-    repr: Option<Repr>,
-    signature: &'a StructSignature,
-) -> Result<(), AllocError>
-    ensures { OnOk result (Adds W.step printer.old (λ s. struct_docs s repr signature.now) printer.new) }
+fn add_struct<'a>(tokens: &mut Tokens<'a>, repr: Option<Repr>, signature: &'a StructSignature)
+    ensures { Adds tokens.old.stack (λ s. struct_docs s repr signature.now) tokens.new.stack }
 {
-    add_head(printer, repr, signature)?;
-    add_begin(printer, signature.shape())?;
-    add_where(printer, signature.generic_params().where_predicates())?;
-    add_end(printer, signature.shape())
+    add_head(tokens, repr, signature);
+    add_begin(tokens, signature.shape());
+    add_where(tokens, signature.generic_params().where_predicates());
+    add_end(tokens, signature.shape())
 }
 
 /// The text of a struct's signature, in lines, after what the tables have of its representation in memory.
@@ -140,6 +113,6 @@ pub fn print_struct(
         (map.get tables.now.reprs (id ∷ [])) signature.now)) result }
 {
     let mut printer = Printer::new(alloc, signature.store(), tables, edition, false);
-    add_struct(&mut printer, tables.repr(id), signature)?;
+    add_struct(&mut printer.tokens, tables.repr(id), signature);
     printer.print()
 }

@@ -2,21 +2,21 @@
 use Rattle.std.proofs.Common.{◌≡◌, ℕ, zero, suc, Bool, true, false, List, [], ◌∷◌, ◌++◌, map, take, drop, codes, Option, Some, None, refl, sym, ap, ◌∙◌, subst, arith, slice_get, Contains, Result, Ok, Err, flat_map}
 use Rattle.std.specs.Prelude.{⊤}
 use Rattle.hir_path.specs.declared.{bound.TypeBound.TypeBound, bound.TraitBoundModifier.TraitBoundModifier, bound.UseArgRef.UseArgRef, path.GenericArg.GenericArg, path.AssociatedTypeBinding.TheShapes.former-AssociatedTypeBinding-args}
+use Rattle.hir_path.specs.declared.path.GenericArgs.{GenericArgs, GenericArgs-F, out-GenericArgs, roll-GenericArgs, out-roll-GenericArgs, ind-GenericArgs}
+use Rattle.hir_path.specs.declared.path.AssociatedTypeBinding.{AssociatedTypeBinding, AssociatedTypeBinding-F, out-AssociatedTypeBinding, roll-AssociatedTypeBinding, out-roll-AssociatedTypeBinding}
 use Rattle.hir_path.specs.declared.bound.TypeBound.TheVariants as bound
 use Rattle.hir_path.specs.declared.bound.TraitBoundModifier.TheVariants as modifier
 use Rattle.hir_path.specs.declared.bound.UseArgRef.TheVariants as use_arg
 use Rattle.hir_path.specs.declared.path.GenericArg.TheVariants as arg
-use Rattle.hir_path.specs.declared.path.GenericArgs.{GenericArgs, GenericArgs-F, out-GenericArgs, roll-GenericArgs, out-roll-GenericArgs, ind-GenericArgs}
-use Rattle.hir_path.specs.declared.path.AssociatedTypeBinding.{AssociatedTypeBinding, AssociatedTypeBinding-F, out-AssociatedTypeBinding, roll-AssociatedTypeBinding, out-roll-AssociatedTypeBinding}
-use Rattle.hir_node.specs.ChildCalls.{Call, OnExpr, OnAnonConst, OnPat, OnType, OnLifetime, child, children, bound_calls, use_calls, arg_calls, args_calls, binding_calls, path_calls, normal_path_calls, spread_calls, array_calls, arm_calls, statement_calls, expr_calls, pat_calls, type_calls}
+use Rattle.hir_node.specs.ChildCalls.{Call, OnExpr, OnAnonConst, OnPat, OnType, OnLifetime, children, bound_calls, use_calls, arg_calls, args_calls, binding_calls}
+use Rattle.hir_node.specs.declared.type_ref.LifetimeRef.{LifetimeRef}
 use Rattle.hir_node.specs.ChildCalls as calls
 use Rattle.hir_pretty_nodes.specs.Prelude.{NodeId, Missing, PrintEnv, Doc, Put, text, t, opt, join, comma_joined, name_parts, name_docs, l, lifetime_docs, param_docs, for_names, modifier_docs, use_docs, bound_docs, bounds_docs, bounds_after, arg_docs, each_arg, turbofish, args_docs, assoc_docs, type_after, AllNodes}
 use Rattle.hir_node.specs.declared.node_id.NodeId.TheVariants as node
-use Rattle.hir_node.specs.declared.type_ref.LifetimeRef.{LifetimeRef}
 use Rattle.hir_node.specs.declared.type_ref.LifetimeRef.TheVariants as lifetime
 use Rattle.hir_pretty_layout.specs.Layouts.{Layout}
 use Rattle.hir_pretty_nodes.proofs.StepLemmas.{nodes_append}
-use Rattle.hir_pretty_nodes.proofs.ArgsDocs.{args_docs_is, assoc_docs_is, args_calls_is, binding_calls_is}
+use Rattle.hir_pretty_docs.proofs.ArgsDocs.{args_docs_is, assoc_docs_is, args_calls_is, binding_calls_is}
 
 -- each node among these calls is such
 abbrev pub AllCalls : (NodeId → Type 0) → List Call → Type 0

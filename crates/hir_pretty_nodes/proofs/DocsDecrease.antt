@@ -3,8 +3,7 @@ use Rattle.std.proofs.Common.{◌<◌, Contains, slice_get, arith}
 use Rattle.hir_node.specs.ChildCalls.{expr_calls, pat_calls, type_calls}
 use Rattle.hir_pretty_nodes.specs.Prelude.{NodeId, PrintEnv, expr_docs, pat_docs, type_docs, DocsDecrease}
 use Rattle.hir_node.specs.declared.node_id.NodeId.TheVariants as node
-use Rattle.hir_validate.specs.Nodes.{calls_of, children_of}
-use Rattle.hir_validate.specs.Recursion.{rank}
+use Rattle.hir_validate.specs.{Nodes.calls_of, Nodes.children_of, Recursion.rank}
 use Rattle.hir_pretty_nodes.proofs.DecreaseLemmas.{AllCalls, all_of_children, opt_falls}
 use Rattle.hir_pretty_nodes.proofs.NodesDecrease.{expr_falls, pat_falls, type_falls}
 

@@ -1,9 +1,8 @@
 -- Names by their parts.
 use Rattle.std.proofs.Common.{◌≡◌, ◌≢◌, ℕ, Bool, true, false, List, [], ◌∷◌, ◌++◌, map, codes, refl, sym, ap, ap₂, ◌∙◌, append-nil, ◌==◌, ◌&&◌, if◌then◌else◌, nat_eq, flat_map}
-use Rattle.hir_pretty_layout.specs.Layouts.{Layout, Text}
-use Rattle.hir_pretty_layout.specs.Steps.{steps}
-use Rattle.std.specs.Cmp.Lexicographic.{bytes_decides}
 use Rattle.std.proofs.lemmas.Bool.Decides.{Decides-eqb}
+use Rattle.hir_pretty_layout.specs.{Layouts.Layout, Layouts.Text, Steps.steps}
+use Rattle.std.specs.Cmp.Lexicographic.{bytes_decides}
 use Rattle.hir_pretty_nodes.specs.Prelude.{is_word, raw_parts, name_parts, first_if, printed_name, same_text}
 
 -- 1. Parts

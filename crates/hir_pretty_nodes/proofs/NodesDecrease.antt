@@ -4,18 +4,17 @@ use Rattle.std.proofs.Common.{ℕ, zero, suc, Bool, true, false, List, [], ◌�
 use Rattle.std.proofs.lemmas.List.Concat.{flat_map-append}
 use Rattle.hir_base.specs.OpTexts.{range_text}
 use Rattle.hir_base.specs.declared.{abi.ExternAbi.ExternAbi, mod_path.PathKind.PathKind, defs.LangItemTarget.LangItemTarget}
+use Rattle.hir_base.specs.declared.prec.ExprPrecedence.TheVariants.{Jump, Shift}
 use Rattle.hir_base.specs.declared.abi.ExternAbi.TheVariants as abi
 use Rattle.hir_base.specs.declared.mod_path.PathKind.TheVariants as kind
 use Rattle.hir_base.specs.declared.defs.LangItemTarget.TheVariants as target
 use Rattle.hir_base.specs.declared.defs.NamedDef.TheVariants as named
-use Rattle.hir_base.specs.declared.prec.ExprPrecedence.TheVariants.{Jump, Shift}
 use Rattle.hir_path.specs.declared.{path.GenericArgs.GenericArgs, path.Path.Path}
 use Rattle.hir_path.specs.declared.path.Path.TheVariants as path
-use Rattle.hir_node.specs.ChildCalls.{Call, args_calls, path_calls, spread_calls, array_calls, arm_calls, statement_calls, expr_calls, pat_calls, type_calls}
-use Rattle.hir_node.specs.ChildCalls as calls
-use Rattle.hir_node.specs.Keywords.{ref_keyword}
+use Rattle.hir_node.specs.ChildCalls.{args_calls, path_calls, spread_calls, array_calls, arm_calls, statement_calls, expr_calls, pat_calls, type_calls}
 use Rattle.hir_node.specs.declared.{expr_types.RecordSpread.RecordSpread, expr_types.Unsafe.Unsafe, expr_types.ClosureKind.ClosureKind, expr_types.Array.Array, expr_types.MatchArm.MatchArm, expr_types.RecordLitField.RecordLitField, expr_types.Statement.Statement, literal.Literal.Literal, expr.Expr.Expr, pat.RecordFieldPat.RecordFieldPat, pat.Pat.Pat, type_ref.TypeRef.TypeRef, binding.Label.Label}
-use Rattle.hir_node.specs.declared.binding.BindingAnnotation.{BindingAnnotation}
+use Rattle.hir_node.specs.{Keywords.ref_keyword, declared.binding.BindingAnnotation.BindingAnnotation}
+use Rattle.hir_node.specs.ChildCalls as calls
 use Rattle.hir_node.specs.declared.binding.BindingAnnotation.TheVariants as annotation
 use Rattle.hir_node.specs.declared.expr_types.RecordSpread.TheVariants as spread
 use Rattle.hir_node.specs.declared.expr_types.Unsafe.TheVariants as unsafety

@@ -1,13 +1,17 @@
 -- Documents that are layouts, and what printing makes of a value with them.
 use Rattle.std.proofs.Common.{◌≡◌, ℕ, Bool, true, false, List, [], ◌∷◌, ◌++◌, map, codes, Some, None, refl, sym, ap, ◌∙◌, append-nil, flat_map}
 use Rattle.std.proofs.lemmas.List.Concat.{flat_map-append}
-use Rattle.hir_node.specs.declared.literal.Literal.{Literal}
+use Rattle.hir_node.specs.declared.{literal.Literal.Literal, binding.BindingAnnotation.BindingAnnotation}
 use Rattle.hir_node.specs.declared.literal.Literal.TheVariants as literal
 use Rattle.hir_node.specs.declared.node_id.NodeId.TheVariants as node
-use Rattle.hir_pretty_nodes.specs.Prelude.{Missing, PrintEnv, Doc, Put, MissingDoc, ExprDoc, ExprIn, Pattern, TypeDoc, text, name_parts, name_docs, literal_docs, put_pieces, DocPiece, Present, Absent, docs_of, doc_pieces, pieces, doc_list_pieces, with_parentheses, first_missing, layout, DocsDecrease, enclose, printing, PrintsAlike}
-use Rattle.hir_pretty_layout.specs.Layouts.{Layout, Text}
-use Rattle.hir_pretty_layout.specs.Steps.{steps}
+use Rattle.hir_node.specs.declared.binding.BindingAnnotation.TheVariants as annotation
+use Rattle.hir_pretty_docs.specs.declared.token.Token.{Token}
+use Rattle.hir_pretty_docs.specs.declared.token.Token.TheVariants as token
+use Rattle.hir_pretty_nodes.specs.declared.lookups.Found.{Found}
+use Rattle.hir_pretty_nodes.specs.Prelude.{Missing, PrintEnv, Doc, Put, MissingDoc, ExprDoc, ExprIn, Pattern, TypeDoc, text, br, name_parts, name_docs, annotation_docs, literal_docs, put_pieces, DocPiece, Present, Absent, docs_of, doc_pieces, pieces, doc_list_pieces, with_parentheses, first_missing, layout, DocsDecrease, stands_for, is_plain, found_docs, last_field_end, plain_pieces, found_pieces, enclose, printing, PrintsAlike}
+use Rattle.hir_pretty_nodes.specs.declared.lookups.Found.TheVariants as found
 use Rattle.hir_pretty_layout.specs.Literals.{string_literal, char_literal, bytes_literal, c_string_literal}
+use Rattle.hir_pretty_layout.specs.{Layouts.Layout, Layouts.Text, Steps.steps}
 use Rattle.hir_pretty_nodes.proofs.StepLemmas.{pieces_at}
 
 -- 1. Documents and doc pieces
@@ -66,6 +70,39 @@ name_printed s name = printed_texts s (name_parts s.words name)
 pub literal_pieces : (s : PrintEnv) (x : Literal) → doc_list_pieces s (literal_docs x) ≡ map Present (put_pieces (literal_docs x))
 literal_pieces s x = put_printed s (literal_docs x) (literal_put x)
 
+-- what is written of a token as it is, and of what was found
+last_end_printed : (s : PrintEnv) (b : Bool)
+    → doc_list_pieces s (elim b [ true ↦ text (codes " ") | false ↦ text (codes ",") ++ br ]) ≡ map Present (last_field_end b)
+last_end_printed s true = refl
+last_end_printed s false = refl
+
+pub plain_printed : (s : PrintEnv) (w : Token) → is_plain w ≡ true
+    → doc_list_pieces s (stands_for s w) ≡ map Present (plain_pieces s.words s.one_line w)
+plain_printed s (token.Text x) h = refl
+plain_printed s token.Space h = refl
+plain_printed s token.Break h = refl
+plain_printed s token.Indent h = refl
+plain_printed s token.Outdent h = refl
+plain_printed s (token.Number n) h = refl
+plain_printed s (token.Literal x) h = literal_pieces s x.now
+plain_printed s (token.Name name) h = name_printed s name.now
+plain_printed s token.LastFieldEnd h = last_end_printed s s.one_line
+plain_printed s w h = absurd (cc)
+
+binding_printed : (s : PrintEnv) (mode : BindingAnnotation) (name : List ℕ) → doc_list_pieces s (annotation_docs mode ++ name_docs s name)
+    ≡ map Present (put_pieces (annotation_docs mode) ++ map Text (name_parts s.words name))
+binding_printed s annotation.Unannotated name = name_printed s name
+binding_printed s annotation.Mutable name = ap (λ ps. Present (Text (codes "mut ")) ∷ ps) (name_printed s name)
+binding_printed s annotation.Ref name = ap (λ ps. Present (Text (codes "ref ")) ∷ ps) (name_printed s name)
+binding_printed s annotation.RefMut name = ap (λ ps. Present (Text (codes "ref mut ")) ∷ ps) (name_printed s name)
+
+pub found_printed : (s : PrintEnv) (x : Found) → doc_list_pieces s (found_docs s x) ≡ map Present (found_pieces s.words x)
+found_printed s found.Nothing = refl
+found_printed s (found.Text x) = refl
+found_printed s (found.Name name) = name_printed s name.now
+found_printed s (found.Param n) = refl
+found_printed s (found.Binding b) = binding_printed s b.now.mode b.now.name
+
 -- an expression in parentheses, or without
 pub enclosed_printed : (s : PrintEnv) → DocsDecrease s → (b : Bool) (id : ℕ) → doc_list_pieces s (enclose b (docs_of s (node.Expr id))) ≡ with_parentheses b (pieces s (node.Expr id)) ++ []
 enclosed_printed s fall false id = ap (doc_list_pieces s) (append-nil (docs_of s (node.Expr id))) ∙ sym (append-nil (pieces s (node.Expr id)) ∙ pieces_at s fall (node.Expr id))
@@ -98,6 +135,11 @@ module _ {W : Type 0} (step : Layout → W → W) where
   pub nothing_left : (value : W) → printing step value [] ≡ (value, None)
   unfolding printing
   nothing_left value = refl
+
+  -- layouts one after another
+  pub steps_then : (ps qs : List Layout) (value : W) → steps step qs (steps step ps value) ≡ steps step (ps ++ qs) value
+  steps_then [] qs value = refl
+  steps_then (p ∷ ps) qs value = steps_then ps qs (step p value)
 
   pub is_missing : (value : W) (missing : Missing) (ps : List DocPiece) → (printing step value (Absent missing ∷ ps)).1 ≡ Some missing
   unfolding printing

@@ -1,11 +1,15 @@
 -- How much is to be done for what is printed.
-use Rattle.std.proofs.Common.{◌≡◌, ℕ, zero, suc, ◌+◌, ◌<◌, ◌≤◌, Bool, true, false, List, [], ◌∷◌, codes, refl, arith, ◌==◌, if◌then◌else◌, flat_map}
-use Rattle.hir_node.specs.declared.literal.Literal.{Literal}
-use Rattle.hir_node.specs.declared.literal.Literal.TheVariants as literal
-use Rattle.hir_pretty_nodes.specs.Prelude.{NodeId, PrintEnv, Doc, Put, MissingDoc, ExprDoc, ExprIn, Pattern, TypeDoc, text, is_word, raw_parts, name_docs, same_text, literal_docs, docs_of, AllNodes, DocsDecrease, total, doc_size, node_size_step, node_size, size, enclose}
+use Rattle.std.proofs.Common.{◌≡◌, ℕ, zero, suc, ◌+◌, ◌<◌, ◌≤◌, Bool, true, false, List, [], ◌∷◌, ◌++◌, codes, refl, arith, ◌==◌, if◌then◌else◌, flat_map}
+use Rattle.hir_pretty_nodes.specs.Prelude.{NodeId, PrintEnv, Doc, Put, MissingDoc, ExprDoc, ExprIn, Pattern, TypeDoc, text, is_word, raw_parts, name_docs, same_text, docs_of, AllNodes, DocsDecrease, total, doc_size, node_size_step, node_size, size, enclose}
 use Rattle.hir_validate.specs.Recursion.{rank, fold_down_within, fold_down}
 use Rattle.hir_pretty_nodes.proofs.StepLemmas.{nodes_weaker}
-use Rattle.hir_pretty_nodes.proofs.AddLemmas.{total-append}
+
+pub total-append : {X : Type 0} (f : X → ℕ) (xs ys : List X) → total f (xs ++ ys) ≡ total f xs + total f ys
+total-append f [] ys = omega arith
+total-append f (x ∷ xs) ys = omega (arith, total-append f xs ys)
+
+pub size-append : (s : PrintEnv) (xs ys : List Doc) → size s (xs ++ ys) ≡ size s xs + size s ys
+size-append s xs ys = total-append (doc_size (node_size s)) xs ys
 
 -- 1. The weight of a node is its step's
 
@@ -41,7 +45,7 @@ pub enclosed_size : (s : PrintEnv) (b : Bool) (is : List Doc) → size s (enclos
 enclosed_size s false is = let k = total-append (doc_size (node_size s)) is [] in omega arith
 enclosed_size s true is = let k = total-append (doc_size (node_size s)) is (text (codes ")")) in omega arith
 
--- what is printed of a name and of a literal is something
+-- what is printed of a name is something
 some_texts : (s : PrintEnv) (t : List ℕ) (ts : List (List ℕ)) → 0 < size s (flat_map text (t ∷ ts))
 some_texts s t ts = omega arith
 
@@ -60,13 +64,3 @@ either_size s false xs ys k l = l
 pub name_size : (s : PrintEnv) (name : List ℕ) → 0 < size s (name_docs s name)
 name_size s [] = raw_size s (is_word s.words []) []
 name_size s (c ∷ cs) = either_size s (c == 39) _ _ (quoted_size s (same_text cs (codes "static")) (c ∷ cs) (c ∷ []) (raw_parts s.words cs)) (raw_size s (is_word s.words (c ∷ cs)) (c ∷ cs))
-
-pub literal_size : (s : PrintEnv) (x : Literal) → 0 < size s (literal_docs x)
-literal_size s (literal.String text) = omega arith
-literal_size s (literal.ByteString bytes) = omega arith
-literal_size s (literal.CString bytes) = omega arith
-literal_size s (literal.Char c) = omega arith
-literal_size s (literal.Bool b) = omega arith
-literal_size s (literal.Int n suffix) = omega arith
-literal_size s (literal.Uint n suffix) = omega arith
-literal_size s (literal.Float n suffix) = omega arith

@@ -3,8 +3,7 @@ use Rattle.std.proofs.Common.{◌≡◌, ℕ, Bool, true, false, List, [], ◌�
 use Rattle.hir_base.specs.declared.hygiene.SyntaxContext.TheVariants as context
 use Rattle.hir_base.specs.declared.edition.Edition.TheVariants as edition
 use Rattle.hir_forest.specs.Height.{height}
-use Rattle.std.specs.Fmt.{digits}
-use Rattle.std.specs.Str.{chars}
+use Rattle.std.specs.{Fmt.digits, Str.chars}
 use lib.Utf8.{encode}
 use Rattle.hir_node.specs.declared.{binding.Binding.Binding, expr.Expr.Expr, pat.Pat.Pat, type_ref.TypeRef.TypeRef}
 use Rattle.hir_node.specs.declared.binding.BindingAnnotation.TheVariants as mode

@@ -1,24 +1,16 @@
 -- The doc pieces of a node, its text, and the first definition that is missing.
 use Rattle.std.specs.Prelude.{ℕ, Bool, true, false, ◌&&◌, not, List, [], ◌∷◌, ◌++◌, Option, Some, None, codes, slice_get, flat_map}
-use Rattle.hir_base.specs.Precedence.{needs_parentheses}
-use Rattle.hir_base.specs.declared.prec.ExprPrecedence.{ExprPrecedence}
+use Rattle.hir_base.specs.{Precedence.needs_parentheses, declared.prec.ExprPrecedence.ExprPrecedence}
 use Rattle.hir_base.specs.declared.prec.ExprPrecedence.TheVariants.{LOr, LAnd, Unambiguous}
-use Rattle.hir_node.specs.Precedence.{precedence}
-use Rattle.hir_node.specs.declared.{expr.Expr.Expr, node_id.NodeId.NodeId}
+use Rattle.hir_node.specs.{Precedence.precedence, declared.expr.Expr.Expr, declared.node_id.NodeId.NodeId}
 use Rattle.hir_node.specs.declared.node_id.NodeId.TheVariants as node
 use Rattle.hir_path.specs.declared.path.Path.{Path}
 use Rattle.hir_validate.specs.Recursion.{fold_down}
 use Rattle.hir_store_core.specs.declared.missing.Missing.{Missing}
-use Rattle.hir_pretty_layout.specs.Layouts.{Layout, Text}
-use Rattle.hir_pretty_layout.specs.Page.{rendering}
-use Rattle.hir_pretty_layout.specs.declared.line_format.LineFormat.{LineFormat}
+use Rattle.hir_pretty_layout.specs.{Layouts.Layout, Layouts.Text, Page.rendering, declared.line_format.LineFormat.LineFormat}
 use Rattle.hir_pretty_layout.specs.declared.line_format.LineFormat.TheVariants.{Oneline, Newline}
-use Rattle.hir_pretty_nodes.specs.NameLookups.{PrintEnv}
-use Rattle.hir_pretty_nodes.specs.Docs.{Doc, Put, MissingDoc, ExprDoc, ExprIn, Pattern, TypeDoc, opt}
-use Rattle.hir_pretty_nodes.specs.Exprs.{expr_docs}
-use Rattle.hir_pretty_nodes.specs.Pats.{pat_docs}
-use Rattle.hir_pretty_nodes.specs.Types.{type_docs}
-use Rattle.hir_pretty_nodes.specs.Paths.{path_docs}
+use Rattle.hir_pretty_docs.specs.{NameLookups.PrintEnv, Docs.Doc, Docs.Put, Docs.MissingDoc, Docs.ExprDoc, Docs.ExprIn, Docs.Pattern}
+use Rattle.hir_pretty_docs.specs.{Docs.TypeDoc, Docs.opt, Exprs.expr_docs, Pats.pat_docs, Types.type_docs, Paths.path_docs}
 
 -- a layout, or a missing definition in its place
 pub data DocPiece : Type 0 where

@@ -1,21 +1,14 @@
 -- all that contracts of printing cite, from one place
 pub mod Prelude
--- what printing looks up, and where
-pub mod NameLookups
--- documents: what the text of a node is made of
-pub mod Docs
--- names, lifetimes, bindings and labels
-pub mod Names
--- paths, generic arguments and bounds
-pub mod Paths
--- types
-pub mod Types
--- literals
-pub mod Literals
--- patterns
-pub mod Pats
--- expressions
-pub mod Exprs
+-- documents, of `hir_pretty_docs`: what printing looks up, what each node is printed as
+pub use Rattle.hir_pretty_docs.specs.NameLookups
+pub use Rattle.hir_pretty_docs.specs.Docs
+pub use Rattle.hir_pretty_docs.specs.Names
+pub use Rattle.hir_pretty_docs.specs.Paths
+pub use Rattle.hir_pretty_docs.specs.Types
+pub use Rattle.hir_pretty_docs.specs.Literals
+pub use Rattle.hir_pretty_docs.specs.Pats
+pub use Rattle.hir_pretty_docs.specs.Exprs
 -- the pieces of a node's documents, where parentheses stand, and the first definition that is missing
 pub mod DocPieces
 -- what every printing returns
@@ -30,7 +23,5 @@ pub mod DocNodes
 pub mod Sizes
 -- the model of a printer
 pub mod Printing
--- what tokens stand for, and what becomes of them
-pub mod Printers
 -- what only contracts within this crate cite
 pub mod internal

@@ -2,7 +2,7 @@
 -- line.
 use Rattle.std.specs.Prelude.{ℕ, Bool, List}
 use Rattle.hir_store_core.specs.Contents.{Contents}
-use Rattle.hir_pretty_nodes.specs.NameLookups.{NameLookups, PrintEnv}
+use Rattle.hir_pretty_docs.specs.NameLookups.{NameLookups, PrintEnv}
 
 abbrev pub print_env : Contents → NameLookups → List (List ℕ) → Bool → PrintEnv
 print_env store tables words one_line = record {

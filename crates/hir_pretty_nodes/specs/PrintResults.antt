@@ -2,11 +2,10 @@
 use Rattle.std.specs.Prelude.{◌≡◌, List, Some, None, Result, Err, IfOk, String, string_bytes}
 use Rattle.hir_store_core.specs.declared.missing.Missing.{Missing}
 use Rattle.hir_pretty_nodes.specs.declared.fault.PrintFault.{PrintFault}
-use Rattle.hir_pretty_nodes.specs.declared.fault.PrintFault.TheVariants as fault
-use Rattle.hir_pretty_nodes.specs.NameLookups.{PrintEnv}
-use Rattle.hir_pretty_layout.specs.Layouts.{Layout}
-use Rattle.hir_pretty_layout.specs.Steps.{steps}
 use Rattle.hir_pretty_nodes.specs.DocPieces.{DocPiece, first_missing, layout, text_of}
+use Rattle.hir_pretty_nodes.specs.declared.fault.PrintFault.TheVariants as fault
+use Rattle.hir_pretty_docs.specs.NameLookups.{PrintEnv}
+use Rattle.hir_pretty_layout.specs.{Layouts.Layout, Steps.steps}
 
 -- The text of doc pieces of which no definition is missing; the first definition that is missing; or that an
 -- allocation failed.

@@ -3,8 +3,8 @@ use Rattle.std.specs.Prelude.{ℕ, ◌+◌, List, [], ◌∷◌}
 use Rattle.hir_node.specs.declared.node_id.NodeId.{NodeId}
 use Rattle.hir_node.specs.declared.node_id.NodeId.TheVariants as node
 use Rattle.hir_validate.specs.Recursion.{fold_down}
-use Rattle.hir_pretty_nodes.specs.NameLookups.{PrintEnv}
-use Rattle.hir_pretty_nodes.specs.Docs.{Doc, Put, MissingDoc, ExprDoc, ExprIn, Pattern, TypeDoc}
+use Rattle.hir_pretty_docs.specs.NameLookups.{PrintEnv}
+use Rattle.hir_pretty_docs.specs.Docs.{Doc, Put, MissingDoc, ExprDoc, ExprIn, Pattern, TypeDoc}
 use Rattle.hir_pretty_nodes.specs.DocPieces.{docs_of}
 
 abbrev pub total : {X : Type 0} → (X → ℕ) → List X → ℕ

@@ -3,13 +3,11 @@ use Rattle.std.specs.Prelude.{ℕ, List, [], ◌∷◌, Option, Some, None, Resu
 use Rattle.std.specs.FinMap as map
 use Rattle.hir_base.specs.Keys.{named_code}
 use Rattle.hir_base.specs.declared.{params.TypeOrConstParamId.TypeOrConstParamId, params.LifetimeParamId.LifetimeParamId}
-use Rattle.hir_signature.specs.Params.{name_of}
-use Rattle.hir_signature.specs.declared.param_data.LifetimeParamData.{LifetimeParamData}
+use Rattle.hir_signature.specs.{Params.name_of, declared.param_data.LifetimeParamData.LifetimeParamData, Generics.Generics}
 use Rattle.hir_store_core.specs.declared.missing.Missing.{Missing}
 use Rattle.hir_store_core.specs.declared.missing.Missing.TheVariants as missing
-use Rattle.hir_signature.specs.Generics.{Generics}
 use Rattle.hir_defs.specs.Lookups.{Tables, signature_entry}
-use Rattle.hir_pretty_nodes.specs.NameLookups.{NameLookups}
+use Rattle.hir_pretty_docs.specs.NameLookups.{NameLookups}
 
 -- what was found, or that it is missing
 abbrev pub found_or : {X : Type 0} → Missing → Option X → Result X Missing

@@ -1,4 +1,5 @@
 -- What only contracts within this crate cite: how its code goes on, step by step.
-pub mod Literals
+pub mod Found
 pub mod Names
-pub mod Printers
+pub mod Pieces
+pub mod Steps

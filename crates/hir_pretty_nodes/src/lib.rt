@@ -1,25 +1,17 @@
-//! What nodes are printed as, and the printer of them.
+//! The printer of nodes: what nodes expand to is looked up and written, one token after another.
 #![tactic(auto)]
 
-mod adding;
-mod blocks;
-mod closures;
-mod exprs;
+mod expand;
 mod fault;
+mod fields;
 pub mod laws;
 mod literals;
 mod lookups;
 mod names;
-mod part;
-mod paths;
-mod pats;
 mod print;
 mod printer;
-mod token;
-mod types;
+mod write;
 
 pub use fault::PrintFault;
-pub use part::Part;
-pub use paths::colons_first;
+pub use hir_pretty_docs::{Ending, Lookup, Part, Token, Tokens, colons_first};
 pub use printer::Printer;
-pub use token::{Ending, Token};

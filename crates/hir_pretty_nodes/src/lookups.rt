@@ -1,18 +1,31 @@
-//! What is looked up in the tables and in the store: names of definitions and of parameters, lifetimes and
-//! labels.
-#![tactic(auto, using(crate::proofs::AddLemmas::adding))]
+//! What is looked up in the tables and in the store: names of definitions and of parameters, lifetimes,
+//! bindings and labels.
 
-ghost use Rattle.std.specs.Prelude.{◌≡◌, Ok, Err, IfOk, IfErr, OnOk, codes, option_copied};
-ghost use Rattle.hir_pretty_nodes.specs.Prelude.{lifetime_docs, label_docs, l, found_name, type_param_docs, lookups_of, Adds};
+ghost use Rattle.std.specs.Prelude.{◌≡◌, Ok, Err, IfOk, IfErr, codes, option_copied};
+ghost use Rattle.hir_pretty_nodes.specs.Prelude.{PrintEnv, lifetime_docs, binding_docs, label_docs, l, found_name, type_param_docs, lookup_docs, lookups_of, found_docs, Finds};
+ghost use Rattle.hir_store_core.specs.Contents.{Contents};
 
-use crate::{Part, Printer, Token};
 use hir_base::{CrateId, LifetimeParamId, Name, NamedDef, TypeParamId};
 use hir_collections::Text;
 use hir_defs::{GenericParams, Tables};
-use hir_node::{LabelId, LifetimeRef, LifetimeRefId};
-use hir_pretty_layout::PieceWriter;
-use hir_store_core::Missing;
-use std::alloc::AllocError;
+use hir_node::{Binding, BindingId, LabelId, LifetimeRef, LifetimeRefId};
+use hir_pretty_docs::Lookup;
+use hir_store_core::{ExpressionStore, Missing};
+
+/// What was found.
+#[derive(Clone, Copy)]
+pub(crate) enum Found<'a> {
+    /// Nothing is printed.
+    Nothing,
+    /// A text, written as it is.
+    Text(&'a str),
+    /// A name, with `r#` where the edition's words list it.
+    Name(&'a Name),
+    /// The number of a parameter without a name.
+    Param(u32),
+    /// A binding.
+    Binding(&'a Binding),
+}
 
 /// The name of a type or constant parameter; `None` where it has no name.
 fn type_param(tables: &Tables, id: TypeParamId) -> Result<Option<&Name>, Missing>
@@ -37,117 +50,119 @@ fn lifetime_param(tables: &Tables, id: LifetimeParamId) -> Result<&Name, Missing
     Err(Missing::LifetimeParam(id))
 }
 
-impl Part for LabelId {
-    ghost docs = { label_docs };
-
-    fn add_to<'a, W: PieceWriter>(
-        &'a self,
-        printer: &mut Printer<'a, W>,
-    ) -> Result<(), AllocError> {
-        let store = printer.store;
-        if store.has_label(*self) {
-            return store[*self].name.add_to(printer);
-        }
-        Ok(())
+/// A name as the tables have it, or a default where there is none.
+fn name_or<'a>(name: Option<&'a Text>, default: &'a str) -> Found<'a>
+    ensures { (s : PrintEnv) → found_docs s result ≡ found_name default.now (Ok (option_copied name.entry)) }
+{
+    match name {
+        None => Found::Text(default),
+        Some(name) => Found::Text(name.as_str()),
     }
 }
 
-impl Part for LifetimeRefId {
-    ghost docs = { l };
-
-    fn add_to<'a, W: PieceWriter>(
-        &'a self,
-        printer: &mut Printer<'a, W>,
-    ) -> Result<(), AllocError> {
-        let store = printer.store;
-        if store.has_lifetime(*self) {
-            return printer.add_lifetime(&store[*self]);
-        }
-        Ok(())
+/// The name of a definition, or a default where it has none.
+fn def_name<'a>(tables: &'a Tables, def: NamedDef, default: &'a str) -> Result<Found<'a>, Missing>
+    ensures { (store : Contents) → Finds store (lookups_of tables.now)
+        (λ s. found_name default.now (s.tables.name def)) result }
+{
+    match tables.name(def) {
+        Ok(name) => Ok(name_or(name, default)),
+        Err(missing) => Err(missing),
     }
 }
 
-impl<'a, W: PieceWriter> Printer<'a, W> {
-    /// Adds a name as the tables have it, or a default where there is none.
-    fn add_found(&mut self, found: Option<&'a Text>, default: &'a str) -> Result<(), AllocError>
-        ensures { OnOk result (Adds W.step self.old
-            (λ s. found_name default.now (Ok (option_copied found.entry))) self.new) }
-    {
-        match found {
-            None => self.add(&[Token::Text(default)]),
-            Some(name) => self.add(&[Token::Text(name.as_str())]),
-        }
+/// The name of a crate, or `$crate` where it has none.
+fn crate_name(tables: &Tables, id: CrateId) -> Result<Found<'_>, Missing>
+    ensures { (store : Contents) → Finds store (lookups_of tables.now)
+        (λ s. found_name (codes "$crate") (s.tables.crate_name id)) result }
+{
+    match tables.crate_name(id) {
+        Ok(name) => Ok(name_or(name, "$crate")),
+        Err(missing) => Err(missing),
     }
+}
 
-    /// Adds the name of a definition, or a default where it has none.
-    pub fn add_def_name(&mut self, def: NamedDef, default: &'a str) -> Result<(), AllocError>
-        ensures { OnOk result (Adds W.step self.old
-            (λ s. found_name default.now (s.tables.name def)) self.new) }
-    {
-        match self.tables.name(def) {
-            Ok(found) => self.add_found(found, default),
-            Err(missing) => self.add(&[Token::Missing(missing)]),
-        }
+/// The name of a type parameter, or its number where it has none.
+fn param_or(id: TypeParamId, name: Option<&Name>) -> Found<'_>
+    ensures { (s : PrintEnv) → found_docs s result ≡ type_param_docs s id.local_id (Ok (option_copied name.entry)) }
+{
+    match name {
+        None => Found::Param(id.local_id().into_raw()),
+        Some(name) => Found::Name(name),
     }
+}
 
-    /// Adds the name of a definition, or `<missing>` where it has none.
-    pub fn add_named(&mut self, def: NamedDef) -> Result<(), AllocError>
-        ensures { OnOk result (Adds W.step self.old
-            (λ s. found_name (codes "<missing>") (s.tables.name def)) self.new) }
-    {
-        self.add_def_name(def, "<missing>")
+fn param_name(tables: &Tables, id: TypeParamId) -> Result<Found<'_>, Missing>
+    ensures { (store : Contents) → Finds store (lookups_of tables.now)
+        (λ s. type_param_docs s id.local_id (s.tables.type_param id)) result }
+{
+    match type_param(tables, id) {
+        Ok(name) => Ok(param_or(id, name)),
+        Err(missing) => Err(missing),
     }
+}
 
-    pub(crate) fn add_crate_name(&mut self, id: CrateId) -> Result<(), AllocError>
-        ensures { OnOk result (Adds W.step self.old
-            (λ s. found_name (codes "$crate") (s.tables.crate_name id))
-            self.new) }
-    {
-        match self.tables.crate_name(id) {
-            Ok(found) => self.add_found(found, "$crate"),
-            Err(missing) => self.add(&[Token::Missing(missing)]),
-        }
+fn lifetime_name<'a>(tables: &'a Tables, lifetime: &'a LifetimeRef) -> Result<Found<'a>, Missing>
+    ensures { (store : Contents) → Finds store (lookups_of tables.now) (λ s. lifetime_docs s lifetime.now) result }
+{
+    match lifetime {
+        LifetimeRef::Named(name) => Ok(Found::Name(name)),
+        LifetimeRef::Static => Ok(Found::Text("'static")),
+        LifetimeRef::Placeholder => Ok(Found::Text("'_")),
+        LifetimeRef::Param(id) => match lifetime_param(tables, *id) {
+            Ok(name) => Ok(Found::Name(name)),
+            Err(missing) => Err(missing),
+        },
+        LifetimeRef::Error => Ok(Found::Text("'{error}")),
     }
+}
 
-    /// Adds the name of a type parameter, or its number.
-    pub fn add_param_name(&mut self, number: u32, name: Option<&'a Name>) -> Result<(), AllocError>
-        ensures { OnOk result (Adds W.step self.old
-            (λ s. type_param_docs s number (Ok (option_copied name.entry)))
-            self.new) }
-    {
-        match name {
-            None => self.add(&[
-                Token::Text("Param["),
-                Token::Number(u64::from(number)),
-                Token::Text("]"),
-            ]),
-            Some(name) => self.add(&[Token::Name(name.as_str())]),
-        }
+fn find_lifetime<'a>(
+    store: &'a ExpressionStore,
+    tables: &'a Tables,
+    id: LifetimeRefId,
+) -> Result<Found<'a>, Missing>
+    ensures { Finds store.now (lookups_of tables.now) (λ s. l s id) result }
+{
+    if store.has_lifetime(id) {
+        return lifetime_name(tables, &store[id]);
     }
+    Ok(Found::Nothing)
+}
 
-    pub(crate) fn add_type_param(&mut self, id: TypeParamId) -> Result<(), AllocError>
-        ensures { OnOk result (Adds W.step self.old
-            (λ s. type_param_docs s id.local_id (s.tables.type_param id))
-            self.new) }
-    {
-        match type_param(self.tables, id) {
-            Ok(name) => self.add_param_name(id.local_id().into_raw(), name),
-            Err(missing) => self.add(&[Token::Missing(missing)]),
-        }
+fn find_label(store: &ExpressionStore, id: LabelId) -> Found<'_>
+    ensures { (s : PrintEnv) → s.nodes ≡ store.now.nodes → found_docs s result ≡ label_docs s id }
+{
+    if store.has_label(id) {
+        return Found::Name(&store[id].name);
     }
+    Found::Nothing
+}
 
-    fn add_lifetime(&mut self, lifetime: &'a LifetimeRef) -> Result<(), AllocError>
-        ensures { OnOk result (Adds W.step self.old (λ s. lifetime_docs s lifetime.now) self.new) }
-    {
-        match lifetime {
-            LifetimeRef::Named(name) => self.add(&[Token::Name(name.as_str())]),
-            LifetimeRef::Static => self.add(&[Token::Text("'static")]),
-            LifetimeRef::Placeholder => self.add(&[Token::Text("'_")]),
-            LifetimeRef::Param(id) => match lifetime_param(self.tables, *id) {
-                Ok(name) => self.add(&[Token::Name(name.as_str())]),
-                Err(missing) => self.add(&[Token::Missing(missing)]),
-            },
-            LifetimeRef::Error => self.add(&[Token::Text("'{error}")]),
-        }
+fn find_binding(store: &ExpressionStore, id: BindingId) -> Found<'_>
+    ensures { (s : PrintEnv) → s.nodes ≡ store.now.nodes → found_docs s result ≡ binding_docs s id }
+{
+    if store.has_binding(id) {
+        return Found::Binding(&store[id]);
+    }
+    Found::Nothing
+}
+
+/// What is found in the store and the tables, or what is missing there.
+pub(crate) fn look_up<'a>(
+    store: &'a ExpressionStore,
+    tables: &'a Tables,
+    lookup: Lookup,
+) -> Result<Found<'a>, Missing>
+    ensures { Finds store.now (lookups_of tables.now) (λ s. lookup_docs s lookup) result }
+{
+    match lookup {
+        Lookup::Label(id) => Ok(find_label(store, id)),
+        Lookup::Lifetime(id) => find_lifetime(store, tables, id),
+        Lookup::Binding(id) => Ok(find_binding(store, id)),
+        Lookup::Def(def) => def_name(tables, def, "<missing>"),
+        Lookup::Const(id) => def_name(tables, NamedDef::ConstId(id), "_"),
+        Lookup::Crate(id) => crate_name(tables, id),
+        Lookup::TypeParam(id) => param_name(tables, id),
     }
 }

@@ -1,7 +1,6 @@
 -- Beside Names.antt: what only contracts within this crate cite.
 use Rattle.std.specs.Prelude.{ℕ, Bool, List, [], ◌∷◌, if◌then◌else◌, codes}
 use Rattle.hir_pretty_nodes.specs.declared.names.NameParts.{NameParts}
-use Rattle.hir_pretty_nodes.specs.Docs.{text}
 
 -- texts, the first of which is present where the condition holds
 abbrev pub first_if : Bool → List ℕ → List (List ℕ) → List (List ℕ)

@@ -1,9 +1,5 @@
-use Rattle.hir_pretty_nodes.proofs.Common.{err_from_is_err_and, prints}
-use Rattle.hir_pretty.proofs.OtherLemmas.{prints_refused}
+use Rattle.hir_pretty_nodes.proofs.Common.{refl, prints}
 use Rattle.hir_pretty.proofs.bodies.print_body_hir.Goals as goal
 
-pub returns-in_err-add_body : goal.returns-in_err-add_body
-returns-in_err-add_body c = let p = err_from_is_err_and c.from_residual.result c.from_residual.ensures.1 in rw (p.1, p.2) prints_refused
-
 pub returns : goal.returns
-returns c = prints (rw c.store.ensures at c.new-printer.ensures) c.in_ok-add_body.ensures c.print.ensures
+returns c = prints c.new-printer.result (rw c.store.ensures at c.new-printer.ensures) refl c.add_body.ensures c.print.ensures.pieces c.print.ensures.memory

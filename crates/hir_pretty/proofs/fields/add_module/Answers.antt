@@ -1,8 +1,6 @@
-use Rattle.hir_pretty_nodes.proofs.Common.{map, on_ok_weaker, name_docs, adds_then, adds_as}
+use Rattle.hir_pretty_docs.proofs.Common.{map, name_docs, adds_then, adds_as}
 use Rattle.hir_pretty.proofs.ListLemmas.{module_is}
 use Rattle.hir_pretty.proofs.fields.add_module.Goals as goal
 
 pub returns : goal.returns
-returns g c = on_ok_weaker c.add_list.result
-    (λ a. adds_as (adds_then (rw c.kind.ensures at c.in_ok-add_kind.ensures) a) (λ s. module_is s c.args.path.now.kind (map (name_docs s) c.args.path.now.segments)))
-    (rw (c.colons_first.ensures, c.kind-2.ensures, c.segments.ensures) at c.add_list.ensures)
+returns c = adds_as (adds_then (rw c.kind.ensures at c.add_kind.ensures) (rw (c.colons_first.ensures, c.kind-2.ensures, c.segments.ensures) at c.add_list.ensures)) (λ s. module_is s c.args.path.now.kind (map (name_docs s) c.args.path.now.segments))

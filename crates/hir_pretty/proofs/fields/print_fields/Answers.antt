@@ -1,9 +1,5 @@
-use Rattle.hir_pretty_nodes.proofs.Common.{err_from_is_err_and, prints}
-use Rattle.hir_pretty.proofs.OtherLemmas.{prints_refused}
+use Rattle.hir_pretty_nodes.proofs.Common.{refl, prints}
 use Rattle.hir_pretty.proofs.fields.print_fields.Goals as goal
 
-pub returns-in_err-add_variant : goal.returns-in_err-add_variant
-returns-in_err-add_variant c = let p = err_from_is_err_and c.from_residual.result c.from_residual.ensures.1 in rw (p.1, p.2) prints_refused
-
 pub returns : goal.returns
-returns c = prints (rw c.store.ensures.store at c.new-printer.ensures) c.in_ok-add_variant.ensures c.print.ensures
+returns c = prints c.new-printer.result (rw c.store.ensures.store at c.new-printer.ensures) refl c.add_variant.ensures c.print.ensures.pieces c.print.ensures.memory

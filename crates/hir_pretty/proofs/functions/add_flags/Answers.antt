@@ -1,7 +1,5 @@
-use Rattle.hir_pretty_nodes.proofs.Common.{on_ok_weaker, adds_then}
+use Rattle.hir_pretty_docs.proofs.Common.{adds_then}
 use Rattle.hir_pretty.proofs.functions.add_flags.Goals as goal
 
 pub returns : goal.returns
-returns g c = on_ok_weaker c.add_if-4.result
-    (adds_then (adds_then (adds_then (rw c.is_const.ensures at c.in_ok-add_if.ensures) (rw c.is_async.ensures at c.in_ok-add_if-2.ensures)) (rw c.is_unsafe.ensures at c.in_ok-add_if-3.ensures)))
-    (rw c.is_explicit_safe.ensures at c.add_if-4.ensures)
+returns c = adds_then (adds_then (adds_then (rw c.is_const.ensures at c.add_if.ensures) (rw c.is_async.ensures at c.add_if-2.ensures)) (rw c.is_unsafe.ensures at c.add_if-3.ensures)) (rw c.is_explicit_safe.ensures at c.add_if-4.ensures)

@@ -1,7 +1,6 @@
-use Rattle.hir_pretty_nodes.proofs.Common.{refl, on_ok_weaker, adds_then, adds_more, adds_as}
+use Rattle.hir_pretty_docs.proofs.Common.{refl, adds_then, adds_more, adds_as}
 use Rattle.hir_pretty.proofs.functions.add_head.Goals as goal
 
 pub returns : goal.returns
-returns g c = on_ok_weaker c.add_generics.result
-    (λ a. adds_as (adds_then (adds_more (adds_then c.in_ok-add_flags.ensures c.in_ok-add_abi.ensures) c.in_ok-add.ensures) a)
-    (λ s. simp (c.abi.ensures, c.as_str.ensures, c.name.ensures, c.generic_params.ensures.generic_params) refl)) c.add_generics.ensures
+returns c = adds_as (adds_then (adds_more (adds_then c.add_flags.ensures c.add_abi.ensures) c.add.ensures) c.add_generics.ensures)
+    (λ s. simp (c.abi.ensures, c.as_str.ensures, c.name.ensures, c.generic_params.ensures.generic_params) refl)

@@ -1,4 +1,4 @@
-use Rattle.hir_pretty_nodes.proofs.Common.{◌≡◌, ◌<◌, ◌==◌, ℕ, length, take, get_or, false, list_any}
+use Rattle.hir_pretty_docs.proofs.Common.{◌≡◌, ◌<◌, ◌==◌, ℕ, length, take, get_or, false, list_any}
 use Rattle.hir_pretty.proofs.functions.marks_of.Given as goal
 
 abbrev pub invariant-loop-place : goal.invariant-loop-place

@@ -1,6 +1,7 @@
-use Rattle.hir_pretty_nodes.proofs.Common.{refl, subst, append-nil, err_from_is_err_and, words_of, print_env, pieces, PrintsPieces, lookups_of, adds, prints}
+use Rattle.std.proofs.Common.{append-nil}
 use Rattle.hir_node.specs.declared.node_id.NodeId.TheVariants as node
-use Rattle.hir_pretty.proofs.OtherLemmas.{prints_refused}
+use Rattle.hir_pretty_nodes.specs.Prelude.{words_of, pieces, PrintsPieces}
+use Rattle.hir_pretty_nodes.proofs.Common.{subst, err_from_is_err_and, print_env, lookups_of, prints_added, prints_refused}
 use Rattle.hir_pretty.proofs.nodes.print_pat_hir.Goals as goal
 
 pub returns-in_err-add : goal.returns-in_err-add
@@ -9,4 +10,5 @@ returns-in_err-add c = let p = err_from_is_err_and c.from_residual.result c.from
 pub returns : goal.returns
 returns c =
     let s = print_env c.args.store.now (lookups_of c.args.tables.now) (words_of c.args.tables.now.words c.args.edition) c.args.oneline in
-    subst (λ ps. PrintsPieces s ps c.print.result) (append-nil (pieces s (node.Pat c.args.pat))) (prints c.new-printer.ensures (adds c.in_ok-add.ensures (λ s. refl)) c.print.ensures)
+    subst (λ ps. PrintsPieces s ps c.print.result) (append-nil (pieces s (node.Pat c.args.pat)))
+    (prints_added c.new-printer.ensures c.in_ok-add.ensures c.print.ensures.pieces c.print.ensures.memory)

@@ -1,9 +1,5 @@
-use Rattle.hir_pretty_nodes.proofs.Common.{err_from_is_err_and, prints}
-use Rattle.hir_pretty.proofs.OtherLemmas.{prints_refused}
+use Rattle.hir_pretty_nodes.proofs.Common.{refl, prints}
 use Rattle.hir_pretty.proofs.structs.print_struct.Goals as goal
 
-pub returns-in_err-add_struct : goal.returns-in_err-add_struct
-returns-in_err-add_struct c = let p = err_from_is_err_and c.from_residual.result c.from_residual.ensures.1 in rw (p.1, p.2) prints_refused
-
 pub returns : goal.returns
-returns c = prints (rw c.store.ensures.store at c.new-printer.ensures) (rw c.repr.ensures at c.in_ok-add_struct.ensures) c.print.ensures
+returns c = prints c.new-printer.result (rw c.store.ensures.store at c.new-printer.ensures) refl (rw c.repr.ensures at c.add_struct.ensures) c.print.ensures.pieces c.print.ensures.memory

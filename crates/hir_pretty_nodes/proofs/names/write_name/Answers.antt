@@ -1,6 +1,5 @@
 use Rattle.hir_pretty_nodes.proofs.Common.{[], map, codes, ap, ◌∙◌, on_ok_weaker, first_if, parts_written}
-use Rattle.hir_pretty_layout.specs.Layouts.{Text}
-use Rattle.hir_pretty_layout.specs.Steps.{steps}
+use Rattle.hir_pretty_layout.specs.{Layouts.Text, Steps.steps}
 use Rattle.hir_pretty_nodes.proofs.names.write_name.Goals as goal
 
 pub returns : goal.returns

@@ -1,15 +1,6 @@
-use Rattle.hir_pretty_nodes.proofs.Common.{refl, ap, ◌∙◌, docs_of_tokens, adds_none, adds_then, adds_as, stood_is, meant_more}
-use Rattle.std.proofs.lemmas.List.{take_all}
+use Rattle.hir_pretty_nodes.proofs.Common.{docs_one_by_one, adds, on_ok_weaker, added_to}
+use Rattle.std.proofs.Common.{refl}
 use Rattle.hir_pretty_nodes.proofs.printer.Printer.add.Goals as goal
 
-pub loop-token-init : goal.loop-token-init
-loop-token-init g c = adds_none (λ s. refl)
-
-pub loop-token-preserved : goal.loop-token-preserved
-loop-token-preserved g c =
-    adds_as (adds_then c.loop-token.invariant c.in_ok-add_token.ensures) (λ s. meant_more s c.args.tokens.now c.loop-token.token-index c.token-item.result c.loop-token-test.true c.token-item.is)
-
 pub returns : goal.returns
-returns g c = record {
-  adds = adds_as c.loop-token.invariant (λ s. ap (docs_of_tokens s) (take_all c.loop-token.token-index c.args.tokens.now c.loop-token-test.false) ∙ stood_is s c.args.tokens.now);
-}
+returns g c = on_ok_weaker c.check.result (λ h. added_to c.args.self.now (adds {is = λ s. docs_one_by_one s c.args.tokens.now} c.add.ensures (λ s. refl)) h refl) c.check.ensures

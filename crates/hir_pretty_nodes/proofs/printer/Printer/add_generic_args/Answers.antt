@@ -1,5 +1,8 @@
-use Rattle.hir_pretty_nodes.proofs.Common.{refl, on_ok_weaker, adds_more, written_then}
+use Rattle.hir_pretty_nodes.proofs.Common.{[], ◌∷◌, codes, refl, arith, text, env_of, adds_more, adds_at, written_then}
+use Rattle.hir_pretty_layout.specs.Layouts.{Text}
 use Rattle.hir_pretty_nodes.proofs.printer.Printer.add_generic_args.Goals as goal
 
 pub returns : goal.returns
-returns g c = on_ok_weaker c.add.result (λ a. written_then c.requires.none c.in_ok-write_token.ensures (adds_more c.in_ok-add_args.ensures a) refl) c.add.ensures
+returns g c =
+    let s = env_of c.args.self.now in
+    written_then (text (codes "::<")) (Text (codes "::<") ∷ []) refl c.in_ok-text.ensures.ok refl (adds_at (adds_more c.add_args.ensures c.add.ensures) s) refl (omega arith)

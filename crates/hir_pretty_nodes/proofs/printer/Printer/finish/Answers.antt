@@ -1,10 +1,25 @@
-use Rattle.hir_pretty_nodes.proofs.Common.{ap, Err, err_from_is_err_and, writes_all, writes_fault}
+use Rattle.hir_pretty_nodes.proofs.Common.{ap, Err, ◌∙◌, err_from_is_err_and, turned_over, turned_missing, never_turned, writes_all, writes_fault}
 use Rattle.hir_pretty_nodes.proofs.printer.Printer.finish.Goals as goal
 
-pub returns-in_err-write : goal.returns-in_err-write
-returns-in_err-write g c =
+pub returns-in_err-push_deferred-clause-pieces : goal.returns-in_err-push_deferred-clause-pieces
+returns-in_err-push_deferred-clause-pieces g c =
     let p = err_from_is_err_and c.from_residual.result c.from_residual.ensures.1 in
-    λ value docs a. rw (p.1, p.2) (writes_fault _ a (λ m e. c.in_err-write.ensures.missing m (ap Err e)))
+    rw (p.1, p.2) (writes_fault _ (λ m e. absurd (cc)))
 
-pub returns : goal.returns
-returns g c = λ value docs a. rw c.into_writer.ensures (writes_all _ a c.in_ok-write.ensures.ok)
+pub returns-in_err-push_deferred-clause-memory : goal.returns-in_err-push_deferred-clause-memory
+returns-in_err-push_deferred-clause-memory g c = λ refused.
+    let p = err_from_is_err_and c.from_residual.result c.from_residual.ensures.1 in let h = p.1 in let k = p.2 in cc
+
+pub returns-in_err-write-clause-pieces : goal.returns-in_err-write-clause-pieces
+returns-in_err-write-clause-pieces g c =
+    let p = err_from_is_err_and c.from_residual-in_err-write.result c.from_residual-in_err-write.ensures.1 in
+    rw (p.1, p.2) (writes_fault _ (λ m e. turned_missing c.args.self.tokens.stack c.in_ok-push_deferred.ensures (c.in_err-write.ensures.missing m (ap Err e))))
+
+pub returns-in_err-write-clause-memory : goal.returns-in_err-write-clause-memory
+returns-in_err-write-clause-memory g c = λ refused. absurd (never_turned c.args.self.tokens.stack refused c.in_ok-push_deferred.ensures)
+
+pub returns-clause-pieces : goal.returns-clause-pieces
+returns-clause-pieces g c = rw c.into_writer.ensures (writes_all _ (turned_over c.args.self.tokens.stack c.in_ok-push_deferred.ensures ∙ c.in_ok-write.ensures.ok))
+
+pub returns-clause-memory : goal.returns-clause-memory
+returns-clause-memory g c = λ refused. absurd (never_turned c.args.self.tokens.stack refused c.in_ok-push_deferred.ensures)

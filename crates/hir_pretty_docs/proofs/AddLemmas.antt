@@ -1,0 +1,121 @@
+-- Documents that were added to a stack of tokens, one after another.
+use Rattle.std.proofs.Common.{◌≡◌, ◌+◌, ◌-◌, ◌<◌, ℕ, Bool, true, false, arith, List, [], ◌∷◌, ◌++◌, refl, sym, ap, ap₂, subst, ◌∙◌, append_assoc, append-nil, length, take, get_or}
+use Rattle.std.specs.Prelude.{reverse}
+use Rattle.std.proofs.lemmas.List.{take_more, length-append, reverse-reverse, Concat.flat_map-append}
+use Rattle.std.proofs.Math.Seq.{take-append_seam}
+use Rattle.hir_collections.specs.Stacks.{StackItems, Defers}
+use Rattle.hir_collections.proofs.DeferredLemmas.{defers_none, defers_two}
+use Rattle.hir_pretty_docs.specs.declared.token.Token.{Token}
+use Rattle.hir_pretty_docs.specs.Prelude.{PrintEnv, Doc, stands_for, docs_of_tokens, docs_one_by_one, stood_after, above, Adds, AddsTokens}
+use Rattle.hir_pretty_docs.specs.declared.token.Token.TheVariants as token
+
+stood_is-after : (s : PrintEnv) (is : List Doc) (tokens : List Token) → is ++ docs_of_tokens s tokens ≡ stood_after s is tokens
+stood_is-after s is [] = append-nil is
+stood_is-after s is (w ∷ ws) =
+    sym (append_assoc is (stands_for s w) (docs_of_tokens s ws)) ∙ stood_is-after s (is ++ stands_for s w) ws
+
+pub stood_is : (s : PrintEnv) (tokens : List Token) → docs_of_tokens s tokens ≡ docs_one_by_one s tokens
+stood_is s [] = refl
+stood_is s (w ∷ ws) = stood_is-after s (stands_for s w) ws
+
+pub meant-append : (s : PrintEnv) (xs ys : List Token)
+    → docs_of_tokens s (xs ++ ys) ≡ docs_of_tokens s xs ++ docs_of_tokens s ys
+meant-append s xs ys = flat_map-append (stands_for s) xs ys
+
+-- one more token of a list
+pub deferred_more : (u v w : StackItems Token) (ws : List Token) (i : ℕ) (x : Token) → i < length ws → x ≡ get_or ws i x
+    → Defers u (take i ws) v → Defers v (x ∷ []) w → Defers u (take (i + 1) ws) w
+deferred_more u v w ws i x h e a b =
+    subst (λ (ts : List Token). Defers u ts w) (ap (λ y. take i ws ++ (y ∷ [])) e ∙ sym (take_more ws i x h))
+    (defers_two u v w (take i ws) (x ∷ []) a b)
+
+-- a stack that returned no refusal when it turned nothing over
+pub is_false : (b : Bool) → (b ≡ true → ⊥) → b ≡ false
+is_false true k = absurd (k refl)
+is_false false k = refl
+
+pub checked : {old new : StackItems Token}
+    → ((before : StackItems Token) (items : List Token) → length before.items ≡ length old.items → Defers before items old
+    → new ≡ record { items = items ++ before.items; refused = false }) → (old.refused ≡ false) × (new ≡ old)
+checked {old} {new} h =
+    let same : new ≡ record { items = old.items; refused = false } = h old [] refl (defers_none old) in
+    let whole : old.refused ≡ false = is_false old.refused (λ e.
+    let more : new ≡ record { items = token.Space ∷ old.items; refused = false } = h old (token.Space ∷ []) refl (λ f. absurd (cc)) in
+    let long = ap (λ (v : StackItems Token). length v.items) (sym same ∙ more) in absurd (omega arith)) in
+    (whole, same ∙ ap (λ b. record { items = old.items; refused = b }) (sym whole))
+
+-- 1. Documents that were added
+
+above_is : (old new : StackItems Token) (tokens : List Token) → new.items ≡ reverse tokens ++ old.items → above old new ≡ tokens
+above_is old new tokens e =
+    let long : length new.items - length old.items ≡ length (reverse tokens)
+    = let k = ap length e in let l = length-append (reverse tokens) old.items in omega arith in
+    ap₂ (λ n xs. reverse (take n xs)) long e ∙ ap (reverse {A = Token}) (take-append_seam (reverse tokens) old.items)
+    ∙ reverse-reverse tokens
+
+-- by the tokens
+adding_of : {docs : PrintEnv → List Doc} (old new : StackItems Token) (tokens : List Token) → Defers old tokens new
+    → (new.refused ≡ false → (s : PrintEnv) → docs_of_tokens s tokens ≡ docs s) → Adds old docs new
+adding_of old new tokens d e = record {
+  defers = λ h. let k = d h in (k.0, k.1 ∙ ap (λ ws. reverse ws ++ old.items) (sym (above_is old new tokens k.1)));
+  same = λ h s. ap (docs_of_tokens s) (above_is old new tokens (d h).1) ∙ e h s;
+}
+
+-- none
+pub adds_none : {old : StackItems Token} {docs : PrintEnv → List Doc} → ((s : PrintEnv) → [] ≡ docs s) → Adds old docs old
+adds_none {old} e = adding_of old old [] (defers_none old) (λ h. e)
+
+-- documents after others
+pub adds_then : {old between new : StackItems Token} {f g : PrintEnv → List Doc} → Adds old f between → Adds between g new
+    → Adds old (λ s. f s ++ g s) new
+adds_then {old} {between} {new} a b =
+    adding_of old new (above old between ++ above between new)
+    (defers_two old between new (above old between) (above between new) a.defers b.defers)
+    (λ h s. meant-append s (above old between) (above between new)
+    ∙ ap₂ (λ xs ys. xs ++ ys) (a.same (b.defers h).0 s) (b.same h s))
+
+-- the same documents in other words
+pub adds_as : {old new : StackItems Token} {f g : PrintEnv → List Doc} → Adds old f new → ((s : PrintEnv) → f s ≡ g s)
+    → Adds old g new
+adds_as a e = record { defers = a.defers; same = λ h s. a.same h s ∙ e s }
+
+-- tokens that stand for the documents, and tokens after others
+pub adds : {tokens : List Token} {old new : StackItems Token} {is : PrintEnv → List Doc} → AddsTokens old tokens new
+    → ((s : PrintEnv) → docs_one_by_one s tokens ≡ is s) → Adds old is new
+adds {tokens} {old} {new} a e = adding_of old new tokens a.defers (λ h s. stood_is s tokens ∙ e s)
+
+pub adds_more : {tokens : List Token} {old between new : StackItems Token} {f : PrintEnv → List Doc} → Adds old f between
+    → AddsTokens between tokens new → Adds old (λ s. stood_after s (f s) tokens) new
+adds_more {tokens} {between = between} {new} {f} a b =
+    let more : Adds between (λ s. docs_one_by_one s tokens) new = adds b (λ s. refl) in
+    adds_as (adds_then a more)
+    (λ s. ap (λ is. f s ++ is) (sym (stood_is s tokens)) ∙ stood_is-after s (f s) tokens)
+
+-- 2. Loops
+
+-- Documents were added, and with those of the rest they are all.
+pub record AddsRest (old : StackItems Token) (all : PrintEnv → List Doc) (now : StackItems Token)
+    (rest : PrintEnv → List Doc) : Type 0 where
+  pub done : PrintEnv → List Doc
+  pub adds : Adds old done now
+  pub same : (s : PrintEnv) → done s ++ rest s ≡ all s
+
+pub left_begins : {old : StackItems Token} {all rest : PrintEnv → List Doc} → ((s : PrintEnv) → rest s ≡ all s)
+    → AddsRest old all old rest
+left_begins e = record { done = λ s. []; adds = adds_none (λ s. refl); same = e }
+
+pub left_goes_on : {old between new : StackItems Token} {all rest is more : PrintEnv → List Doc}
+    → AddsRest old all between rest → Adds between is new → ((s : PrintEnv) → is s ++ more s ≡ rest s)
+    → AddsRest old all new more
+left_goes_on {is = is} {more = more} l a e = record {
+  done = λ s. l.done s ++ is s;
+  adds = adds_then l.adds a;
+  same = λ s. append_assoc (l.done s) (is s) (more s) ∙ ap (λ xs. l.done s ++ xs) (e s) ∙ l.same s;
+}
+
+pub left_ends : {old now : StackItems Token} {all rest : PrintEnv → List Doc} → AddsRest old all now rest
+    → ((s : PrintEnv) → [] ≡ rest s) → Adds old all now
+left_ends l e =
+    adds_as l.adds (λ s. sym (append-nil (l.done s)) ∙ ap (λ xs. l.done s ++ xs) (e s) ∙ l.same s)
+
+pub ruleset adding = (adds, adds_none)

@@ -1,0 +1,189 @@
+-- Items by what a list has: none, one, or more.
+use Rattle.std.proofs.Common.{◌≡◌, ℕ, zero, suc, ◌+◌, ◌-◌, ◌<◌, ◌≤◌, Bool, true, false, List, [], ◌∷◌, ◌++◌, codes, map, take, drop, length, get_or, Option, Some, None, refl, sym, ap, ap₂, ◌∙◌, arith, append_assoc, append-nil, inl, inr, ◌==◌, ◌&&◌, not, IsTrue, is_none, is_some, flat_map, option_to_list}
+use Rattle.std.proofs.lemmas.{Bool.cases_lt, Bool.Decides.nat_tests, List.take-map, List.drop-map, List.take_all, List.drop_all}
+use Rattle.std.proofs.lemmas.List.{length-map, Concat.flat_map-append}
+use Rattle.hir_base.specs.{Abi.abi_text, declared.abi.ExternAbi.ExternAbi}
+use Rattle.hir_base.specs.declared.abi.ExternAbi.TheVariants as abi
+use Rattle.hir_node.specs.declared.{expr_types.Array.TheVariants.ElementList, expr_types.Statement.Statement}
+use Rattle.hir_node.specs.declared.expr_types.{ClosureKind.ClosureKind, CoroutineKind.CoroutineKind, CoroutineSource.CoroutineSource}
+use Rattle.hir_node.specs.declared.expr_types.ClosureKind.TheVariants as closure
+use Rattle.hir_validate.specs.declared.node_arenas.Nodes.{Nodes}
+use Rattle.hir_path.specs.declared.{bound.TypeBound.TypeBound, path.GenericArg.GenericArg}
+use Rattle.hir_path.specs.declared.path.GenericArgs.{GenericArgs, out-GenericArgs}
+use Rattle.hir_pretty_docs.specs.Prelude.{PrintEnv, name_docs, Doc, text, sp, into, out, br, e, p, opt, when, join, comma_joined, arguments, array_docs, statement_docs, inside_block, with_rest, arg_docs, each_arg, args_docs, assoc_docs, turbofish, segments_from, bounds_docs, bounds_after, supers, following, printed_body, header, extern_docs}
+use Rattle.hir_pretty_docs.proofs.ListLemmas.{drop_item, is_cons, following_joined, following_append}
+use Rattle.hir_pretty_docs.proofs.ArgsDocs.{args_docs_is}
+
+-- 1. Whether a list has members
+
+pub cons_length : {X : Type 0} (x : X) (xs : List X) → (length (x ∷ xs) == 0) ≡ false
+cons_length x xs = grind (arith, nat_tests)
+
+pub not_empty : {X : Type 0} (xs : List X) → not (length xs == 0) ≡ is_cons xs
+not_empty [] = refl
+not_empty (x ∷ xs) = ap not (cons_length x xs)
+
+pub cons_map : {X Y : Type 0} (f : X → Y) (xs : List X) → is_cons (map f xs) ≡ is_cons xs
+cons_map f [] = refl
+cons_map f (x ∷ xs) = refl
+
+pub filled : {X : Type 0} (xs : List X) (b : Bool) → (IsTrue b → xs ≡ []) × (xs ≡ [] → IsTrue b) → not b ≡ is_cons xs
+filled [] b k = let e : b ≡ true = k.1 refl in ap not e
+filled (x ∷ xs) true k = absurd (let e = k.0 refl in cc)
+filled (x ∷ xs) false k = refl
+
+-- 2. Arguments, elements and statements
+
+pub no_arguments : (xs : List ℕ) → (length xs == 0) ≡ true → text (codes "(") ++ text (codes ")") ≡ arguments xs
+no_arguments [] h = refl
+no_arguments (x ∷ xs) h = absurd (let k = cons_length x xs in cc)
+
+pub some_arguments : (xs : List ℕ) → (length xs == 0) ≡ false
+    → text (codes "(") ++ into ++ flat_map (λ id. e id ++ text (codes ",") ++ br) xs ++ out ++ text (codes ")") ≡ arguments xs
+some_arguments [] h = absurd (cc)
+some_arguments (x ∷ xs) h = refl
+
+pub no_elements : (xs : List ℕ) → xs ≡ [] → text (codes "[]") ≡ array_docs (ElementList xs)
+no_elements xs h = sym (ap (λ ys. array_docs (ElementList ys)) h)
+
+pub some_elements : (xs : List ℕ) → (xs ≡ [] → ⊥)
+    → text (codes "[") ++ into ++ flat_map (λ id. e id ++ text (codes ", ")) xs ++ out ++ br ++ text (codes "]") ≡ array_docs (ElementList xs)
+some_elements [] h = absurd (h refl)
+some_elements (x ∷ xs) h = refl
+
+pub none_is : (o : Option ℕ) (r : Bool) → is_some o ≡ not r → r ≡ is_none o
+none_is None true h = refl
+none_is None false h = absurd (cc)
+none_is (Some x) true h = absurd (cc)
+none_is (Some x) false h = refl
+
+pub no_statements : (xs : List Statement) (tail : Option ℕ) → ((length xs == 0) && is_none tail) ≡ true → text (codes "{") ++ text (codes "}") ≡ text (codes "{") ++ inside_block xs tail ++ text (codes "}")
+no_statements [] None h = refl
+no_statements [] (Some t) h = absurd (cc)
+no_statements (x ∷ xs) tail h = absurd (let k = ap (λ b. b && is_none tail) (cons_length x xs) in cc)
+
+pub without_tail : (xs : List Statement) → ((length xs == 0) && true) ≡ false
+    → text (codes "{") ++ into ++ flat_map statement_docs xs ++ br ++ out ++ text (codes "}") ≡ text (codes "{") ++ inside_block xs None ++ text (codes "}")
+without_tail [] h = absurd (cc)
+without_tail (x ∷ xs) h = ap (λ is. text (codes "{") ++ (is ++ br ++ out) ++ text (codes "}")) (sym (append-nil (into ++ flat_map statement_docs (x ∷ xs))))
+
+pub with_tail : (xs : List Statement) (tail : ℕ)
+    → text (codes "{") ++ into ++ flat_map statement_docs xs ++ e tail ++ br ++ out ++ text (codes "}") ≡ text (codes "{") ++ inside_block xs (Some tail) ++ text (codes "}")
+with_tail [] tail = refl
+with_tail (x ∷ xs) tail = refl
+
+-- 3. Bounds and generic arguments
+
+pub bounds_is : (s : PrintEnv) (bs : List TypeBound) → when (not (length bs == 0)) (text (codes ": ")) ++ bounds_docs s bs ≡ bounds_after s bs
+bounds_is s [] = refl
+bounds_is s (b ∷ bs) = ap (λ c. when c (text (codes ": ")) ++ bounds_docs s (b ∷ bs)) (not_empty (b ∷ bs))
+
+each_is : (s : PrintEnv) (self : Bool) (args : List GenericArg) (bs : List (List Doc))
+    → when (is_cons args && self) (text (codes "Self=")) ++ join (text (codes ", ")) (map (arg_docs s) args) ++ following (text (codes ", ")) (is_cons args) bs ≡ comma_joined (each_arg s self args ++ bs)
+each_is s true [] bs = following_joined (text (codes ", ")) bs
+each_is s false [] bs = following_joined (text (codes ", ")) bs
+each_is s false (a ∷ more) bs = following_append (text (codes ", ")) (arg_docs s a ∷ map (arg_docs s) more) bs
+each_is s true (a ∷ []) bs = following_append (text (codes ", ")) ((text (codes "Self=") ++ arg_docs s a) ∷ []) bs
+each_is s true (a ∷ b ∷ more) bs = following_append (text (codes ", ")) ((text (codes "Self=") ++ arg_docs s a) ∷ arg_docs s b ∷ map (arg_docs s) more) bs
+
+pub args_is : (s : PrintEnv) (x : GenericArgs)
+    → when (is_cons (out-GenericArgs x).args && (out-GenericArgs x).has_self_type) (text (codes "Self=")) ++ join (text (codes ", ")) (map (arg_docs s) (out-GenericArgs x).args)
+    ++ following (text (codes ", ")) (is_cons (out-GenericArgs x).args) (map (assoc_docs s) (out-GenericArgs x).bindings) ≡ args_docs s x
+args_is s x = each_is s (out-GenericArgs x).has_self_type (out-GenericArgs x).args (map (assoc_docs s) (out-GenericArgs x).bindings) ∙ sym (args_docs_is s x)
+
+-- 4. `super`, one more or the last
+
+pub supers_more : (n : ℕ) → 1 < n → text (codes "super::") ++ supers (n - 1) ≡ supers n
+supers_more zero h = absurd (omega arith)
+supers_more (suc zero) h = absurd (omega arith)
+supers_more (suc (suc n)) h = let k : suc (suc n) - 1 ≡ suc n = omega arith in ap (λ m. text (codes "super::") ++ supers m) k
+
+pub supers_last : (n : ℕ) → n ≤ 1 → 0 < n → text (codes "super") ≡ supers n
+supers_last zero h k = absurd (omega arith)
+supers_last (suc zero) h k = refl
+supers_last (suc (suc n)) h k = absurd (omega arith)
+
+-- 5. Patterns with a rest, and of a slice
+
+around : (sep x : List Doc) (xs ys : List (List Doc)) → join sep xs ++ when (is_cons xs) sep ++ x ++ following sep true ys ≡ join sep (xs ++ (x ∷ []) ++ ys)
+around sep x xs ys =
+    append_assoc (join sep xs ++ when (is_cons xs) sep) x (following sep true ys) ∙ append_assoc (join sep xs) (when (is_cons xs) sep) (x ++ following sep true ys)
+    ∙ ap (λ zs. join sep xs ++ zs) (sym (append_assoc (when (is_cons xs) sep) x (following sep true ys))) ∙ following_append sep xs (x ∷ ys) ∙ ap (join sep) (sym (append_assoc xs (x ∷ []) ys))
+
+-- a list cut where it ends, or before
+all_but_last_is : {X Y : Type 0} (f : X → Y) (xs : List X) (n m : ℕ) → m ≡ length xs - (length xs - n) → map f (take m xs) ≡ take n (map f xs)
+all_but_last_is f xs n m h = elim (cases_lt n (length xs)) [
+  | inl k ↦ let l : m ≡ n = omega arith in ap (λ i. map f (take i xs)) l ∙ sym (take-map f n xs)
+  | inr k ↦ let l : length xs ≤ m = omega arith in let i : length (map f xs) ≤ n = omega (arith, length-map xs f) in ap (map f) (take_all m xs l) ∙ sym (take_all n (map f xs) i)
+]
+
+back_cut : {X Y : Type 0} (f : X → Y) (xs : List X) (n m : ℕ) → m ≡ length xs - (length xs - n) → map f (drop m xs) ≡ drop n (map f xs)
+back_cut f xs n m h = elim (cases_lt n (length xs)) [
+  | inl k ↦ let l : m ≡ n = omega arith in ap (λ i. map f (drop i xs)) l ∙ sym (drop-map f n xs)
+  | inr k ↦ let l : length xs ≤ m = omega arith in let i : length (map f xs) ≤ n = omega (arith, length-map xs f) in ap (map f) (drop_all m xs l) ∙ sym (drop_all n (map f xs) i)
+]
+
+pub rest_is : (pats all_but_last back : List ℕ) (n m : ℕ) → m ≡ length pats - (length pats - n) → all_but_last ≡ take m pats → back ≡ drop m pats
+    → join (text (codes ", ")) (map p all_but_last) ++ when (not (length all_but_last == 0)) (text (codes ", ")) ++ text (codes "..") ++ following (text (codes ", ")) true (map p back)
+    ≡ comma_joined (with_rest (Some n) (map p pats))
+rest_is pats all_but_last back n m h f b =
+    ap (λ c. join (text (codes ", ")) (map p all_but_last) ++ when c (text (codes ", ")) ++ text (codes "..") ++ following (text (codes ", ")) true (map p back)) (not_empty all_but_last ∙ sym (cons_map p all_but_last))
+    ∙ around (text (codes ", ")) (text (codes "..")) (map p all_but_last) (map p back)
+    ∙ ap₂ (λ xs ys. comma_joined (xs ++ (text (codes "..") ∷ []) ++ ys)) (ap (map p) f ∙ all_but_last_is p pats n m h) (ap (map p) b ∙ back_cut p pats n m h)
+
+slice_parts : (prefix suffix : List ℕ) (slice : Option ℕ)
+    → flat_map (λ id. p id ++ text (codes ", ")) prefix ++ opt (λ id. p id ++ text (codes ", ")) slice ++ flat_map (λ id. p id ++ text (codes ", ")) suffix
+    ≡ flat_map (λ id. p id ++ text (codes ", ")) (prefix ++ option_to_list slice ++ suffix)
+slice_parts prefix suffix slice =
+    let f : ℕ → List Doc = λ id. p id ++ text (codes ", ") in
+    let one : opt f slice ≡ flat_map f (option_to_list slice) = elim slice as (λ o. opt f o ≡ flat_map f (option_to_list o)) [ None ↦ refl | Some x ↦ refl ] in
+    ap (λ is. flat_map f prefix ++ is ++ flat_map f suffix) one ∙ ap (λ is. is ++ flat_map f suffix) (sym (flat_map-append f prefix (option_to_list slice)))
+    ∙ sym (flat_map-append f (prefix ++ option_to_list slice) suffix)
+
+pub slice_is : (prefix suffix : List ℕ) (slice : Option ℕ)
+    → text (codes "[") ++ flat_map (λ id. p id ++ text (codes ", ")) prefix ++ opt (λ id. p id ++ text (codes ", ")) slice ++ flat_map (λ id. p id ++ text (codes ", ")) suffix ++ text (codes "]")
+    ≡ text (codes "[") ++ flat_map (λ id. p id ++ text (codes ", ")) (prefix ++ option_to_list slice ++ suffix) ++ text (codes "]")
+slice_is prefix suffix slice = ap (λ is. text (codes "[") ++ is ++ text (codes "]")) (slice_parts prefix suffix slice)
+
+-- a binding with a pattern
+pub bound_to : (is : List Doc) (q : ℕ) → is ++ sp ++ text (codes "@ ") ++ p q ≡ is ++ (sp ++ text (codes "@ ") ++ p q)
+bound_to is q = append_assoc (is ++ sp) (text (codes "@ ")) (p q) ∙ append_assoc is sp (text (codes "@ ") ++ p q)
+
+-- 6. Segments of a path
+
+pub segment_alone : (s : PrintEnv) (after : Bool) (names : List (List ℕ)) (i : ℕ) (name : List ℕ) (lists : List (Option GenericArgs)) → i < length names → name ≡ get_or names i name → length lists < 1
+    → when after (text (codes "::")) ++ name_docs s name ++ segments_from s true (drop (i + 1) names) lists ≡ segments_from s after (drop i names) lists
+segment_alone s after names i name [] h e k = sym (ap (λ ns. segments_from s after ns []) (drop_item names i name h e))
+segment_alone s after names i name (x ∷ xs) h e k = absurd (omega arith)
+
+pub segment_with : (s : PrintEnv) (after : Bool) (names : List (List ℕ)) (i : ℕ) (name : List ℕ) (lists rest : List (Option GenericArgs)) (args : Option GenericArgs)
+    → i < length names → name ≡ get_or names i name → lists ≡ args ∷ rest
+    → when after (text (codes "::")) ++ name_docs s name ++ opt (λ a. turbofish (args_docs s a)) args ++ segments_from s true (drop (i + 1) names) rest
+    ≡ segments_from s after (drop i names) lists
+segment_with s after names i name lists rest args h e k = sym (ap₂ (λ ns xs. segments_from s after ns xs) (drop_item names i name h e) k)
+
+pub no_segments : (s : PrintEnv) (after : Bool) (names : List (List ℕ)) (i : ℕ) (lists : List (Option GenericArgs)) → length names ≤ i → [] ≡ segments_from s after (drop i names) lists
+no_segments s after names i lists h = sym (ap (λ ns. segments_from s after ns lists) (drop_all i names h))
+
+-- 7. A block after what comes before it
+
+pub braces_after : (before inside : List Doc) → before ++ (text (codes "{") ++ inside ++ text (codes "}")) ≡ before ++ text (codes "{") ++ inside ++ text (codes "}")
+braces_after before inside =
+    sym (append_assoc (before ++ text (codes "{")) inside (text (codes "}")) ∙ append_assoc before (text (codes "{")) (inside ++ text (codes "}")))
+
+-- 8. Forms that most of a kind have
+
+pub plain_body : (s : Nodes) (kind : ClosureKind) (body : ℕ) → ((k : CoroutineKind) → kind ≡ closure.CoroutineClosure k → ⊥)
+    → e body ≡ e (printed_body s kind body)
+plain_body s (closure.CoroutineClosure k) body h = absurd (h k refl)
+plain_body s kind body h = refl
+
+pub barred_header : (kind : ClosureKind) (xs : List (List Doc)) (ret : Option ℕ)
+    → ((k : CoroutineKind) (source : CoroutineSource) → kind ≡ closure.Coroutine k source → ⊥) → header closure.Closure xs ret ≡ header kind xs ret
+barred_header (closure.Coroutine k source) xs ret h = absurd (h k source refl)
+barred_header kind xs ret h = refl
+
+pub not_rust : (x : ExternAbi) → (x ≡ abi.Rust → ⊥)
+    → text (codes "extern ") ++ text (abi_text x) ++ text (codes " ") ≡ extern_docs x
+not_rust abi.Rust h = absurd (h refl)
+not_rust other h = refl

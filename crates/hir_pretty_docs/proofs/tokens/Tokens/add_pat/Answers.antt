@@ -1,0 +1,53 @@
+use Rattle.hir_pretty_docs.proofs.Common.{refl, sym, append-nil, adds, adds_then, adds_more, adds_as, binding_docs, bound_to}
+use Rattle.hir_pretty_docs.proofs.tokens.Tokens.add_pat.Goals as goal
+
+pub returns-in-Or : goal.returns-in-Or
+returns-in-Or c = rw c.in-Or.is (adds_more (adds_then (adds c.add-in-Or.ensures (λ s. refl)) (rw c.as_slice-in-Or.ensures at c.add_joined.ensures)) c.add-in-Or-2.ensures)
+
+pub returns-in-Range : goal.returns-in-Range
+returns-in-Range c = rw c.in-Range.is (adds_then (adds_more c.add_in_pat.ensures (rw c.as_str.ensures at c.add-in-Range.ensures)) c.add_in_pat-in-Range.ensures)
+
+pub returns-in-None : goal.returns-in-None
+returns-in-None c = rw (c.in-Bind.is, c.in-None.is) (adds_as c.add_binding.ensures (λ s. sym (append-nil (binding_docs s c.in-Bind.id))))
+
+pub returns-in-Some : goal.returns-in-Some
+returns-in-Some c = rw (c.in-Bind.is, c.in-Some.is) (adds_as (adds_more c.add_binding.ensures c.add-in-Some.ensures) (λ s. bound_to (binding_docs s c.in-Bind.id) c.in-Some.subpat))
+
+pub returns-in-TupleStruct : goal.returns-in-TupleStruct
+returns-in-TupleStruct c = rw c.in-TupleStruct.is (adds_then c.add_path-in-TupleStruct.ensures (rw c.as_slice-in-TupleStruct.ensures at c.add_in_parentheses-in-TupleStruct.ensures))
+
+pub returns-in-Tuple : goal.returns-in-Tuple
+returns-in-Tuple c = rw c.in-Tuple.is (rw c.as_slice.ensures at c.add_in_parentheses.ensures)
+
+pub returns-in-Record : goal.returns-in-Record
+returns-in-Record c = rw c.in-Record.is (rw c.as_slice-in-Record.ensures at c.add_record_pat.ensures)
+
+pub returns-in-Slice : goal.returns-in-Slice
+returns-in-Slice c = rw c.in-Slice.is (rw (c.as_slice-in-Slice.ensures, c.as_slice-in-Slice-2.ensures) at c.add_slice.ensures)
+
+pub returns-in-Ref : goal.returns-in-Ref
+returns-in-Ref c = rw c.in-Ref.is (adds (rw c.as_keyword_for_ref.ensures at c.add-in-Ref.ensures) (λ s. refl))
+
+pub returns-in-Missing : goal.returns-in-Missing
+returns-in-Missing c = rw c.in-Missing.is (adds c.add.ensures (λ s. refl))
+
+pub returns-in-Rest : goal.returns-in-Rest
+returns-in-Rest c = rw c.in-Rest.is (adds c.add-in-Rest.ensures (λ s. refl))
+
+pub returns-in-Wild : goal.returns-in-Wild
+returns-in-Wild c = rw c.in-Wild.is (adds c.add-in-Wild.ensures (λ s. refl))
+
+pub returns-in-NotNull : goal.returns-in-NotNull
+returns-in-NotNull c = rw c.in-NotNull.is (adds c.add-in-NotNull.ensures (λ s. refl))
+
+pub returns-in-Lit : goal.returns-in-Lit
+returns-in-Lit c = rw c.in-Lit.is c.add_in_pat-in-Lit.ensures
+
+pub returns-in-Expr : goal.returns-in-Expr
+returns-in-Expr c = rw c.in-Expr.is c.add_in_pat-in-Expr.ensures
+
+pub returns-in-Box : goal.returns-in-Box
+returns-in-Box c = rw c.in-Box.is (adds c.add-in-Box.ensures (λ s. refl))
+
+pub returns-in-Deref : goal.returns-in-Deref
+returns-in-Deref c = rw c.in-Deref.is (adds c.add-in-Deref.ensures (λ s. refl))

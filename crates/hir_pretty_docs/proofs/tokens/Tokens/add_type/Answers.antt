@@ -1,0 +1,41 @@
+use Rattle.hir_pretty_docs.proofs.Common.{refl, adds, adds_then, adds_more}
+use Rattle.hir_pretty_docs.proofs.tokens.Tokens.add_type.Goals as goal
+
+pub returns-in-Tuple : goal.returns-in-Tuple
+returns-in-Tuple c = rw c.in-Tuple.is (adds_more (adds_then (adds c.add-in-Tuple.ensures (λ s. refl)) (rw c.as_slice.ensures at c.add_joined.ensures)) c.add-in-Tuple-2.ensures)
+
+pub returns-in-RawPtr : goal.returns-in-RawPtr
+returns-in-RawPtr c = rw c.in-RawPtr.is (adds (rw c.as_keyword_for_ptr.ensures at c.add-in-RawPtr.ensures) (λ s. refl))
+
+pub returns-in-Reference : goal.returns-in-Reference
+returns-in-Reference c = rw c.in-Reference.is (rw c.get.ensures at c.add_reference.ensures)
+
+pub returns-in-Fn : goal.returns-in-Fn
+returns-in-Fn c = rw c.in-Fn.is (rw c.get-in-Fn.ensures at c.add_fn.ensures)
+
+pub returns-in-ImplTrait : goal.returns-in-ImplTrait
+returns-in-ImplTrait c = rw c.in-ImplTrait.is (rw c.as_slice-in-ImplTrait.ensures at c.add_bounds.ensures)
+
+pub returns-in-DynTrait : goal.returns-in-DynTrait
+returns-in-DynTrait c = rw c.in-DynTrait.is (rw c.as_slice-in-DynTrait.ensures at c.add_bounds-in-DynTrait.ensures)
+
+pub returns-in-Never : goal.returns-in-Never
+returns-in-Never c = rw c.in-Never.is (adds c.add.ensures (λ s. refl))
+
+pub returns-in-Placeholder : goal.returns-in-Placeholder
+returns-in-Placeholder c = rw c.in-Placeholder.is (adds c.add-in-Placeholder.ensures (λ s. refl))
+
+pub returns-in-Error : goal.returns-in-Error
+returns-in-Error c = rw c.in-Error.is (adds c.add-in-Error.ensures (λ s. refl))
+
+pub returns-in-TypeParam : goal.returns-in-TypeParam
+returns-in-TypeParam c = rw c.in-TypeParam.is (adds c.add-in-TypeParam.ensures (λ s. refl))
+
+pub returns-in-Slice : goal.returns-in-Slice
+returns-in-Slice c = rw c.in-Slice.is (adds c.add-in-Slice.ensures (λ s. refl))
+
+pub returns-in-Array : goal.returns-in-Array
+returns-in-Array c = rw c.in-Array.is (adds c.add-in-Array.ensures (λ s. refl))
+
+pub returns-in-PatternType : goal.returns-in-PatternType
+returns-in-PatternType c = rw c.in-PatternType.is (adds c.add-in-PatternType.ensures (λ s. refl))

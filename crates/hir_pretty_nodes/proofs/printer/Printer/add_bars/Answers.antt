@@ -1,6 +1,0 @@
-use Rattle.hir_pretty_nodes.proofs.Common.{refl, on_ok_weaker, adds, adds_then, adds_more}
-use Rattle.hir_pretty_nodes.proofs.printer.Printer.add_bars.Goals as goal
-
-pub returns : goal.returns
-returns g c = on_ok_weaker c.add-3.result
-    (adds_more (adds_then (adds_more (adds_then (adds c.in_ok-add.ensures (λ s. refl)) c.in_ok-add_params.ensures) c.in_ok-add-2.ensures) c.in_ok-add_after.ensures)) c.add-3.ensures
