@@ -1,7 +1,7 @@
 //! What a session keeps of the stores that are asked.
 
-use crate::questions::Asked;
-use crate::scopes::Question;
+use crate::asked::Asked;
+use crate::scopes::ScopeQuestion;
 use hir_base::ExpressionStoreOwnerId;
 use hir_text_nodes::{Answer, TextError};
 use std::alloc::{AllocError, Global};
@@ -18,7 +18,7 @@ pub(crate) trait StoreCache: Sized + Drop {
         &mut self,
         alloc: Global,
         asked: &Asked<'_>,
-        question: &Question,
+        question: &ScopeQuestion,
         answer: &mut Answer,
     ) -> Result<(), TextError>;
 }
@@ -53,7 +53,7 @@ impl<C: StoreCache> StoreCaches<C> {
         alloc: Global,
         owner: ExpressionStoreOwnerId,
         asked: &Asked<'_>,
-        question: &Question,
+        question: &ScopeQuestion,
         answer: &mut Answer,
     ) -> Result<(), TextError> {
         self.open(alloc, owner)?;
@@ -68,7 +68,7 @@ impl<C: StoreCache> StoreCaches<C> {
         &mut self,
         alloc: Global,
         asked: &Asked<'_>,
-        question: &Question,
+        question: &ScopeQuestion,
         answer: &mut Answer,
     ) -> Result<(), TextError> {
         match asked.owner {

@@ -19,7 +19,7 @@ pub enum Subject {
     Owner(ExpressionStoreOwnerId),
 }
 
-/// What was accepted is the store that questions ask from then on.
+/// Returns what was accepted as the store that questions ask from then on.
 pub(crate) fn ask_accepted(
     owner: ExpressionStoreOwnerId,
     answer: &mut Answer,
@@ -28,7 +28,7 @@ pub(crate) fn ask_accepted(
     Ok(Subject::Owner(owner))
 }
 
-/// What was refused is the store that questions ask again.
+/// Returns what was refused as the store that questions ask again.
 pub(crate) fn ask_again(
     alloc: Global,
     store: ExpressionStore,
