@@ -18,7 +18,6 @@ pub(crate) struct Nodes {
     pub(crate) subject: Subject,
 }
 
-/// A builder without nodes.
 fn empty(alloc: Global) -> Result<Box<ExpressionStoreBuilder>, AllocError> {
     Ok(Box::new(alloc, ExpressionStoreBuilder::new(alloc))?)
 }

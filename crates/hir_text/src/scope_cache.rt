@@ -48,7 +48,6 @@ impl ScopedBody {
         Ok(ScopedBody { body, scopes })
     }
 
-    /// Returns the bindings that a closure captures.
     fn captures(&self, alloc: Global, closure: ExprId) -> Result<Vec<BindingId>, CapturesFault> {
         captures(alloc, &self.body, &self.scopes, closure)
     }
@@ -185,7 +184,6 @@ impl ScopeCache {
         Ok(())
     }
 
-    /// Writes the answer to a question on scopes.
     fn ask_scopes(
         &mut self,
         alloc: Global,
@@ -250,7 +248,6 @@ impl ScopeCache {
         Ok(())
     }
 
-    /// Writes the answer to a question on uses.
     fn ask_usages(
         &mut self,
         alloc: Global,
@@ -269,7 +266,6 @@ impl ScopeCache {
         }
     }
 
-    /// Writes what a new name of a binding changes.
     fn ask_rename(
         &mut self,
         alloc: Global,

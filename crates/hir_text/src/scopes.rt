@@ -53,7 +53,6 @@ fn read_expansions(words: &mut Words<'_>) -> Result<Expansions, TextError> {
     Ok(expansions)
 }
 
-/// Reads a question on scopes.
 fn read_of_scopes(word: &[u8], words: &mut Words<'_>) -> Result<Option<OfScopes>, TextError> {
     Ok(Some(match word {
         b"chain" => OfScopes::Chain(next(words)?),
@@ -72,7 +71,6 @@ fn read_of_scopes(word: &[u8], words: &mut Words<'_>) -> Result<Option<OfScopes>
     }))
 }
 
-/// Reads a question on captures or uses.
 fn read_of_uses(word: &[u8], words: &mut Words<'_>) -> Result<Option<ScopeQuestion>, TextError> {
     Ok(Some(match word {
         b"captures" => ScopeQuestion::Captures(next(words)?),
@@ -107,13 +105,11 @@ impl ScopeQuestion {
     }
 }
 
-/// Says that the expression has no scope.
 fn answer_unreached(answer: &mut Answer) -> Result<(), AllocError> {
     answer.refuse();
     answer.word("unreached")
 }
 
-/// Writes the names of a scope's entries.
 fn put_names(answer: &mut Answer, scopes: &ExprScopes, scope: ScopeId) -> Result<(), AllocError>
     requires { scope < length scopes.now.scopes }
 {

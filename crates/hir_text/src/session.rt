@@ -130,7 +130,6 @@ impl Session {
         Ok(())
     }
 
-    /// Makes what a line says that has no answer.
     fn make(&mut self, make: Make) -> Result<(), TextError> {
         match make {
             Make::Change(change) => self.nodes.add(change),

@@ -186,7 +186,6 @@ impl TablesText {
         }))
     }
 
-    /// Prints what is asked of the tables.
     fn print(self, alloc: Global, tables: &Tables) -> Printed {
         match self {
             TablesText::Body(def, owner, edition) => match Body::of(tables, def) {

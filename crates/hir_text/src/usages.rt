@@ -37,7 +37,6 @@ fn join_binding(answer: &mut Answer, binding: Option<BindingId>) -> Result<(), A
     }
 }
 
-/// Writes the paths of uses.
 fn put_paths(answer: &mut Answer, usages: &[Usage]) -> Result<(), AllocError> {
     for usage in usages {
         put(answer, &usage.path)?;

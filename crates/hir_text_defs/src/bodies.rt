@@ -3,13 +3,14 @@
 use crate::pending::Pending;
 use crate::subject::{Finished, Subject, ask_accepted, ask_again};
 use hir_base::{DefWithBodyId, ExpressionStoreOwnerId};
-use hir_collections::Idx;
+use hir_collections::{Idx, Seq};
 use hir_defs::{Body, BodyFault, BodySourceMap, Param, RefusedBody, Tables, TablesOf};
 use hir_node::BindingId;
 use hir_store::ExpressionStore;
 use hir_text_nodes::{Answer, TextError, Words, next, put, put_yes_or_no};
 use hir_text_store::{answer_unknown, done, refuse};
 use std::alloc::{AllocError, Global};
+use std::mem;
 
 /// Lets the parts of a body that was refused wait again. Returns its store.
 fn take_back(
@@ -23,7 +24,8 @@ fn take_back(
         params,
         self_param,
     } = refused;
-    pending.put_back_params(params, self_param);
+    pending.params = params;
+    pending.self_param = self_param;
     if fault == BodyFault::Memory {
         return Err(TextError::Memory);
     }
@@ -42,10 +44,10 @@ pub(crate) fn make<F: Drop, S: Drop, P: Drop, V: Drop, M: Drop>(
     answer: &mut Answer,
 ) -> Result<Subject, TextError> {
     let (store, sources) = Box::into_inner(finished);
-    let params = pending.take_params(alloc);
-    match Body::new(alloc, store, params, pending.take_self()) {
+    let params = mem::replace(&mut pending.params, Seq::new(alloc));
+    match Body::new(alloc, store, params, pending.self_param.take()) {
         Ok(body) => {
-            let sources = BodySourceMap::new(sources, pending.take_self_source());
+            let sources = BodySourceMap::new(sources, pending.self_source.take());
             done(tables.add_body(*def, body, sources))?;
             ask_accepted(ExpressionStoreOwnerId::Body(*def), answer)
         }

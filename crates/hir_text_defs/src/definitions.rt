@@ -7,6 +7,7 @@ use hir_base::{
     AdtId, DefWithBodyId, ExpressionStoreOwnerId, FunctionId, GenericDefId, LangItemTarget,
     StructId, VariantId,
 };
+use hir_collections::Seq;
 use hir_defs::{
     FieldsShape, FunctionParts, FunctionSignature, GenericParams, PlainDef, PlainParts,
     PlainSignature, RefusedSignature, SignatureFault, StructParts, StructSignature, Tables,
@@ -16,6 +17,7 @@ use hir_store::{ExpressionStore, ExpressionStoreSourceMap};
 use hir_text_nodes::{Answer, TextError, Words, next, opt_abi, prefixed};
 use hir_text_store::{done, refuse};
 use std::alloc::Global;
+use std::mem;
 
 /// What a line makes of a finished store. In the parts of a signature the generic parameters and the store
 /// are empty: those that wait come in their place.
@@ -28,7 +30,6 @@ pub enum Definition {
     Variant(VariantId, FieldsShape),
 }
 
-/// Takes what comes after the number of a function.
 fn read_function(words: &mut Words<'_>) -> Result<Box<FunctionParts>, TextError> {
     let parts = FunctionParts {
         name: next(words)?,
@@ -46,7 +47,6 @@ fn read_function(words: &mut Words<'_>) -> Result<Box<FunctionParts>, TextError>
     Ok(Box::new(words.alloc(), parts)?)
 }
 
-/// Takes what comes after the number of a struct.
 fn read_struct(words: &mut Words<'_>) -> Result<Box<StructParts>, TextError> {
     let parts = StructParts {
         name: next(words)?,
@@ -75,7 +75,6 @@ pub(crate) fn next_plain(words: &mut Words<'_>) -> Result<PlainDef, TextError> {
     }
 }
 
-/// Writes why a signature is refused.
 fn refuse_signature(answer: &mut Answer, fault: SignatureFault) -> Result<(), TextError> {
     if fault == SignatureFault::Memory {
         return Err(TextError::Memory);
@@ -214,7 +213,7 @@ fn make_variant<F: Drop, S: Drop, P: Drop, B: Drop, N: Drop>(
     answer: &mut Answer,
 ) -> Result<Subject, TextError> {
     let (store, sources) = Box::into_inner(finished);
-    let fields = pending.take_fields(alloc);
+    let fields = mem::replace(&mut pending.fields, Seq::new(alloc));
     match VariantFields::new(VariantParts {
         shape,
         fields,
@@ -227,7 +226,7 @@ fn make_variant<F: Drop, S: Drop, P: Drop, B: Drop, N: Drop>(
         Err(RefusedSignature { fault, parts }) => {
             let VariantParts { fields, store, .. } = parts;
             refuse_signature(answer, fault)?;
-            pending.put_back_fields(fields);
+            pending.fields = fields;
             ask_again(alloc, store, sources)
         }
     }

@@ -59,13 +59,13 @@ impl Part {
 /// What waits for the next body, signature or fields.
 #[derive(Drop)]
 pub struct Pending {
-    params: Seq<Param<PatId>>,
-    self_param: Option<Param<BindingId>>,
-    self_source: Option<InFile<SelfParamPtr>>,
+    pub(crate) params: Seq<Param<PatId>>,
+    pub(crate) self_param: Option<Param<BindingId>>,
+    pub(crate) self_source: Option<InFile<SelfParamPtr>>,
     type_or_consts: Arena<TypeOrConstParamKind, TypeOrConstParamData>,
     lifetimes: Arena<LifetimeParamKind, LifetimeParamData>,
     predicates: Seq<WherePredicate>,
-    fields: Seq<FieldData>,
+    pub(crate) fields: Seq<FieldData>,
 }
 
 impl Pending {
@@ -101,31 +101,6 @@ impl Pending {
         }
     }
 
-    /// Takes the parameters.
-    pub(crate) fn take_params(&mut self, alloc: Global) -> Seq<Param<PatId>> {
-        mem::replace(&mut self.params, Seq::new(alloc))
-    }
-
-    /// Takes the `self`, where there is one.
-    pub(crate) fn take_self(&mut self) -> Option<Param<BindingId>> {
-        self.self_param.take()
-    }
-
-    /// Takes where the `self` is written, where that is known.
-    pub(crate) fn take_self_source(&mut self) -> Option<InFile<SelfParamPtr>> {
-        self.self_source.take()
-    }
-
-    /// Lets the parts of a body that was refused wait again.
-    pub(crate) fn put_back_params(
-        &mut self,
-        params: Seq<Param<PatId>>,
-        self_param: Option<Param<BindingId>>,
-    ) {
-        self.params = params;
-        self.self_param = self_param;
-    }
-
     /// Takes the generic parameters and the predicates.
     pub(crate) fn take_generics(&mut self, alloc: Global) -> GenericParams {
         let type_or_consts = mem::replace(&mut self.type_or_consts, Arena::new(alloc));
@@ -146,15 +121,5 @@ impl Pending {
             self.predicates.push(predicate.try_clone()?)?;
         }
         Ok(())
-    }
-
-    /// Takes the fields.
-    pub(crate) fn take_fields(&mut self, alloc: Global) -> Seq<FieldData> {
-        mem::replace(&mut self.fields, Seq::new(alloc))
-    }
-
-    /// Lets the fields of a variant that was refused wait again.
-    pub(crate) fn put_back_fields(&mut self, fields: Seq<FieldData>) {
-        self.fields = fields;
     }
 }

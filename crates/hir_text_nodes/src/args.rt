@@ -33,7 +33,6 @@ fn next_letter(words: &Words<'_>) -> Option<u8> {
     letter_of(ahead.bare_name())
 }
 
-/// Takes the number after a letter.
 fn lettered<K>(words: &mut Words<'_>) -> Result<Idx<K>, TextError> {
     let _ = words.take(1);
     Read::read(words)
@@ -108,7 +107,6 @@ fn read_name(words: &mut Words<'_>) -> Result<Name, TextError> {
     Read::read(words)
 }
 
-/// Takes the bounds of an associated type, where there are any.
 fn opt_bounds(words: &mut Words<'_>) -> Result<Seq<TypeBound>, TextError> {
     if words.eat(b":") {
         return list(words, b"+");
@@ -210,7 +208,6 @@ fn parentheses_text(parentheses: GenericArgsParentheses) -> &'static str {
     }
 }
 
-/// Writes what comes before the bindings of generic arguments.
 fn join_front(answer: &mut Answer, args: &GenericArgs) -> Result<(), AllocError> {
     answer.join(if args.has_self_type {
         "::<self;"
@@ -225,7 +222,6 @@ fn join_front(answer: &mut Answer, args: &GenericArgs) -> Result<(), AllocError>
     Ok(())
 }
 
-/// Writes the binding of an associated type.
 #[cycle(join_args)]
 fn join_binding(answer: &mut Answer, binding: &AssociatedTypeBinding) -> Result<(), AllocError> {
     let name = &binding.name;
@@ -252,7 +248,6 @@ pub fn join_args(answer: &mut Answer, args: &GenericArgs) -> Result<(), AllocErr
     answer.join(">")
 }
 
-/// Writes the bindings of associated types, joined by `,`.
 #[cycle(join_args)]
 fn join_bindings(
     answer: &mut Answer,
@@ -319,14 +314,12 @@ pub(crate) fn read_binder(words: &mut Words<'_>) -> Result<Seq<Name>, TextError>
     Ok(names)
 }
 
-/// Takes a trait after `for<`.
 fn read_for(words: &mut Words<'_>) -> Result<TypeBound, TextError> {
     let names = read_binder(words)?;
     words.expect(b"T")?;
     Ok(TypeBound::ForLifetime(names, Read::read(words)?))
 }
 
-/// Takes a trait after its letter.
 fn read_trait(words: &mut Words<'_>, modifier: TraitBoundModifier) -> Result<TypeBound, TextError> {
     Ok(TypeBound::Path(Read::read(words)?, modifier))
 }

@@ -95,7 +95,6 @@ impl Write for RecordLitField {
     }
 }
 
-/// Returns an absent type for each argument.
 fn no_types(words: &Words<'_>, arg_count: usize) -> Result<Seq<Option<TypeRefId>>, AllocError> {
     let mut types = Seq::with_capacity(words.alloc(), arg_count)?;
     for _ in 0..arg_count {

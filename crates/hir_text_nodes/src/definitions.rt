@@ -128,7 +128,6 @@ impl Read for TypeParamId {
     }
 }
 
-/// A definition and the number of its parameter.
 impl Read for LifetimeParamId {
     fn read(words: &mut Words<'_>) -> Result<LifetimeParamId, TextError> {
         let parent = GenericDefId::read(words)?;

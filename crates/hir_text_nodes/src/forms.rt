@@ -301,13 +301,13 @@ impl Write for u32 {
 
 impl Write for u64 {
     fn write(&self, answer: &mut Answer) -> Result<(), AllocError> {
-        answer.join_long(*self)
+        answer.join_shown(self)
     }
 }
 
 impl Write for usize {
     fn write(&self, answer: &mut Answer) -> Result<(), AllocError> {
-        answer.join_size(*self)
+        answer.join_shown(self)
     }
 }
 

@@ -41,7 +41,6 @@ impl Read for ConstRef {
     }
 }
 
-/// A name, and what comes after it.
 impl Read for ConstParamData {
     fn read(words: &mut Words<'_>) -> Result<ConstParamData, TextError> {
         Ok(ConstParamData {
@@ -52,7 +51,6 @@ impl Read for ConstParamData {
     }
 }
 
-/// A name, and what comes after it.
 impl Read for LifetimeParamData {
     fn read(words: &mut Words<'_>) -> Result<LifetimeParamData, TextError> {
         Ok(LifetimeParamData {

@@ -70,7 +70,7 @@ fn next_float(words: &mut Words<'_>) -> Result<FloatTypeWrapper, TextError> {
         return Ok(FloatTypeWrapper::new(next_quoted(words)?));
     }
     words.expect(b" ")?;
-    let digits = words.part(Part::Decimal);
+    let digits = words.take_of(Part::Decimal);
     if digits.is_empty() {
         return Err(words.reject());
     }
@@ -102,7 +102,6 @@ pub(crate) fn read_literal(form: &[u8], words: &mut Words<'_>) -> Result<Literal
     }
 }
 
-/// Writes a suffix, where there is one.
 fn put_suffix(answer: &mut Answer, suffix: Option<&'static str>) -> Result<(), AllocError> {
     match suffix {
         Some(suffix) => answer.word(suffix),
@@ -110,12 +109,10 @@ fn put_suffix(answer: &mut Answer, suffix: Option<&'static str>) -> Result<(), A
     }
 }
 
-/// Writes a word and a text in quotes.
 fn put_quoted(answer: &mut Answer, word: &str, text: &str) -> Result<(), AllocError> {
     put(answer, &(word, Quoted(text)))
 }
 
-/// Writes a word and bytes in quotes.
 fn put_bytes(answer: &mut Answer, word: &str, bytes: &[u8]) -> Result<(), AllocError> {
     answer.word(word)?;
     answer.space()?;
@@ -141,12 +138,12 @@ pub fn put_literal(answer: &mut Answer, literal: &Literal) -> Result<(), AllocEr
         Literal::Bool(value) => put(answer, &("bool", if *value { "true" } else { "false" })),
         Literal::Int(value, suffix) => {
             answer.word("int ")?;
-            answer.join_int(*value)?;
+            answer.join_shown(value)?;
             put_suffix(answer, suffix.map(|suffix| suffix.as_str()))
         }
         Literal::Uint(value, suffix) => {
             answer.word("uint ")?;
-            answer.join_big(*value)?;
+            answer.join_shown(value)?;
             put_suffix(answer, suffix.map(|suffix| suffix.as_str()))
         }
         Literal::Float(text, suffix) => {
@@ -156,7 +153,6 @@ pub fn put_literal(answer: &mut Answer, literal: &Literal) -> Result<(), AllocEr
     }
 }
 
-/// Returns the arithmetic operator of this word.
 fn arith_op(word: &[u8]) -> Option<ArithOp> {
     match word {
         b"+" => Some(ArithOp::Add),
@@ -177,7 +173,6 @@ fn order(ordering: Ordering, strict: bool) -> BinaryOp {
     BinaryOp::CmpOp(CmpOp::Ord { ordering, strict })
 }
 
-/// Returns the operator between two expressions of this word.
 fn binary_op(word: &[u8]) -> Option<BinaryOp> {
     Some(match word {
         b"||" => BinaryOp::LogicOp(LogicOp::Or),
@@ -203,14 +198,14 @@ pub(crate) fn next_binary(words: &mut Words<'_>) -> Result<Option<BinaryOp>, Tex
         return Ok(None);
     }
     words.expect(b" ")?;
-    let word = words.part(Part::Word);
+    let word = words.take_of(Part::Word);
     Ok(Some(words.known(binary_op(word))?))
 }
 
 /// Takes the operator before an expression.
 pub(crate) fn next_unary(words: &mut Words<'_>) -> Result<UnaryOp, TextError> {
     words.expect(b" ")?;
-    match words.part(Part::Word) {
+    match words.take_of(Part::Word) {
         b"*" => Ok(UnaryOp::Deref),
         b"!" => Ok(UnaryOp::Not),
         b"-" => Ok(UnaryOp::Neg),

@@ -48,7 +48,6 @@ fn read_kind(words: &mut Words<'_>) -> Result<(PathKind, bool), TextError> {
     }
 }
 
-/// Takes the name of a segment.
 fn read_segment(words: &mut Words<'_>) -> Result<Name, TextError> {
     let mut ahead = *words;
     if kind_of(ahead.bare_name()).is_some() {
@@ -82,7 +81,6 @@ impl Read for ModPath {
 /// The places of a path for the arguments of its segments.
 type Places = Seq<Option<GenericArgs>>;
 
-/// Takes the arguments of a segment, where it has any.
 fn opt_args(words: &mut Words<'_>) -> Result<Option<GenericArgs>, TextError> {
     if words.is_at(b"::<") {
         return Ok(Some(Read::read(words)?));
@@ -123,7 +121,6 @@ fn kind_behind(words: &mut Words<'_>, has_anchor: bool) -> Result<(PathKind, boo
     read_kind(words)
 }
 
-/// Returns whether there are arguments in one of these places.
 fn has_args(places: &[Option<GenericArgs>]) -> bool {
     for place in places {
         if place.is_some() {
@@ -225,7 +222,6 @@ fn join_kind(answer: &mut Answer, kind: PathKind, has_names: bool) -> Result<(),
     answer.join(if has_names { "::" } else { "" })
 }
 
-/// Writes the name of a segment.
 fn join_segment(answer: &mut Answer, name: &Name) -> Result<(), AllocError> {
     join_name(answer, name, kind_of(name.as_str().as_bytes()).is_some())
 }
@@ -293,7 +289,6 @@ fn join_normal(
     join(answer, "/", &places)
 }
 
-/// Writes a lang item, with the name after it.
 fn join_lang(
     answer: &mut Answer,
     target: &LangItemTarget,

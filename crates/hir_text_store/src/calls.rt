@@ -28,7 +28,6 @@ impl Recorder {
         }
     }
 
-    /// Notes a call.
     fn call<K>(&mut self, kind: &str, id: Idx<K>) {
         if let Err(refused) = put_prefixed(&mut self.text, kind, &Some(id)) {
             self.outcome = Err(refused);

@@ -42,7 +42,7 @@ fn agree(sources: &ExpressionStoreSourceMap, count: usize) -> bool {
 }
 
 /// Returns what each macro call expanded to, by the places of the calls.
-pub(crate) fn expansions(
+pub(crate) fn expansions_by_place(
     alloc: Global,
     sources: &ExpressionStoreSourceMap,
 ) -> Result<BTreeMap<Place, u32>, AllocError> {
@@ -59,7 +59,7 @@ pub(crate) fn put_expansions(
     alloc: Global,
     sources: &ExpressionStoreSourceMap,
 ) -> Result<(), AllocError> {
-    let places = expansions(alloc, sources)?;
+    let places = expansions_by_place(alloc, sources)?;
     if !agree(sources, places.len()) {
         return differs(answer);
     }

@@ -94,7 +94,6 @@ impl Read for Arena {
     }
 }
 
-/// Takes what comes after the word `has`.
 fn read_has(words: &mut Words<'_>) -> Result<Question, TextError> {
     match prefixed(words, b"path:")? {
         Some(id) => Ok(Question::HasPath(PathId::from_type_ref_unchecked(id))),
@@ -102,7 +101,6 @@ fn read_has(words: &mut Words<'_>) -> Result<Question, TextError> {
     }
 }
 
-/// Takes what comes after the word `calls`.
 fn read_calls(words: &mut Words<'_>) -> Result<Question, TextError> {
     if words.flag(b"path") {
         Ok(Question::CallsOfPath(next(words)?))
@@ -124,7 +122,6 @@ fn read_root_of(words: &mut Words<'_>) -> Result<Question, TextError> {
     }
 }
 
-/// Reads a question on where nodes come from.
 fn read_on_sources(word: &[u8], words: &mut Words<'_>) -> Result<Option<Question>, TextError> {
     Ok(Some(match word {
         b"syntax" => Question::Syntax(next(words)?),

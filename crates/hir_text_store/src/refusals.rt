@@ -6,7 +6,6 @@ use hir_text_nodes::{Answer, Write};
 use std::alloc::AllocError;
 use std::fmt::Display;
 
-/// Writes a kind and a number in parentheses.
 fn join_number(answer: &mut Answer, kind: &str, number: u32) -> Result<(), AllocError> {
     answer.join(kind)?;
     answer.join("(")?;
@@ -14,7 +13,6 @@ fn join_number(answer: &mut Answer, kind: &str, number: u32) -> Result<(), Alloc
     answer.join(")")
 }
 
-/// Writes a kind and a parameter of a definition in parentheses.
 fn join_param(
     answer: &mut Answer,
     kind: &str,
@@ -29,7 +27,6 @@ fn join_param(
     answer.join(")")
 }
 
-/// Writes a kind and a definition in parentheses.
 fn join_def<T: Display>(answer: &mut Answer, kind: &str, def: &T) -> Result<(), AllocError> {
     answer.join(kind)?;
     answer.join("(")?;

@@ -1,6 +1,6 @@
 //! A store and its source map, written as the lines that make them.
 
-use crate::expansions::expansions;
+use crate::expansions::expansions_by_place;
 use hir_base::{BlockId, HygieneId, InFile, SyntaxNodePtr};
 use hir_collections::{ArenaIter, Idx};
 use hir_node::{Expr, ExprId, LabelId, PatId};
@@ -83,7 +83,6 @@ fn put_side_tables(answer: &mut Answer, store: &ExpressionStore) -> Result<(), A
     Ok(())
 }
 
-/// Returns the blocks of expressions.
 fn blocks_of_exprs(
     alloc: Global,
     store: &ExpressionStore,
@@ -196,7 +195,6 @@ fn put_pat_sources(
     Ok(())
 }
 
-/// Writes where labels come from.
 fn put_label_sources(
     answer: &mut Answer,
     store: &ExpressionStore,
@@ -260,7 +258,7 @@ pub(crate) fn put_store(
     put_side_tables(answer, store)?;
     put_blocks(answer, alloc, store)?;
     put_sources(answer, store, sources)?;
-    let places = expansions(alloc, sources)?;
+    let places = expansions_by_place(alloc, sources)?;
     for (place, expansion) in places.iter() {
         put_line(answer, &("expansion", place.source(), expansion))?;
     }

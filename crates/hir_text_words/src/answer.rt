@@ -82,26 +82,6 @@ impl Answer {
         self.join(Buffer::new().format(number))
     }
 
-    /// Writes a number of 64 bits.
-    pub fn join_long(&mut self, number: u64) -> Result<(), AllocError> {
-        self.join(Buffer::new().format(number))
-    }
-
-    /// Writes a number of 128 bits.
-    pub fn join_big(&mut self, number: u128) -> Result<(), AllocError> {
-        self.join(Buffer::new().format(number))
-    }
-
-    /// Writes a number of 128 bits with a sign.
-    pub fn join_int(&mut self, number: i128) -> Result<(), AllocError> {
-        self.join(Buffer::new().format(number))
-    }
-
-    /// Writes the size of something.
-    pub fn join_size(&mut self, number: usize) -> Result<(), AllocError> {
-        self.join(Buffer::new().format(number))
-    }
-
     /// Writes a name: bare, or in quotes.
     pub fn join_name(&mut self, name: &str) -> Result<(), AllocError> {
         if is_bare(name.as_bytes()) {

@@ -5,7 +5,6 @@ use crate::values::number_of;
 use crate::words::Words;
 use std::alloc::AllocError;
 
-/// Takes two hexadecimal digits.
 fn read_byte(words: &mut Words<'_>) -> Result<u8, TextError> {
     let digits = words.take(2);
     if digits.len() < 2 {

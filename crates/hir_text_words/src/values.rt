@@ -24,7 +24,7 @@ pub(crate) fn number_of(digits: &[u8], base: u32) -> Option<u128>
 impl<'a> Words<'a> {
     /// Takes a number below 2^128, without a sign or a needless zero.
     pub fn big(&mut self) -> Result<u128, TextError> {
-        match self.part(Part::Digits) {
+        match self.take_of(Part::Digits) {
             [] | [b'0', _, ..] => Err(self.reject()),
             digits => self.known(number_of(digits, 10)),
         }

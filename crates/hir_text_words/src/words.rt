@@ -137,7 +137,7 @@ impl<'a> Words<'a> {
     }
 
     /// Takes what is of this at the front.
-    pub fn part(&mut self, part: Part) -> &'a [u8] {
+    pub fn take_of(&mut self, part: Part) -> &'a [u8] {
         let taken = self.take(part.len_in(self.rest));
         if taken.is_empty() {
             self.begin_word();
@@ -191,7 +191,7 @@ impl<'a> Words<'a> {
 
     /// Takes the letters, digits, `-` and `_` that come next.
     pub fn keyword(&mut self) -> &'a [u8] {
-        self.part(Part::Keyword)
+        self.take_of(Part::Keyword)
     }
 
     /// Takes the keyword after a space.
