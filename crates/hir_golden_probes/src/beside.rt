@@ -26,7 +26,6 @@ fn are_beside<T: Signatures>(
 
 /// Asks the store and the source map that are looked up with the generic parameters of a definition.
 fn ask_looked_up<T: Signatures>(
-    alloc: Global,
     tables: &T,
     def: &GenericDefId,
     question: &Question,
@@ -39,7 +38,7 @@ fn ask_looked_up<T: Signatures>(
     if !are_beside(tables, def, params, store) {
         return differs(answer);
     }
-    question.ask(alloc, store, sources, answer)
+    question.ask(store, sources, answer)
 }
 
 /// The question of a line.
@@ -55,14 +54,13 @@ fn next_question(words: &mut Words<'_>) -> Result<Question, TextError> {
 /// Writes the answer to what comes after the word `beside`.
 // A match in place of `?`, behind which the prover's borrow checker can't carry the definition.
 fn ask_beside(
-    alloc: Global,
     tables: &Tables,
     words: &mut Words<'_>,
     answer: &mut Answer,
 ) -> Result<(), TextError> {
     match next(words) {
         Ok(def) => match next_question(words) {
-            Ok(question) => Ok(ask_looked_up(alloc, tables, &def, &question, answer)?),
+            Ok(question) => Ok(ask_looked_up(tables, &def, &question, answer)?),
             Err(error) => Err(error),
         },
         Err(error) => Err(error),
@@ -77,6 +75,6 @@ pub(crate) fn ask(
 ) -> Result<Option<Answer>, TextError> {
     let mut words = words;
     let mut answer = Answer::new(alloc);
-    ask_beside(alloc, tables, &mut words, &mut answer)?;
+    ask_beside(tables, &mut words, &mut answer)?;
     Ok(Some(answer))
 }

@@ -6,7 +6,6 @@ use hir_defs::{Body, StoreOf, Tables};
 use hir_store::{ExpressionStore, ExpressionStoreSourceMap};
 use hir_text_defs::{Subject, asked_body};
 use hir_text_nodes::{Answer, TextError};
-use std::alloc::Global;
 
 /// The store that questions ask, with its source map, its owner where it has one, and the tables.
 #[derive(Clone, Copy, Drop)]
@@ -52,18 +51,11 @@ impl<'a> Asked<'a> {
 
 impl OfStore {
     /// Writes the answer of a store.
-    pub(crate) fn ask(
-        &self,
-        alloc: Global,
-        asked: &Asked<'_>,
-        answer: &mut Answer,
-    ) -> Result<(), TextError> {
+    pub(crate) fn ask(&self, asked: &Asked<'_>, answer: &mut Answer) -> Result<(), TextError> {
         match self {
-            OfStore::Store(question) => {
-                Ok(question.ask(alloc, asked.store, asked.sources, answer)?)
-            }
+            OfStore::Store(question) => { Ok(question.ask(asked.store, asked.sources, answer)?) }
             OfStore::Body(question) => Ok(question.ask(asked.body(), answer)?),
-            OfStore::Text(text) => text.ask(alloc, asked, answer),
+            OfStore::Text(text) => text.ask(asked, answer),
         }
     }
 }

@@ -77,12 +77,11 @@ fn copy_body(alloc: Global, body: &Body) -> Result<Result<Box<Body>, BodyFault>,
 
 /// Returns what was made, in a box. Where there is none, the answer says why.
 fn open<T: Drop>(
-    alloc: Global,
     outcome: Result<T, ScopesFault>,
     answer: &mut Answer,
 ) -> Result<Option<Box<T>>, TextError> {
     match outcome {
-        Ok(made) => Ok(Some(Box::new(alloc, made)?)),
+        Ok(made) => Ok(Some(Box::new(answer.alloc(), made)?)),
         Err(ScopesFault::Memory) => Err(TextError::Memory),
         Err(fault) => {
             refuse(answer, &fault)?;
@@ -101,12 +100,14 @@ fn make_scopes(alloc: Global, asked: &Asked<'_>) -> Result<ExprScopes, ScopesFau
 
 /// Returns a copy of a body with its scopes. Where there are none, the answer says why.
 fn make_scoped_body(
-    alloc: Global,
     body: &Body,
     answer: &mut Answer,
 ) -> Result<Option<Box<ScopedBody>>, TextError> {
-    match copy_body(alloc, body)? {
-        Ok(copy) => open(alloc, ScopedBody::new(alloc, copy), answer),
+    match copy_body(answer.alloc(), body)? {
+        Ok(copy) => {
+            let made = ScopedBody::new(answer.alloc(), copy);
+            open(made, answer)
+        }
         Err(BodyFault::Memory) => Err(TextError::Memory),
         Err(fault) => {
             refuse(answer, &fault)?;
@@ -172,42 +173,31 @@ impl ScopeCache {
 
     /// Makes the scopes of what is asked, where there are none yet. Where they can't be made, the answer
     /// says why.
-    fn open_scopes(
-        &mut self,
-        alloc: Global,
-        asked: &Asked<'_>,
-        answer: &mut Answer,
-    ) -> Result<(), TextError> {
+    fn open_scopes(&mut self, asked: &Asked<'_>, answer: &mut Answer) -> Result<(), TextError> {
         if self.body.is_none() && self.scopes.is_none() {
-            self.scopes = open(alloc, make_scopes(alloc, asked), answer)?;
+            self.scopes = open(make_scopes(answer.alloc(), asked), answer)?;
         }
         Ok(())
     }
 
     fn ask_scopes(
         &mut self,
-        alloc: Global,
         asked: &Asked<'_>,
         question: &OfScopes,
         answer: &mut Answer,
     ) -> Result<(), TextError> {
-        self.open_scopes(alloc, asked, answer)?;
+        self.open_scopes(asked, answer)?;
         match self.scopes() {
-            Some(scopes) => Ok(question.ask(alloc, scopes, answer)?),
+            Some(scopes) => Ok(question.ask(scopes, answer)?),
             None => Ok(()),
         }
     }
 
     /// Makes a copy of the body with its scopes, where there is none yet. Where it can't be made, the answer
     /// says why.
-    fn open_body(
-        &mut self,
-        alloc: Global,
-        body: &Body,
-        answer: &mut Answer,
-    ) -> Result<(), TextError> {
+    fn open_body(&mut self, body: &Body, answer: &mut Answer) -> Result<(), TextError> {
         if self.body.is_none() {
-            self.body = make_scoped_body(alloc, body, answer)?;
+            self.body = make_scoped_body(body, answer)?;
             self.scopes = None;
         }
         Ok(())
@@ -216,7 +206,6 @@ impl ScopeCache {
     /// Writes what a closure captures, and keeps it.
     fn ask_captures(
         &mut self,
-        alloc: Global,
         body: Option<&Body>,
         closure: ExprId,
         answer: &mut Answer,
@@ -227,11 +216,11 @@ impl ScopeCache {
         let Some(body) = body else {
             return Ok(answer_unknown(answer)?);
         };
-        self.open_body(alloc, body, answer)?;
+        self.open_body(body, answer)?;
         let Some(body) = &self.body else {
             return Ok(());
         };
-        let found = body.captures(alloc, closure);
+        let found = body.captures(answer.alloc(), closure);
         keep_captures(&mut self.captures, closure, found, answer)
     }
 
@@ -250,7 +239,6 @@ impl ScopeCache {
 
     fn ask_usages(
         &mut self,
-        alloc: Global,
         asked: &Asked<'_>,
         question: OfUsages,
         answer: &mut Answer,
@@ -258,8 +246,8 @@ impl ScopeCache {
         let Some(body) = asked.body() else {
             return Ok(answer_unknown(answer)?);
         };
-        self.open_scopes(alloc, asked, answer)?;
-        self.open_usages(alloc, body)?;
+        self.open_scopes(asked, answer)?;
+        self.open_usages(answer.alloc(), body)?;
         match &self.usages {
             Some(usages) => Ok(question.ask(usages, answer)?),
             None => Ok(()),
@@ -268,7 +256,6 @@ impl ScopeCache {
 
     fn ask_rename(
         &mut self,
-        alloc: Global,
         asked: &Asked<'_>,
         question: &NewName,
         answer: &mut Answer,
@@ -277,9 +264,9 @@ impl ScopeCache {
         else {
             return Ok(answer_unknown(answer)?);
         };
-        self.open_scopes(alloc, asked, answer)?;
+        self.open_scopes(asked, answer)?;
         match self.scopes() {
-            Some(scopes) => question.ask(alloc, asked, body, owner, scopes, answer),
+            Some(scopes) => question.ask(asked, body, owner, scopes, answer),
             None => Ok(()),
         }
     }
@@ -297,18 +284,17 @@ impl StoreCache for ScopeCache {
 
     fn ask(
         &mut self,
-        alloc: Global,
         asked: &Asked<'_>,
         question: &ScopeQuestion,
         answer: &mut Answer,
     ) -> Result<(), TextError> {
         match question {
-            ScopeQuestion::Scopes(question) => self.ask_scopes(alloc, asked, question, answer),
+            ScopeQuestion::Scopes(question) => self.ask_scopes(asked, question, answer),
             ScopeQuestion::Captures(closure) => {
-                self.ask_captures(alloc, asked.body(), *closure, answer)
+                self.ask_captures(asked.body(), *closure, answer)
             }
-            ScopeQuestion::Usages(question) => self.ask_usages(alloc, asked, *question, answer),
-            ScopeQuestion::Rename(question) => self.ask_rename(alloc, asked, question, answer),
+            ScopeQuestion::Usages(question) => self.ask_usages(asked, *question, answer),
+            ScopeQuestion::Rename(question) => self.ask_rename(asked, question, answer),
         }
     }
 }

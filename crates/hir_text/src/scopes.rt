@@ -10,7 +10,7 @@ use hir_text_nodes::{
     Answer, Read, TextError, Words, next, opt_edition, opt_hygiene, put, put_prefixed,
 };
 use hir_usages::visible_names;
-use std::alloc::{AllocError, Global};
+use std::alloc::AllocError;
 use std::collections::HashMap;
 
 /// The expansions through which a name is resolved.
@@ -145,16 +145,11 @@ fn put_entry(answer: &mut Answer, entry: &ScopeEntry) -> Result<(), AllocError> 
 }
 
 /// Writes the entries that names at an expression may resolve to, innermost first.
-fn put_visible(
-    answer: &mut Answer,
-    alloc: Global,
-    scopes: &ExprScopes,
-    expr: ExprId,
-) -> Result<(), AllocError> {
+fn put_visible(answer: &mut Answer, scopes: &ExprScopes, expr: ExprId) -> Result<(), AllocError> {
     let Some(scope) = scopes.scope_for(expr) else {
         return answer_unreached(answer);
     };
-    for entry in visible_names(alloc, scopes, scope)? {
+    for entry in visible_names(answer.alloc(), scopes, scope)? {
         put_entry(answer, entry)?;
     }
     Ok(())
@@ -202,12 +197,7 @@ fn put_resolved(answer: &mut Answer, found: Option<&ScopeEntry>) -> Result<(), A
 
 impl OfScopes {
     /// Writes the answer of the scopes.
-    pub(crate) fn ask(
-        &self,
-        alloc: Global,
-        scopes: &ExprScopes,
-        answer: &mut Answer,
-    ) -> Result<(), AllocError> {
+    pub(crate) fn ask(&self, scopes: &ExprScopes, answer: &mut Answer) -> Result<(), AllocError> {
         match self {
             OfScopes::Chain(expr) => put_chain(answer, scopes, *expr),
             OfScopes::Frames(expr) => put_frames(answer, scopes, *expr),
@@ -236,7 +226,7 @@ impl OfScopes {
                 let found = scopes.resolve_name_through_macros(scope, name, *hygiene, expansions);
                 put_resolved(answer, found)
             }
-            OfScopes::Visible(expr) => put_visible(answer, alloc, scopes, *expr),
+            OfScopes::Visible(expr) => put_visible(answer, scopes, *expr),
         }
     }
 }

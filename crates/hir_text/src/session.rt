@@ -165,7 +165,6 @@ impl Session {
             return Ok(());
         };
         self.nodes.subject = definition.make(
-            self.alloc,
             finished,
             &mut self.pending,
             &mut self.tables,
@@ -184,7 +183,7 @@ impl Session {
             return Ok(());
         }
         match Asked::new(&self.tables, &self.nodes.subject) {
-            Some(asked) => question.ask(self.alloc, &asked, answer),
+            Some(asked) => question.ask(&asked, answer),
             None => Ok(()),
         }
     }
@@ -200,7 +199,7 @@ impl Session {
             return Ok(());
         }
         match Asked::new(&self.tables, &self.nodes.subject) {
-            Some(asked) => self.caches.ask(self.alloc, &asked, question, answer),
+            Some(asked) => self.caches.ask(&asked, question, answer),
             None => Ok(()),
         }
     }
@@ -215,7 +214,7 @@ impl Session {
             Ask::Select(owner) => self.select(owner, answer),
             Ask::Define(definition) => self.define(definition, answer),
             Ask::Tables(question) => Ok(question.ask(&self.tables, answer)?),
-            Ask::TablesText(text) => text.ask(self.alloc, &self.tables, answer),
+            Ask::TablesText(text) => text.ask(&self.tables, answer),
             Ask::OfStore(question) => self.ask_store(&question, answer),
             Ask::Scopes(question) => self.ask_scopes(&question, answer),
         }

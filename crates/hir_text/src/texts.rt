@@ -145,13 +145,8 @@ impl StoreText {
     }
 
     /// Writes the text.
-    pub(crate) fn ask(
-        &self,
-        alloc: Global,
-        asked: &Asked<'_>,
-        answer: &mut Answer,
-    ) -> Result<(), TextError> {
-        match self.print(alloc, asked) {
+    pub(crate) fn ask(&self, asked: &Asked<'_>, answer: &mut Answer) -> Result<(), TextError> {
+        match self.print(answer.alloc(), asked) {
             Some(printed) => put_printed(answer, printed),
             None => Ok(answer_unknown(answer)?),
         }
@@ -206,12 +201,8 @@ impl TablesText {
     }
 
     /// Writes the text.
-    pub(crate) fn ask(
-        self,
-        alloc: Global,
-        tables: &Tables,
-        answer: &mut Answer,
-    ) -> Result<(), TextError> {
-        put_printed(answer, self.print(alloc, tables))
+    pub(crate) fn ask(self, tables: &Tables, answer: &mut Answer) -> Result<(), TextError> {
+        let printed = self.print(answer.alloc(), tables);
+        put_printed(answer, printed)
     }
 }

@@ -9,7 +9,7 @@ use hir_pretty::print_body_hir;
 use hir_scope::ExprScopes;
 use hir_text_nodes::{Answer, TextError, Write, put, put_each};
 use hir_usages::{RenameFault, Usage, Usages, rename, renamed};
-use std::alloc::{AllocError, Global};
+use std::alloc::AllocError;
 
 /// A question on the uses of a body.
 #[derive(Clone, Copy)]
@@ -99,12 +99,11 @@ impl NewName {
     /// Writes the uses that the new name changes, or why the binding may not have it.
     fn put_changes(
         &self,
-        alloc: Global,
         body: &Body,
         scopes: &ExprScopes,
         answer: &mut Answer,
     ) -> Result<(), TextError> {
-        match rename(alloc, body, scopes, self.binding, &self.name) {
+        match rename(answer.alloc(), body, scopes, self.binding, &self.name) {
             Ok(usages) => Ok(put_paths(answer, usages.as_slice())?),
             Err(fault) => refuse_rename(answer, fault),
         }
@@ -114,7 +113,6 @@ impl NewName {
     /// printed.
     pub(crate) fn ask(
         &self,
-        alloc: Global,
         asked: &Asked<'_>,
         body: &Body,
         owner: DefWithBodyId,
@@ -122,11 +120,11 @@ impl NewName {
         answer: &mut Answer,
     ) -> Result<(), TextError> {
         let Some(edition) = self.edition else {
-            return self.put_changes(alloc, body, scopes, answer);
+            return self.put_changes(body, scopes, answer);
         };
-        match renamed(alloc, body, scopes, self.binding, &self.name) {
+        match renamed(answer.alloc(), body, scopes, self.binding, &self.name) {
             Ok(made) => {
-                let printed = print_body_hir(alloc, asked.tables, &made, owner, edition);
+                let printed = print_body_hir(answer.alloc(), asked.tables, &made, owner, edition);
                 put_printed(answer, printed)
             }
             Err(fault) => refuse_rename(answer, fault),

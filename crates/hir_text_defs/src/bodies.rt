@@ -9,7 +9,7 @@ use hir_node::BindingId;
 use hir_store::ExpressionStore;
 use hir_text_nodes::{Answer, TextError, Words, next, put, put_yes_or_no};
 use hir_text_store::{answer_unknown, done, refuse};
-use std::alloc::{AllocError, Global};
+use std::alloc::AllocError;
 use std::mem;
 
 /// Lets the parts of a body that was refused wait again. Returns its store.
@@ -36,7 +36,6 @@ fn take_back(
 /// Makes a body of the store and of what waits for it, and adds it to the tables. Returns the store that
 /// questions ask from then on.
 pub(crate) fn make<F: Drop, S: Drop, P: Drop, V: Drop, M: Drop>(
-    alloc: Global,
     def: &DefWithBodyId,
     finished: Finished,
     pending: &mut Pending,
@@ -44,8 +43,8 @@ pub(crate) fn make<F: Drop, S: Drop, P: Drop, V: Drop, M: Drop>(
     answer: &mut Answer,
 ) -> Result<Subject, TextError> {
     let (store, sources) = Box::into_inner(finished);
-    let params = mem::replace(&mut pending.params, Seq::new(alloc));
-    match Body::new(alloc, store, params, pending.self_param.take()) {
+    let params = mem::replace(&mut pending.params, Seq::new(answer.alloc()));
+    match Body::new(answer.alloc(), store, params, pending.self_param.take()) {
         Ok(body) => {
             let sources = BodySourceMap::new(sources, pending.self_source.take());
             done(tables.add_body(*def, body, sources))?;
@@ -53,7 +52,7 @@ pub(crate) fn make<F: Drop, S: Drop, P: Drop, V: Drop, M: Drop>(
         }
         Err(refused) => {
             let store = take_back(refused, pending, answer)?;
-            ask_again(alloc, store, sources)
+            ask_again(store, sources, answer)
         }
     }
 }

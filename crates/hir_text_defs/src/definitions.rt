@@ -16,7 +16,6 @@ use hir_defs::{
 use hir_store::{ExpressionStore, ExpressionStoreSourceMap};
 use hir_text_nodes::{Answer, TextError, Words, next, opt_abi, prefixed};
 use hir_text_store::{done, refuse};
-use std::alloc::Global;
 use std::mem;
 
 /// What a line makes of a finished store. In the parts of a signature the generic parameters and the store
@@ -84,7 +83,6 @@ fn refuse_signature(answer: &mut Answer, fault: SignatureFault) -> Result<(), Te
 
 /// Lets the generic parameters of a signature that was refused wait again, and its store be asked again.
 fn take_back(
-    alloc: Global,
     fault: SignatureFault,
     parts: (GenericParams, ExpressionStore, ExpressionStoreSourceMap),
     pending: &mut Pending,
@@ -93,11 +91,10 @@ fn take_back(
     let (generic_params, store, sources) = parts;
     refuse_signature(answer, fault)?;
     pending.put_back_generics(&generic_params)?;
-    ask_again(alloc, store, sources)
+    ask_again(store, sources, answer)
 }
 
 fn make_function<S: Drop, P: Drop, V: Drop, B: Drop, N: Drop>(
-    alloc: Global,
     id: FunctionId,
     parts: Box<FunctionParts>,
     finished: Finished,
@@ -108,7 +105,7 @@ fn make_function<S: Drop, P: Drop, V: Drop, B: Drop, N: Drop>(
     let (store, sources) = Box::into_inner(finished);
     let mut parts = Box::into_inner(parts);
     parts.store = store;
-    parts.generic_params = pending.take_generics(alloc);
+    parts.generic_params = pending.take_generics(answer.alloc());
     match FunctionSignature::new(parts) {
         Ok(signature) => {
             done(tables.add_function(id, signature, sources))?;
@@ -121,19 +118,12 @@ fn make_function<S: Drop, P: Drop, V: Drop, B: Drop, N: Drop>(
                 store,
                 ..
             } = parts;
-            take_back(
-                alloc,
-                fault,
-                (generic_params, store, sources),
-                pending,
-                answer,
-            )
+            take_back(fault, (generic_params, store, sources), pending, answer)
         }
     }
 }
 
 fn make_struct<F: Drop, P: Drop, V: Drop, B: Drop, N: Drop>(
-    alloc: Global,
     id: StructId,
     parts: Box<StructParts>,
     finished: Finished,
@@ -144,7 +134,7 @@ fn make_struct<F: Drop, P: Drop, V: Drop, B: Drop, N: Drop>(
     let (store, sources) = Box::into_inner(finished);
     let mut parts = Box::into_inner(parts);
     parts.store = store;
-    parts.generic_params = pending.take_generics(alloc);
+    parts.generic_params = pending.take_generics(answer.alloc());
     match StructSignature::new(parts) {
         Ok(signature) => {
             done(tables.add_struct(id, signature, sources))?;
@@ -157,19 +147,12 @@ fn make_struct<F: Drop, P: Drop, V: Drop, B: Drop, N: Drop>(
                 store,
                 ..
             } = parts;
-            take_back(
-                alloc,
-                fault,
-                (generic_params, store, sources),
-                pending,
-                answer,
-            )
+            take_back(fault, (generic_params, store, sources), pending, answer)
         }
     }
 }
 
 fn make_plain<F: Drop, S: Drop, V: Drop, B: Drop, N: Drop>(
-    alloc: Global,
     def: &PlainDef,
     finished: Finished,
     pending: &mut Pending,
@@ -177,7 +160,7 @@ fn make_plain<F: Drop, S: Drop, V: Drop, B: Drop, N: Drop>(
     answer: &mut Answer,
 ) -> Result<Subject, TextError> {
     let (store, sources) = Box::into_inner(finished);
-    let generic_params = pending.take_generics(alloc);
+    let generic_params = pending.take_generics(answer.alloc());
     match PlainSignature::new(PlainParts {
         generic_params,
         store,
@@ -192,19 +175,12 @@ fn make_plain<F: Drop, S: Drop, V: Drop, B: Drop, N: Drop>(
                 store,
                 ..
             } = parts;
-            take_back(
-                alloc,
-                fault,
-                (generic_params, store, sources),
-                pending,
-                answer,
-            )
+            take_back(fault, (generic_params, store, sources), pending, answer)
         }
     }
 }
 
 fn make_variant<F: Drop, S: Drop, P: Drop, B: Drop, N: Drop>(
-    alloc: Global,
     id: &VariantId,
     shape: FieldsShape,
     finished: Finished,
@@ -213,7 +189,7 @@ fn make_variant<F: Drop, S: Drop, P: Drop, B: Drop, N: Drop>(
     answer: &mut Answer,
 ) -> Result<Subject, TextError> {
     let (store, sources) = Box::into_inner(finished);
-    let fields = mem::replace(&mut pending.fields, Seq::new(alloc));
+    let fields = mem::replace(&mut pending.fields, Seq::new(answer.alloc()));
     match VariantFields::new(VariantParts {
         shape,
         fields,
@@ -227,7 +203,7 @@ fn make_variant<F: Drop, S: Drop, P: Drop, B: Drop, N: Drop>(
             let VariantParts { fields, store, .. } = parts;
             refuse_signature(answer, fault)?;
             pending.fields = fields;
-            ask_again(alloc, store, sources)
+            ask_again(store, sources, answer)
         }
     }
 }
@@ -249,23 +225,22 @@ impl Definition {
     /// store that questions ask from then on: that of the definition, or what was given back.
     pub fn make(
         self,
-        alloc: Global,
         finished: Finished,
         pending: &mut Pending,
         tables: &mut Tables,
         answer: &mut Answer,
     ) -> Result<Subject, TextError> {
         match self {
-            Definition::Body(def) => bodies::make(alloc, &def, finished, pending, tables, answer),
+            Definition::Body(def) => bodies::make(&def, finished, pending, tables, answer),
             Definition::Function(id, parts) => {
-                make_function(alloc, id, parts, finished, pending, tables, answer)
+                make_function(id, parts, finished, pending, tables, answer)
             }
             Definition::Struct(id, parts) => {
-                make_struct(alloc, id, parts, finished, pending, tables, answer)
+                make_struct(id, parts, finished, pending, tables, answer)
             }
-            Definition::Plain(def) => make_plain(alloc, &def, finished, pending, tables, answer),
+            Definition::Plain(def) => make_plain(&def, finished, pending, tables, answer),
             Definition::Variant(id, shape) => {
-                make_variant(alloc, &id, shape, finished, pending, tables, answer)
+                make_variant(&id, shape, finished, pending, tables, answer)
             }
         }
     }

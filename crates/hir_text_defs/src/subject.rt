@@ -3,7 +3,6 @@
 use hir_base::ExpressionStoreOwnerId;
 use hir_store::{ExpressionStore, ExpressionStoreSourceMap};
 use hir_text_nodes::{Answer, TextError};
-use std::alloc::Global;
 
 /// A finished store, and its source map.
 pub type Finished = Box<(ExpressionStore, ExpressionStoreSourceMap)>;
@@ -30,9 +29,9 @@ pub(crate) fn ask_accepted(
 
 /// Returns what was refused as the store that questions ask again.
 pub(crate) fn ask_again(
-    alloc: Global,
     store: ExpressionStore,
     sources: ExpressionStoreSourceMap,
+    answer: &Answer,
 ) -> Result<Subject, TextError> {
-    Ok(Subject::Store(Box::new(alloc, (store, sources))?))
+    Ok(Subject::Store(Box::new(answer.alloc(), (store, sources))?))
 }

@@ -88,36 +88,24 @@ impl StoreVisitor for Recorder {
 }
 
 /// `calls path PATH`
-pub(crate) fn put_of_path(
-    answer: &mut Answer,
-    alloc: Global,
-    path: &Path,
-) -> Result<(), AllocError> {
-    let mut calls = Recorder::new(alloc);
+pub(crate) fn put_of_path(answer: &mut Answer, path: &Path) -> Result<(), AllocError> {
+    let mut calls = Recorder::new(answer.alloc());
     calls.on_path(path);
     answer.join(calls.as_str()?)
 }
 
 /// `calls bound BOUND`
-pub(crate) fn put_of_bound(
-    answer: &mut Answer,
-    alloc: Global,
-    bound: &TypeBound,
-) -> Result<(), AllocError> {
-    let mut calls = Recorder::new(alloc);
+pub(crate) fn put_of_bound(answer: &mut Answer, bound: &TypeBound) -> Result<(), AllocError> {
+    let mut calls = Recorder::new(answer.alloc());
     calls.on_type_bound(bound);
     answer.join(calls.as_str()?)
 }
 
 /// `calls args ARGS`, by both ways to them.
-pub(crate) fn put_of_args(
-    answer: &mut Answer,
-    alloc: Global,
-    args: &GenericArgs,
-) -> Result<(), AllocError> {
-    let mut first = Recorder::new(alloc);
+pub(crate) fn put_of_args(answer: &mut Answer, args: &GenericArgs) -> Result<(), AllocError> {
+    let mut first = Recorder::new(answer.alloc());
     visit_generic_args(&mut first, args);
-    let mut second = Recorder::new(alloc);
+    let mut second = Recorder::new(answer.alloc());
     second.on_generic_args(args);
     put_same(answer, &first, &second)
 }
@@ -156,12 +144,11 @@ fn visit(
 /// `calls NODE`
 pub(crate) fn put_of_node(
     answer: &mut Answer,
-    alloc: Global,
     store: &ExpressionStore,
     node: Node,
 ) -> Result<(), AllocError> {
-    let mut by_store = Recorder::new(alloc);
-    let mut by_node = Recorder::new(alloc);
+    let mut by_store = Recorder::new(answer.alloc());
+    let mut by_node = Recorder::new(answer.alloc());
     if !visit(store, node, &mut by_store, &mut by_node) {
         return answer_unknown(answer);
     }

@@ -56,10 +56,9 @@ pub(crate) fn expansions_by_place(
 /// `expansions`
 pub(crate) fn put_expansions(
     answer: &mut Answer,
-    alloc: Global,
     sources: &ExpressionStoreSourceMap,
 ) -> Result<(), AllocError> {
-    let places = expansions_by_place(alloc, sources)?;
+    let places = expansions_by_place(answer.alloc(), sources)?;
     if !agree(sources, places.len()) {
         return differs(answer);
     }

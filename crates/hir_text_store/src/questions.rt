@@ -18,7 +18,7 @@ use hir_text_nodes::{
     Answer, Node, Read, TextError, Words, Write, next, precedence_text, prefixed, put, put_each,
     put_found, put_literal, put_yes_or_no, syntax,
 };
-use std::alloc::{AllocError, Global};
+use std::alloc::AllocError;
 
 /// An arena of a store.
 #[derive(Clone, Copy)]
@@ -364,7 +364,6 @@ impl Question {
     /// Writes the answer of a store and its source map.
     pub fn ask(
         &self,
-        alloc: Global,
         store: &ExpressionStore,
         sources: &ExpressionStoreSourceMap,
         answer: &mut Answer,
@@ -379,15 +378,15 @@ impl Question {
             }
             Question::Line(node) => put_line(answer, store, *node),
             Question::Lines(arena) => put_lines(answer, store, *arena),
-            Question::StoreLines => put_store(answer, alloc, store, sources),
+            Question::StoreLines => put_store(answer, store, sources),
             Question::Has(node) => put_yes_or_no(answer, has_node(store, *node)),
             Question::HasPath(id) => put_yes_or_no(answer, store.has_path(*id)),
-            Question::Calls(node) => calls::put_of_node(answer, alloc, store, *node),
-            Question::CallsOfPath(path) => calls::put_of_path(answer, alloc, path),
-            Question::CallsOfArgs(args) => calls::put_of_args(answer, alloc, args),
-            Question::CallsOfBound(bound) => calls::put_of_bound(answer, alloc, bound),
-            Question::Visited(walk) => put_visited(answer, alloc, store, *walk),
-            Question::ChildPats(id) => put_child_pats(answer, alloc, store, *id),
+            Question::Calls(node) => calls::put_of_node(answer, store, *node),
+            Question::CallsOfPath(path) => calls::put_of_path(answer, path),
+            Question::CallsOfArgs(args) => calls::put_of_args(answer, args),
+            Question::CallsOfBound(bound) => calls::put_of_bound(answer, bound),
+            Question::Visited(walk) => put_visited(answer, store, *walk),
+            Question::ChildPats(id) => put_child_pats(answer, store, *id),
             Question::RootOf(node) => put_found(answer, &root_of(store, *node)),
             Question::Parent(node) => put_found(answer, &store.parent(*node)),
             Question::Ancestors(node) => {
@@ -437,7 +436,7 @@ impl Question {
             }
             Question::NodeMacroFile(call) => put_found(answer, &sources.node_macro_file(*call)),
             Question::ExpansionOf(call) => put_found(answer, &sources.expansion(*call)),
-            Question::Expansions => put_expansions(answer, alloc, sources),
+            Question::Expansions => put_expansions(answer, sources),
         }
     }
 }

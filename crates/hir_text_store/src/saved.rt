@@ -130,12 +130,8 @@ fn put_known_blocks(
 
 /// Writes the blocks that may hold items, in their order. A store gives them to those who know them, and
 /// names the first that is missing; nearly all are blocks of expressions.
-fn put_blocks(
-    answer: &mut Answer,
-    alloc: Global,
-    store: &ExpressionStore,
-) -> Result<(), AllocError> {
-    let mut known = blocks_of_exprs(alloc, store)?;
+fn put_blocks(answer: &mut Answer, store: &ExpressionStore) -> Result<(), AllocError> {
+    let mut known = blocks_of_exprs(answer.alloc(), store)?;
     for _ in 0..u32::MAX {
         let Some(block) = put_known_blocks(answer, store, &known)? else {
             break;
@@ -250,15 +246,14 @@ fn put_sources(
 /// `store-lines`: the lines that make the store and its source map.
 pub(crate) fn put_store(
     answer: &mut Answer,
-    alloc: Global,
     store: &ExpressionStore,
     sources: &ExpressionStoreSourceMap,
 ) -> Result<(), AllocError> {
     put_nodes(answer, store)?;
     put_side_tables(answer, store)?;
-    put_blocks(answer, alloc, store)?;
+    put_blocks(answer, store)?;
     put_sources(answer, store, sources)?;
-    let places = expansions_by_place(alloc, sources)?;
+    let places = expansions_by_place(answer.alloc(), sources)?;
     for (place, expansion) in places.iter() {
         put_line(answer, &("expansion", place.source(), expansion))?;
     }

@@ -5,7 +5,7 @@ use crate::refusals::answer_unknown;
 use hir_node::{BindingId, ExprId, PatId};
 use hir_store::ExpressionStore;
 use hir_text_nodes::Answer;
-use std::alloc::{AllocError, Global};
+use std::alloc::AllocError;
 
 /// A walk from a node.
 #[derive(Clone, Copy)]
@@ -57,11 +57,10 @@ fn visit(store: &ExpressionStore, walk: Walk, found: &mut Recorder) -> bool {
 /// Writes what a walk visits.
 pub(crate) fn put_visited(
     answer: &mut Answer,
-    alloc: Global,
     store: &ExpressionStore,
     walk: Walk,
 ) -> Result<(), AllocError> {
-    let mut found = Recorder::new(alloc);
+    let mut found = Recorder::new(answer.alloc());
     if !visit(store, walk, &mut found) {
         return answer_unknown(answer);
     }
@@ -71,16 +70,15 @@ pub(crate) fn put_visited(
 /// Writes the child patterns of a pattern, by the iterator and by the walk.
 pub(crate) fn put_child_pats(
     answer: &mut Answer,
-    alloc: Global,
     store: &ExpressionStore,
     id: PatId,
 ) -> Result<(), AllocError> {
     let Some(pat) = store.get(id) else {
         return answer_unknown(answer);
     };
-    let mut by_walk = Recorder::new(alloc);
+    let mut by_walk = Recorder::new(answer.alloc());
     pat.walk_child_pats(&mut |child: PatId| by_walk.visit(child));
-    let mut found = Recorder::new(alloc);
+    let mut found = Recorder::new(answer.alloc());
     for child in pat.child_pats() {
         found.visit(child);
     }

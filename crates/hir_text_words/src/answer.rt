@@ -11,6 +11,7 @@ use std::fmt::Display;
 /// The answer to a question, while it is written.
 #[derive(Drop)]
 pub struct Answer {
+    alloc: Global,
     text: String,
     /// Whether a word comes before what comes next, in its line.
     is_behind: bool,
@@ -18,13 +19,19 @@ pub struct Answer {
 }
 
 impl Answer {
-    /// Returns an empty answer.
+    /// Returns an empty answer. What is computed for it is allocated where it is.
     pub fn new(alloc: Global) -> Answer {
         Answer {
+            alloc,
             text: String::new(alloc),
             is_behind: false,
             is_refusal: false,
         }
+    }
+
+    /// Returns where the answer is allocated.
+    pub fn alloc(&self) -> Global {
+        self.alloc
     }
 
     /// Returns what was written.
