@@ -3,9 +3,9 @@
 use hir_base::GenericDefId;
 use hir_defs::{GenericParams, Signatures, Tables};
 use hir_store::ExpressionStore;
-use hir_text_nodes::{Answer, TextError, Words, as_generic, next_def};
-use hir_text_store::{differs, refuse_missing};
-use std::alloc::Global;
+use hir_text_nodes::{Answer, TextError, Words, next};
+use hir_text_store::{Question, differs, refuse_missing};
+use std::alloc::{AllocError, Global};
 
 /// Whether the parameters of a definition are these by each call that looks them up, and their store is this
 /// one.
@@ -24,45 +24,45 @@ fn are_beside<T: Signatures>(
     *alone == *params && *beside == *params && *same_store == *store
 }
 
-/// Asks the store and the source map that are looked up with the generic parameters of a definition; returns
-/// whether the line is a question on them.
+/// Asks the store and the source map that are looked up with the generic parameters of a definition.
 fn ask_looked_up<T: Signatures>(
-    alloc: Global,
     tables: &T,
-    def: GenericDefId,
-    words: &mut Words<'_>,
+    def: &GenericDefId,
+    question: &Question,
     answer: &mut Answer,
-) -> Result<bool, TextError> {
-    let word = words.next_keyword()?;
-    let (params, store, sources) = match GenericParams::with_source_map(tables, def) {
+) -> Result<(), AllocError> {
+    let (params, store, sources) = match GenericParams::with_source_map(tables, *def) {
         Ok(entry) => entry,
-        Err(missing) => {
-            refuse_missing(missing, answer)?;
-            return Ok(true);
-        }
+        Err(missing) => return refuse_missing(answer, missing),
     };
-    if !are_beside(tables, &def, params, store) {
-        differs(answer)?;
-        return Ok(true);
+    if !are_beside(tables, def, params, store) {
+        return differs(answer);
     }
-    hir_text_store::ask(alloc, store, sources, word, words, answer)
+    question.ask(store, sources, answer)
 }
 
-/// The definition that comes next.
-fn next_generic(words: &mut Words<'_>) -> Result<GenericDefId, TextError> {
-    as_generic(next_def(words)?)
+/// The question of a line.
+fn next_question(words: &mut Words<'_>) -> Result<Question, TextError> {
+    let word = words.next_keyword()?;
+    let Some(question) = Question::read(word, words)? else {
+        return Err(TextError::Syntax);
+    };
+    words.end()?;
+    Ok(question)
 }
 
-/// Writes the answer to what comes after the word `beside`; returns whether it is such a question.
+/// Writes the answer to what comes after the word `beside`.
 // A match in place of `?`, behind which the prover's borrow checker can't carry the definition.
 fn ask_beside(
-    alloc: Global,
     tables: &Tables,
     words: &mut Words<'_>,
     answer: &mut Answer,
-) -> Result<bool, TextError> {
-    match next_generic(words) {
-        Ok(def) => ask_looked_up(alloc, tables, def, words, answer),
+) -> Result<(), TextError> {
+    match next(words) {
+        Ok(def) => match next_question(words) {
+            Ok(question) => Ok(ask_looked_up(tables, &def, &question, answer)?),
+            Err(error) => Err(error),
+        },
         Err(error) => Err(error),
     }
 }
@@ -75,8 +75,6 @@ pub(crate) fn ask(
 ) -> Result<Option<Answer>, TextError> {
     let mut words = words;
     let mut answer = Answer::new(alloc);
-    if ask_beside(alloc, tables, &mut words, &mut answer)? {
-        return Ok(Some(answer));
-    }
-    Err(TextError::Syntax)
+    ask_beside(tables, &mut words, &mut answer)?;
+    Ok(Some(answer))
 }

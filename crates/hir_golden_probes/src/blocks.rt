@@ -1,32 +1,29 @@
 //! The question on the blocks of a store with their maps.
 
-use hir_base::{BlockId, Id};
+use hir_base::BlockId;
 use hir_store::{Blocks, ExpressionStore};
-use hir_text_nodes::{Answer, TextError, Words};
+use hir_text_nodes::{Answer, Read, TextError, Words, next, put};
 use hir_text_store::refuse_missing;
-use std::alloc::{AllocError, Global};
+use std::alloc::AllocError;
 use std::collections::BTreeMap;
 
 /// The maps of blocks at the end of the line: `N=N..`
-pub(crate) fn read_maps(
-    words: &mut Words<'_>,
-    alloc: Global,
-) -> Result<BTreeMap<BlockId, u32>, TextError> {
-    let mut maps = BTreeMap::new(alloc);
+pub(crate) fn read_maps(words: &mut Words<'_>) -> Result<BTreeMap<BlockId, u32>, TextError> {
+    let mut maps = BTreeMap::new(words.alloc());
     for _ in 0..words.rest().len() {
         if words.is_end() {
             break;
         }
-        let block = words.next_number()?;
+        let block = next(words)?;
         words.expect(b"=")?;
-        let _ = maps.insert(Id::from_raw(block), words.number()?)?;
+        let _ = maps.insert(block, u32::read(words)?)?;
     }
     Ok(maps)
 }
 
 fn write_blocks(blocks: Blocks<'_, u32>, answer: &mut Answer) -> Result<(), AllocError> {
     for (block, map) in blocks {
-        answer.number(block.into_raw())?;
+        put(answer, &block)?;
         answer.join("=")?;
         answer.join_number(*map)?;
     }
@@ -41,6 +38,6 @@ pub(crate) fn write(
 ) -> Result<(), AllocError> {
     match store.blocks(maps) {
         Ok(blocks) => write_blocks(blocks, answer),
-        Err(missing) => refuse_missing(missing, answer),
+        Err(missing) => refuse_missing(answer, missing),
     }
 }

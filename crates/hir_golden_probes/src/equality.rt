@@ -4,7 +4,7 @@ use hir_collections::{ArenaIter, ExactEq, TryClone};
 use hir_node::{Binding, Expr, Label, LabelId, LifetimeRef, Pat, TypeRef};
 use hir_store::{ExpressionStore, ExpressionStoreSourceMap};
 use hir_text_defs::Finished;
-use hir_text_nodes::{Answer, Node};
+use hir_text_nodes::{Answer, Node, put_yes_or_no};
 use hir_text_store::{answer_unknown, differs, has_node};
 use std::alloc::AllocError;
 
@@ -27,7 +27,7 @@ pub(crate) fn same_sources(
     answer: &mut Answer,
 ) -> Result<(), AllocError> {
     match kept {
-        Some(kept) => answer.yes_or_no(kept.1 == *sources),
+        Some(kept) => put_yes_or_no(answer, kept.1 == *sources),
         None => answer_unknown(answer),
     }
 }
@@ -41,7 +41,7 @@ pub(crate) fn write_same(
     if is_equal != is_same {
         return differs(answer);
     }
-    answer.yes_or_no(is_equal)
+    put_yes_or_no(answer, is_equal)
 }
 
 /// Whether two nodes of one arena are equal, where both are there.

@@ -15,7 +15,6 @@ use hir_show_run::RunFault;
 use hir_store::FinishFault;
 use hir_store_core::Missing;
 use hir_text_nodes::{Answer, TextError, Words};
-use hir_text_words::value_of;
 use std::alloc::Global;
 use std::fmt::Display;
 
@@ -105,6 +104,16 @@ const FILL: [(&str, FillFault); 2] = [
 
 /// `EndFailed` is a struct: its only variant is itself.
 const END: [(&str, EndFailed); 1] = [("EndFailed", EndFailed)];
+
+/// The value beside this word.
+fn value_of<T: Copy>(table: &[(&str, T)], word: &[u8]) -> Option<T> {
+    for (text, value) in table {
+        if text.as_bytes() == word {
+            return Some(*value);
+        }
+    }
+    None
+}
 
 /// Writes the text of the fault of this name.
 fn write<F: Display + Copy>(

@@ -4,10 +4,9 @@ use hir_base::{ModPath, PathKind};
 use hir_collections::{Seq, TryClone};
 use hir_node::{GenericArgs, Path, PathSegment, PathSegments, TypeRefId};
 use hir_text_nodes::{
-    Answer, TextError, Words, join_args, write_args, write_mod_path, write_path, write_segments,
+    Answer, Quoted, TextError, Words, join_args, join_segments, next, put, put_yes_or_no,
 };
 use hir_text_store::answer_unknown;
-use hir_text_words::value_of;
 use std::alloc::{AllocError, Global};
 
 /// Segments by their number.
@@ -36,39 +35,46 @@ pub(crate) enum Part {
     Cut(Cut, usize),
 }
 
-const CUTS: [(&str, Cut); 3] = [("get", Cut::Get), ("skip", Cut::Skip), ("take", Cut::Take)];
-
-const PARTS: [(&str, Part); 12] = [
-    ("kind", Part::Kind),
-    ("anchor", Part::Anchor),
-    ("mod-path", Part::Names),
-    ("args", Part::Lists),
-    ("segments", Part::Segments),
-    ("first", Part::First),
-    ("last", Part::Last),
-    ("strip-last", Part::StripLast),
-    ("strip-last-two", Part::StripLastTwo),
-    ("qualifier", Part::Qualifier),
-    ("is-self", Part::IsSelf),
-    ("known", Part::Known),
-];
-
 /// The part of a path that a line asks for.
 pub(crate) fn next_part(words: &mut Words<'_>) -> Result<Part, TextError> {
-    let word = words.next_keyword()?;
-    if let Some(cut) = value_of(&CUTS, word) {
-        return Ok(Part::Cut(cut, words.next_number()? as usize));
+    Ok(match words.next_keyword()? {
+        b"kind" => Part::Kind,
+        b"anchor" => Part::Anchor,
+        b"mod-path" => Part::Names,
+        b"args" => Part::Lists,
+        b"segments" => Part::Segments,
+        b"first" => Part::First,
+        b"last" => Part::Last,
+        b"strip-last" => Part::StripLast,
+        b"strip-last-two" => Part::StripLastTwo,
+        b"qualifier" => Part::Qualifier,
+        b"is-self" => Part::IsSelf,
+        b"known" => Part::Known,
+        b"get" => Part::Cut(Cut::Get, next_size(words)?),
+        b"skip" => Part::Cut(Cut::Skip, next_size(words)?),
+        b"take" => Part::Cut(Cut::Take, next_size(words)?),
+        _ => return Err(TextError::Syntax),
+    })
+}
+
+/// A number after a space.
+fn next_size(words: &mut Words<'_>) -> Result<usize, TextError> {
+    Ok(next::<u32>(words)? as usize)
+}
+
+/// Segments as one word; nothing where there are none.
+fn write_segments(segments: PathSegments<'_>, answer: &mut Answer) -> Result<(), AllocError> {
+    if segments.is_empty() {
+        return Ok(());
     }
-    match value_of(&PARTS, word) {
-        Some(part) => Ok(part),
-        None => Err(TextError::Syntax),
-    }
+    answer.space()?;
+    join_segments(answer, segments)
 }
 
 /// A kind, as a path of no names has it.
 fn write_kind(alloc: Global, kind: PathKind, answer: &mut Answer) -> Result<(), AllocError> {
     let path = ModPath::from_segments(alloc, kind, Seq::new(alloc))?;
-    write_mod_path(&path, answer)
+    put(answer, &path)
 }
 
 /// The type that a path begins at, as the path has it.
@@ -76,7 +82,7 @@ fn write_anchor(anchor: Option<TypeRefId>, answer: &mut Answer) -> Result<(), Al
     let Some(anchor) = anchor else {
         return answer.word("none");
     };
-    answer.word("<")?;
+    put(answer, &"<")?;
     answer.join_number(anchor.into_raw())?;
     answer.join(">")
 }
@@ -84,7 +90,7 @@ fn write_anchor(anchor: Option<TypeRefId>, answer: &mut Answer) -> Result<(), Al
 /// The kind and the names of a path.
 fn write_names(names: Option<&ModPath>, answer: &mut Answer) -> Result<(), AllocError> {
     match names {
-        Some(names) => write_mod_path(names, answer),
+        Some(names) => put(answer, names),
         None => answer.word("none"),
     }
 }
@@ -99,7 +105,7 @@ fn write_lists(
     };
     for args in lists {
         match args {
-            Some(args) => write_args(args, answer)?,
+            Some(args) => put(answer, args)?,
             None => answer.word("-")?,
         }
     }
@@ -113,12 +119,12 @@ fn write_segment(segment: Option<PathSegment<'_>>, answer: &mut Answer) -> Resul
     };
     let name = segment.name.as_str();
     if matches!(name, "self" | "super" | "crate") {
-        answer.quote(name)?;
+        put(answer, &Quoted(name))?;
     } else {
-        answer.name(name)?;
+        put(answer, segment.name)?;
     }
     match segment.args_and_bindings {
-        Some(args) => join_args(args, answer),
+        Some(args) => join_args(answer, args),
         None => Ok(()),
     }
 }
@@ -132,7 +138,7 @@ fn qualifier(alloc: Global, path: &Path, answer: &mut Answer) -> Result<(), Allo
         }
     }
     match path.qualifier(alloc)? {
-        Some(path) => write_path(&path, answer),
+        Some(path) => put(answer, &path),
         None => answer.word("none"),
     }
 }
@@ -174,7 +180,7 @@ fn without_places(names: &ModPath) -> Result<Option<Path>, AllocError> {
 /// Writes a path that could be made.
 fn write_made(path: Option<Path>, answer: &mut Answer) -> Result<(), AllocError> {
     match path {
-        Some(path) => write_path(&path, answer),
+        Some(path) => put(answer, &path),
         None => answer_unknown(answer),
     }
 }
@@ -224,7 +230,7 @@ pub(crate) fn write_part(
         Part::StripLast => write_segments(segments.strip_last(), answer),
         Part::StripLastTwo => write_segments(segments.strip_last_two(), answer),
         Part::Qualifier => qualifier(alloc, path, answer),
-        Part::IsSelf => answer.yes_or_no(path.is_self_type()),
+        Part::IsSelf => put_yes_or_no(answer, path.is_self_type()),
         Part::Known => answer_known(alloc, path, answer),
         Part::Cut(cut, number) => write_cut(segments, cut, number, answer),
     }

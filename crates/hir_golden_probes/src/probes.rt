@@ -8,7 +8,7 @@ use hir_base::{BlockId, ExprPrecedence, ExpressionStoreOwnerId};
 use hir_node::Path;
 use hir_text::Asked;
 use hir_text_defs::Finished;
-use hir_text_nodes::{Answer, Node, TextError, Words, next_node, next_owner, next_path};
+use hir_text_nodes::{Answer, Node, TextError, Words, next, opt_next, put_found, put_yes_or_no};
 use std::alloc::Global;
 use std::collections::BTreeMap;
 
@@ -29,29 +29,17 @@ pub(crate) enum Probe {
     Path(Path, Part),
 }
 
-fn read_equal(words: &mut Words<'_>) -> Result<Probe, TextError> {
-    let first = next_node(words)?;
-    Ok(Probe::Equal(first, next_node(words)?))
-}
-
 fn read_parens(words: &mut Words<'_>) -> Result<Probe, TextError> {
     let child = precedences::next_precedence(words)?;
     Ok(Probe::Parens(child, precedences::next_precedence(words)?))
 }
 
-fn read_path(alloc: Global, words: &mut Words<'_>) -> Result<Probe, TextError> {
-    let path = next_path(words, alloc)?;
+fn read_path(words: &mut Words<'_>) -> Result<Probe, TextError> {
+    let path = next(words)?;
     match paths::next_part(words) {
         Ok(part) => Ok(Probe::Path(path, part)),
         Err(stop) => Err(stop),
     }
-}
-
-fn read_scopes_by_tables(words: &mut Words<'_>) -> Result<Probe, TextError> {
-    if words.is_end() {
-        return Ok(Probe::ScopesByTables(None));
-    }
-    Ok(Probe::ScopesByTables(Some(next_owner(words)?)))
 }
 
 /// The walk that can stop of this word.
@@ -64,41 +52,33 @@ fn read_walk(word: &[u8], words: &mut Words<'_>) -> Result<Option<Probe>, TextEr
         b"try-exprs-in" => Way::Exprs,
         _ => return Ok(None),
     };
-    let from = words.next_number()?;
-    let end = words.next_number()?;
+    let from = next(words)?;
+    let end = next(words)?;
     Ok(Some(Probe::TryWalk(TryWalk { way, from, end })))
 }
 
 /// The probe of this word, where it is one; the line may go on.
-fn read_front(
-    alloc: Global,
-    word: &[u8],
-    words: &mut Words<'_>,
-) -> Result<Option<Probe>, TextError> {
+fn read_front(word: &[u8], words: &mut Words<'_>) -> Result<Option<Probe>, TextError> {
     Ok(Some(match word {
-        b"equal" => read_equal(words)?,
+        b"equal" => Probe::Equal(next(words)?, next(words)?),
         b"copies" => Probe::Copies,
         b"same-store" => Probe::SameStore,
         b"same-sources" => Probe::SameSources,
         b"same-scopes" => Probe::SameScopes,
         b"counted-scopes" => Probe::CountedScopes,
-        b"scopes-by-tables" => read_scopes_by_tables(words)?,
+        b"scopes-by-tables" => Probe::ScopesByTables(opt_next(words)?),
         b"counted-root-of" => Probe::CountedRoot(roots::next_rooted(words)?),
         b"parens" => read_parens(words)?,
-        b"blocks" => Probe::Blocks(blocks::read_maps(words, alloc)?),
-        b"path" => read_path(alloc, words)?,
+        b"blocks" => Probe::Blocks(blocks::read_maps(words)?),
+        b"path" => read_path(words)?,
         _ => return read_walk(word, words),
     }))
 }
 
 /// Reads the probe of a line, where it is one.
-pub(crate) fn read_probe(
-    alloc: Global,
-    word: &[u8],
-    words: Words<'_>,
-) -> Result<Option<Probe>, TextError> {
+pub(crate) fn read_probe(word: &[u8], words: Words<'_>) -> Result<Option<Probe>, TextError> {
     let mut words = words;
-    let Some(probe) = read_front(alloc, word, &mut words)? else {
+    let Some(probe) = read_front(word, &mut words)? else {
         return Ok(None);
     };
     words.end()?;
@@ -125,10 +105,10 @@ impl Probe {
             Probe::ScopesByTables(owner) => {
                 scopes::ask_by_tables(alloc, asked, owner, answer)?;
             }
-            Probe::CountedRoot(node) => answer.opt_id(roots::counted_root_of(store, *node))?,
+            Probe::CountedRoot(node) => put_found(answer, &roots::counted_root_of(store, *node))?,
             Probe::TryWalk(walk) => try_walks::ask(alloc, store, *walk, answer)?,
             Probe::Parens(child, parent) => {
-                answer.yes_or_no(child.needs_parentheses_in(*parent))?;
+                put_yes_or_no(answer, child.needs_parentheses_in(*parent))?;
             }
             Probe::Blocks(maps) => blocks::write(store, maps, answer)?,
             Probe::Path(path, part) => paths::write_part(alloc, path, *part, answer)?,

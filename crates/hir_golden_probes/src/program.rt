@@ -5,7 +5,7 @@ ghost use Rattle.std.specs.Prelude.{◌≡◌, ◌++◌, IsFalse, IsTrue, false}
 
 use hir_show_io::{EndFailed, Sink, Source};
 use hir_show_run::{report, run as run_program};
-use hir_text_nodes::{Answer, TextError, Words};
+use hir_text_nodes::{Answer, Read, TextError, Words, put};
 use std::alloc::{AllocError, Global};
 
 /// Input that is read a line at a time, until the call that fails.
@@ -135,14 +135,10 @@ impl Sink for FailingWriter {
 }
 
 /// Adds to the input of the program what a line has after its `>`.
-pub(crate) fn add_input(
-    alloc: Global,
-    input: &mut Vec<u8>,
-    words: Words<'_>,
-) -> Result<(), TextError> {
+pub(crate) fn add_input(input: &mut Vec<u8>, words: Words<'_>) -> Result<(), TextError> {
     let mut words = words;
     if words.is_at(b"\"") {
-        let bytes = words.bytes(alloc)?;
+        let bytes = words.bytes()?;
         words.end()?;
         return Ok(input.extend_from_slice(bytes.as_slice())?);
     }
@@ -159,7 +155,7 @@ fn good_calls(words: &mut Words<'_>, word: &[u8]) -> Result<u64, TextError> {
     if !words.prefix(word) {
         return Ok(u64::MAX);
     }
-    match words.number()?.checked_sub(1) {
+    match u32::read(words)?.checked_sub(1) {
         Some(good_calls) => Ok(u64::from(good_calls)),
         None => Err(TextError::Syntax),
     }
@@ -172,7 +168,10 @@ fn write_text(line: &[u8], answer: &mut Answer) -> Result<(), AllocError> {
     }
     match std::str::from_utf8(line) {
         Ok(line) => answer.word(line),
-        Err(_) => answer.bytes(line),
+        Err(_) => {
+            answer.space()?;
+            answer.join_bytes(line)
+        }
     }
 }
 
@@ -204,8 +203,7 @@ fn write_run(
     errors: &FailingWriter,
     answer: &mut Answer,
 ) -> Result<(), AllocError> {
-    answer.word("status")?;
-    answer.number(u32::from(status))?;
+    put(answer, &("status", u32::from(status)))?;
     write_lines("out", writer.bytes.as_slice(), answer)?;
     write_lines("error", errors.bytes.as_slice(), answer)
 }

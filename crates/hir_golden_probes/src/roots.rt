@@ -3,7 +3,7 @@
 use hir_base::Steps;
 use hir_node::{BindingId, ExprId, PatId};
 use hir_store::ExpressionStore;
-use hir_text_nodes::{Node, TextError, Words, next_node};
+use hir_text_nodes::{Node, TextError, Words, next};
 
 /// A node of the kinds that are made for a root.
 #[derive(Clone, Copy, Drop)]
@@ -15,7 +15,7 @@ pub(crate) enum Rooted {
 
 /// A node after a space.
 pub(crate) fn next_rooted(words: &mut Words<'_>) -> Result<Rooted, TextError> {
-    match next_node(words)? {
+    match next(words)? {
         Node::Expr(id) => Ok(Rooted::Expr(id)),
         Node::Pat(id) => Ok(Rooted::Pat(id)),
         Node::Binding(id) => Ok(Rooted::Binding(id)),

@@ -7,7 +7,7 @@ use hir_defs::{Body, Tables};
 use hir_scope::{ExprScopes, ScopesFault};
 use hir_text::Asked;
 use hir_text_defs::Finished;
-use hir_text_nodes::{Answer, TextError};
+use hir_text_nodes::{Answer, TextError, put};
 use hir_text_store::{answer_unknown, differs, refuse};
 use std::alloc::{AllocError, Global};
 
@@ -21,7 +21,7 @@ fn open_scopes(
         Ok(scopes) => Ok(Some(Box::new(alloc, scopes)?)),
         Err(ScopesFault::Memory) => Err(TextError::Memory),
         Err(fault) => {
-            refuse(alloc, &fault, answer)?;
+            refuse(answer, &fault)?;
             Ok(None)
         }
     }
@@ -37,10 +37,8 @@ fn make_scopes(alloc: Global, asked: &Asked<'_>) -> Result<ExprScopes, ScopesFau
 
 /// Writes how many scopes and entries there are.
 fn write_counts(scopes: &ExprScopes, answer: &mut Answer) -> Result<(), AllocError> {
-    answer.size(scopes.scope_count())?;
-    answer.word("scopes")?;
-    answer.size(scopes.entry_count())?;
-    answer.word("entries")
+    let (scopes, entries) = (scopes.scope_count(), scopes.entry_count());
+    put(answer, &(scopes, "scopes", entries, "entries"))
 }
 
 /// The scopes of an owner's store, by the call for its kind.

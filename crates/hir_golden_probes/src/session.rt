@@ -110,9 +110,9 @@ impl GoldenSession {
 
     /// Does what a line says. Returns the answer, where the line has one.
     fn take_once(&mut self, line: &[u8]) -> Result<Option<Answer>, TextError> {
-        let mut words = Words::new(line);
+        let mut words = Words::new(self.alloc, line);
         if words.eat(b">") {
-            program::add_input(self.alloc, &mut self.input, words)?;
+            program::add_input(&mut self.input, words)?;
             return Ok(None);
         }
         match words.keyword() {
@@ -120,7 +120,7 @@ impl GoldenSession {
             b"run" => self.run(words),
             b"fault" => faults::ask(self.alloc, words),
             b"beside" => beside::ask(self.alloc, self.session.tables(), words),
-            word => match read_probe(self.alloc, word, words)? {
+            word => match read_probe(word, words)? {
                 Some(probe) => self.ask(&probe),
                 None => {
                     self.asks_kept = self.asks_kept && is_skipped(line);
@@ -149,7 +149,7 @@ impl Lines for GoldenSession {
     ghost takes = { λ _ _ _ _. Unit {0} };
 
     fn take_line(&mut self, line: &[u8]) -> Result<Option<Answer>, TextError> {
-        let mut words = Words::new(line);
+        let mut words = Words::new(self.alloc, line);
         if !words.eat(b"again ") {
             return self.take_once(line);
         }

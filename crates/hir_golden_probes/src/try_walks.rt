@@ -3,7 +3,7 @@
 use hir_collections::Idx;
 use hir_node::{BindingId, ExprId, PatId};
 use hir_store::ExpressionStore;
-use hir_text_nodes::{Answer, TextError};
+use hir_text_nodes::{Answer, TextError, put};
 use hir_text_store::answer_unknown;
 use std::alloc::Global;
 
@@ -45,7 +45,7 @@ impl Visited {
     /// Notes an id, and refuses to go on after the one that the walk stops at.
     fn visit<K>(&mut self, id: Idx<K>) -> Result<(), Halt> {
         let number = id.into_raw();
-        if self.text.number(number).is_err() {
+        if put(&mut self.text, &number).is_err() {
             return Err(Halt::Memory);
         }
         if number == self.end {

@@ -42,7 +42,6 @@ fn write_line(mark: u8, line: &[u8], out: &mut Vec<u8>) -> Result<(), AllocError
     out.extend_from_slice(b"\n")
 }
 
-/// The mark of the first line of an answer.
 fn mark_of(is_refusal: bool) -> u8
     ensures { result ≡ cond is_refusal 33 61 }
 {

@@ -1,7 +1,7 @@
 //! What a session keeps of the stores that are asked.
 
-use crate::questions::Asked;
-use crate::scopes::Question;
+use crate::asked::Asked;
+use crate::scopes::ScopeQuestion;
 use hir_base::ExpressionStoreOwnerId;
 use hir_text_nodes::{Answer, TextError};
 use std::alloc::{AllocError, Global};
@@ -16,9 +16,8 @@ pub(crate) trait StoreCache: Sized + Drop {
     /// Writes the answer to a question on the scopes, captures or uses of the store.
     fn ask(
         &mut self,
-        alloc: Global,
         asked: &Asked<'_>,
-        question: &Question,
+        question: &ScopeQuestion,
         answer: &mut Answer,
     ) -> Result<(), TextError>;
 }
@@ -50,15 +49,14 @@ impl<C: StoreCache> StoreCaches<C> {
     /// Writes the answer to a question by what is kept of the store of an owner.
     fn ask_owned(
         &mut self,
-        alloc: Global,
         owner: ExpressionStoreOwnerId,
         asked: &Asked<'_>,
-        question: &Question,
+        question: &ScopeQuestion,
         answer: &mut Answer,
     ) -> Result<(), TextError> {
-        self.open(alloc, owner)?;
+        self.open(answer.alloc(), owner)?;
         match self.owned.get_mut(&owner) {
-            Some(cache) => cache.ask(alloc, asked, question, answer),
+            Some(cache) => cache.ask(asked, question, answer),
             None => Ok(()),
         }
     }
@@ -66,14 +64,13 @@ impl<C: StoreCache> StoreCaches<C> {
     /// Writes the answer to a question by what is kept of the store that is asked.
     pub(crate) fn ask(
         &mut self,
-        alloc: Global,
         asked: &Asked<'_>,
-        question: &Question,
+        question: &ScopeQuestion,
         answer: &mut Answer,
     ) -> Result<(), TextError> {
         match asked.owner {
-            Some(owner) => self.ask_owned(alloc, owner, asked, question, answer),
-            None => self.finished.ask(alloc, asked, question, answer),
+            Some(owner) => self.ask_owned(owner, asked, question, answer),
+            None => self.finished.ask(asked, question, answer),
         }
     }
 

@@ -2,11 +2,12 @@
 #![tactic(auto)]
 
 mod answers;
+mod asked;
 mod buffered;
 mod caches;
+mod grammar;
 mod lines;
 mod nodes;
-mod questions;
 mod scope_cache;
 mod scopes;
 mod session;
@@ -17,10 +18,10 @@ mod texts;
 mod usages;
 
 pub use answers::{Answers, Entry, TextFault};
+pub use asked::Asked;
 pub use buffered::{BufferedSession, FirstPart};
 pub use hir_text_nodes::{Answer, TextError};
 pub use lines::Outcome;
-pub use questions::Asked;
 pub use session::{Lines, Session, is_skipped};
 pub use stop::{Reason, Stop};
 pub use text::{answer, answer_by};

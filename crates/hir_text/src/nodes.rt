@@ -2,8 +2,8 @@
 
 use hir_store::{ExpressionStoreBuilder, FinishFault};
 use hir_text_defs::{Finished, Subject};
-use hir_text_nodes::{Answer, TextError, Words};
-use hir_text_store::{answer_unknown, refuse};
+use hir_text_nodes::{Answer, TextError};
+use hir_text_store::{Change, answer_unknown, refuse};
 use std::alloc::{AllocError, Global};
 use std::mem;
 
@@ -18,7 +18,6 @@ pub(crate) struct Nodes {
     pub(crate) subject: Subject,
 }
 
-/// A builder without nodes.
 fn empty(alloc: Global) -> Result<Box<ExpressionStoreBuilder>, AllocError> {
     Ok(Box::new(alloc, ExpressionStoreBuilder::new(alloc))?)
 }
@@ -45,19 +44,12 @@ impl Nodes {
         })
     }
 
-    /// Does what a line says that a builder takes; returns whether it is such a line.
-    pub(crate) fn line(
-        &mut self,
-        alloc: Global,
-        word: &[u8],
-        words: &mut Words<'_>,
-    ) -> Result<bool, TextError> {
-        let is_taken = hir_text_store::make(alloc, &mut self.builder, word, words)?;
-        if is_taken {
-            self.has_lines = true;
-            self.fault = None;
-        }
-        Ok(is_taken)
+    /// Adds what a line says.
+    pub(crate) fn add(&mut self, change: Change) -> Result<(), TextError> {
+        change.make(&mut self.builder)?;
+        self.has_lines = true;
+        self.fault = None;
+        Ok(())
     }
 
     /// Returns whether lines have made something since the last store was finished or selected.
@@ -79,7 +71,7 @@ impl Nodes {
         answer: &mut Answer,
     ) -> Result<Option<Finished>, TextError> {
         if let Some(fault) = self.fault {
-            refuse(alloc, &fault, answer)?;
+            refuse(answer, &fault)?;
             return Ok(None);
         }
         match finish(alloc, mem::replace(&mut self.builder, empty(alloc)?))? {
@@ -91,7 +83,7 @@ impl Nodes {
             Err((fault, builder)) => {
                 self.builder = builder;
                 self.fault = Some(fault);
-                refuse(alloc, &fault, answer)?;
+                refuse(answer, &fault)?;
                 Ok(None)
             }
         }

@@ -1,16 +1,16 @@
 //! The scopes, captures and uses of a store, which are made where the first question comes that needs them.
 
+use crate::asked::Asked;
 use crate::caches::StoreCache;
-use crate::questions::Asked;
-use crate::scopes::{Question, write_scopes};
-use crate::usages::{self, NewName, ask_rename, write_usages};
+use crate::scopes::{OfScopes, ScopeQuestion};
+use crate::usages::{NewName, OfUsages};
 use hir_base::ExpressionStoreOwnerId;
 use hir_captures::{CapturesFault, captures};
 use hir_collections::{Seq, TryClone};
 use hir_defs::{Body, BodyFault, Param};
 use hir_node::{BindingId, ExprId, PatId};
 use hir_scope::{ExprScopes, ScopesFault};
-use hir_text_nodes::{Answer, TextError};
+use hir_text_nodes::{Answer, TextError, put_each};
 use hir_text_store::{answer_unknown, refuse};
 use hir_usages::Usages;
 use std::alloc::{AllocError, Global};
@@ -48,7 +48,6 @@ impl ScopedBody {
         Ok(ScopedBody { body, scopes })
     }
 
-    /// Returns the bindings that a closure captures.
     fn captures(&self, alloc: Global, closure: ExprId) -> Result<Vec<BindingId>, CapturesFault> {
         captures(alloc, &self.body, &self.scopes, closure)
     }
@@ -78,15 +77,14 @@ fn copy_body(alloc: Global, body: &Body) -> Result<Result<Box<Body>, BodyFault>,
 
 /// Returns what was made, in a box. Where there is none, the answer says why.
 fn open<T: Drop>(
-    alloc: Global,
     outcome: Result<T, ScopesFault>,
     answer: &mut Answer,
 ) -> Result<Option<Box<T>>, TextError> {
     match outcome {
-        Ok(made) => Ok(Some(Box::new(alloc, made)?)),
+        Ok(made) => Ok(Some(Box::new(answer.alloc(), made)?)),
         Err(ScopesFault::Memory) => Err(TextError::Memory),
         Err(fault) => {
-            refuse(alloc, &fault, answer)?;
+            refuse(answer, &fault)?;
             Ok(None)
         }
     }
@@ -102,25 +100,20 @@ fn make_scopes(alloc: Global, asked: &Asked<'_>) -> Result<ExprScopes, ScopesFau
 
 /// Returns a copy of a body with its scopes. Where there are none, the answer says why.
 fn make_scoped_body(
-    alloc: Global,
     body: &Body,
     answer: &mut Answer,
 ) -> Result<Option<Box<ScopedBody>>, TextError> {
-    match copy_body(alloc, body)? {
-        Ok(copy) => open(alloc, ScopedBody::new(alloc, copy), answer),
+    match copy_body(answer.alloc(), body)? {
+        Ok(copy) => {
+            let made = ScopedBody::new(answer.alloc(), copy);
+            open(made, answer)
+        }
         Err(BodyFault::Memory) => Err(TextError::Memory),
         Err(fault) => {
-            refuse(alloc, &fault, answer)?;
+            refuse(answer, &fault)?;
             Ok(None)
         }
     }
-}
-
-fn write_ids(bindings: &[BindingId], answer: &mut Answer) -> Result<(), AllocError> {
-    for binding in bindings {
-        answer.id(*binding)?;
-    }
-    Ok(())
 }
 
 /// What closures were found to capture.
@@ -128,7 +121,6 @@ type Captures = HashMap<ExprId, Vec<BindingId>>;
 
 /// Writes what a closure was found to capture, and keeps it.
 fn keep_captures(
-    alloc: Global,
     captures: &mut Captures,
     closure: ExprId,
     found: Result<Vec<BindingId>, CapturesFault>,
@@ -136,14 +128,12 @@ fn keep_captures(
 ) -> Result<(), TextError> {
     match found {
         Ok(found) => {
-            write_ids(found.as_slice(), answer)?;
+            put_each(answer, found.as_slice())?;
             let _ = captures.insert(closure, found)?;
             Ok(())
         }
         Err(CapturesFault::Memory) => Err(TextError::Memory),
-        Err(CapturesFault::NotAClosure) => {
-            Ok(refuse(alloc, &CapturesFault::NotAClosure, answer)?)
-        }
+        Err(fault) => Ok(refuse(answer, &fault)?),
     }
 }
 
@@ -170,89 +160,10 @@ impl Drop for ScopeCache {
 }
 
 impl ScopeCache {
-    /// Makes the scopes of what is asked, where there are none yet. Where they can't be made, the answer
-    /// says why.
-    fn open_scopes(
-        &mut self,
-        alloc: Global,
-        asked: &Asked<'_>,
-        answer: &mut Answer,
-    ) -> Result<(), TextError> {
-        if self.scopes.is_none() {
-            self.scopes = open(alloc, make_scopes(alloc, asked), answer)?;
-        }
-        Ok(())
-    }
-
-    /// Writes the answer to a question on scopes.
-    fn ask_scopes(
-        &mut self,
-        alloc: Global,
-        asked: &Asked<'_>,
-        question: &Question,
-        answer: &mut Answer,
-    ) -> Result<(), TextError> {
-        if let Some(body) = &self.body {
-            return Ok(write_scopes(alloc, question, body.scopes(), answer)?);
-        }
-        self.open_scopes(alloc, asked, answer)?;
-        match &self.scopes {
-            Some(scopes) => Ok(write_scopes(alloc, question, scopes, answer)?),
-            None => Ok(()),
-        }
-    }
-
-    /// Makes a copy of the body with its scopes, where there is none yet. Where it can't be made, the answer
-    /// says why.
-    fn open_body(
-        &mut self,
-        alloc: Global,
-        body: &Body,
-        answer: &mut Answer,
-    ) -> Result<(), TextError> {
-        if self.body.is_none() {
-            self.body = make_scoped_body(alloc, body, answer)?;
-            self.scopes = None;
-        }
-        Ok(())
-    }
-
-    /// Finds what a closure captures, and keeps it.
-    fn find_captures(
-        &mut self,
-        alloc: Global,
-        closure: ExprId,
-        answer: &mut Answer,
-    ) -> Result<(), TextError> {
-        let Some(body) = &self.body else {
-            return Ok(());
-        };
-        let found = body.captures(alloc, closure);
-        keep_captures(alloc, &mut self.captures, closure, found, answer)
-    }
-
-    /// Writes what a closure captures.
-    fn ask_captures(
-        &mut self,
-        alloc: Global,
-        body: Option<&Body>,
-        closure: ExprId,
-        answer: &mut Answer,
-    ) -> Result<(), TextError> {
-        if let Some(found) = self.captures.get(&closure) {
-            return Ok(write_ids(found.as_slice(), answer)?);
-        }
-        let Some(body) = body else {
-            return Ok(answer_unknown(answer)?);
-        };
-        self.open_body(alloc, body, answer)?;
-        self.find_captures(alloc, closure, answer)
-    }
-
     /// Returns the scopes, where they are made.
     fn scopes(&self) -> Option<&ExprScopes> {
         if let Some(body) = &self.body {
-            return Some(body.scopes());
+            return Some(&body.scopes);
         }
         match &self.scopes {
             Some(scopes) => Some(scopes),
@@ -260,17 +171,57 @@ impl ScopeCache {
         }
     }
 
-    /// Makes the scopes of a body, where there are none yet. Where they can't be made, the answer says why.
-    fn open_scopes_of_body(
+    /// Makes the scopes of what is asked, where there are none yet. Where they can't be made, the answer
+    /// says why.
+    fn open_scopes(&mut self, asked: &Asked<'_>, answer: &mut Answer) -> Result<(), TextError> {
+        if self.body.is_none() && self.scopes.is_none() {
+            self.scopes = open(make_scopes(answer.alloc(), asked), answer)?;
+        }
+        Ok(())
+    }
+
+    fn ask_scopes(
         &mut self,
-        alloc: Global,
         asked: &Asked<'_>,
+        question: &OfScopes,
         answer: &mut Answer,
     ) -> Result<(), TextError> {
-        if self.body.is_some() {
-            return Ok(());
+        self.open_scopes(asked, answer)?;
+        match self.scopes() {
+            Some(scopes) => Ok(question.ask(scopes, answer)?),
+            None => Ok(()),
         }
-        self.open_scopes(alloc, asked, answer)
+    }
+
+    /// Makes a copy of the body with its scopes, where there is none yet. Where it can't be made, the answer
+    /// says why.
+    fn open_body(&mut self, body: &Body, answer: &mut Answer) -> Result<(), TextError> {
+        if self.body.is_none() {
+            self.body = make_scoped_body(body, answer)?;
+            self.scopes = None;
+        }
+        Ok(())
+    }
+
+    /// Writes what a closure captures, and keeps it.
+    fn ask_captures(
+        &mut self,
+        body: Option<&Body>,
+        closure: ExprId,
+        answer: &mut Answer,
+    ) -> Result<(), TextError> {
+        if let Some(found) = self.captures.get(&closure) {
+            return Ok(put_each(answer, found.as_slice())?);
+        }
+        let Some(body) = body else {
+            return Ok(answer_unknown(answer)?);
+        };
+        self.open_body(body, answer)?;
+        let Some(body) = &self.body else {
+            return Ok(());
+        };
+        let found = body.captures(answer.alloc(), closure);
+        keep_captures(&mut self.captures, closure, found, answer)
     }
 
     /// Finds the uses of a body, where they aren't found yet and it has scopes.
@@ -286,29 +237,25 @@ impl ScopeCache {
         Ok(())
     }
 
-    /// Writes the answer to a question on uses.
     fn ask_usages(
         &mut self,
-        alloc: Global,
         asked: &Asked<'_>,
-        question: &usages::Question,
+        question: OfUsages,
         answer: &mut Answer,
     ) -> Result<(), TextError> {
         let Some(body) = asked.body() else {
             return Ok(answer_unknown(answer)?);
         };
-        self.open_scopes_of_body(alloc, asked, answer)?;
-        self.open_usages(alloc, body)?;
+        self.open_scopes(asked, answer)?;
+        self.open_usages(answer.alloc(), body)?;
         match &self.usages {
-            Some(usages) => Ok(write_usages(question, usages, answer)?),
+            Some(usages) => Ok(question.ask(usages, answer)?),
             None => Ok(()),
         }
     }
 
-    /// Writes what a new name of a binding changes.
     fn ask_rename(
         &mut self,
-        alloc: Global,
         asked: &Asked<'_>,
         question: &NewName,
         answer: &mut Answer,
@@ -317,9 +264,9 @@ impl ScopeCache {
         else {
             return Ok(answer_unknown(answer)?);
         };
-        self.open_scopes_of_body(alloc, asked, answer)?;
+        self.open_scopes(asked, answer)?;
         match self.scopes() {
-            Some(scopes) => ask_rename(alloc, asked.tables, body, owner, scopes, question, answer),
+            Some(scopes) => question.ask(asked, body, owner, scopes, answer),
             None => Ok(()),
         }
     }
@@ -337,24 +284,17 @@ impl StoreCache for ScopeCache {
 
     fn ask(
         &mut self,
-        alloc: Global,
         asked: &Asked<'_>,
-        question: &Question,
+        question: &ScopeQuestion,
         answer: &mut Answer,
     ) -> Result<(), TextError> {
         match question {
-            Question::Captures(closure) => {
-                self.ask_captures(alloc, asked.body(), *closure, answer)
+            ScopeQuestion::Scopes(question) => self.ask_scopes(asked, question, answer),
+            ScopeQuestion::Captures(closure) => {
+                self.ask_captures(asked.body(), *closure, answer)
             }
-            Question::Usages(question) => self.ask_usages(alloc, asked, question, answer),
-            Question::Rename(question) => self.ask_rename(alloc, asked, question, answer),
-            Question::Chain(_)
-            | Question::Frames(_)
-            | Question::Counts
-            | Question::Scoped
-            | Question::Resolve(..)
-            | Question::ResolveThrough(..)
-            | Question::Visible(_) => self.ask_scopes(alloc, asked, question, answer),
+            ScopeQuestion::Usages(question) => self.ask_usages(asked, *question, answer),
+            ScopeQuestion::Rename(question) => self.ask_rename(asked, question, answer),
         }
     }
 }

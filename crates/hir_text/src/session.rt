@@ -2,20 +2,20 @@
 
 ghost use Rattle.std.specs.Prelude.{ℕ, List, IfOk};
 
+use crate::asked::Asked;
 use crate::caches::StoreCaches;
+use crate::grammar::{Ask, Line, Make, OfStore};
 use crate::nodes::Nodes;
-use crate::questions::{Asked, ask_empty, ask_store, ask_tables};
 use crate::scope_cache::ScopeCache;
-use crate::scopes::{self, Question};
+use crate::scopes::ScopeQuestion;
 use crate::stop::Stop;
 use hir_base::ExpressionStoreOwnerId;
 use hir_defs::{StoreOf, Tables};
 use hir_store::ExpressionStore;
 use hir_store_core::Missing;
 use hir_text_defs::{Definition, Finished, Pending, Subject};
-use hir_text_nodes::{Answer, TextError, Words, next_owner};
+use hir_text_nodes::{Answer, TextError, Words};
 use hir_text_store::refuse_missing;
-use hir_text_words::value_of;
 use std::alloc::{AllocError, Global};
 
 /// What takes the lines of a text one after the other.
@@ -64,51 +64,12 @@ pub fn is_skipped(line: &[u8]) -> bool {
     }
 }
 
-/// What the tables lack of the store of this owner, if anything.
+/// Returns what the tables lack of the store of this owner, if anything.
 fn lookup(tables: &Tables, owner: &ExpressionStoreOwnerId) -> Result<(), Missing> {
     match ExpressionStore::of(tables, *owner) {
         Ok(_) => Ok(()),
         Err(missing) => Err(missing),
     }
-}
-
-/// `of OWNER`: makes the store of that owner the one that questions ask.
-fn select(
-    nodes: &mut Nodes,
-    tables: &Tables,
-    words: &mut Words<'_>,
-    answer: &mut Answer,
-) -> Result<(), TextError> {
-    let owner = next_owner(words)?;
-    words.end()?;
-    match lookup(tables, &owner) {
-        Ok(()) => {
-            answer.word("found")?;
-            nodes.select(Subject::Owner(owner));
-        }
-        Err(missing) => refuse_missing(missing, answer)?,
-    }
-    Ok(())
-}
-
-/// A line that has an answer and isn't a question.
-#[derive(Clone, Copy)]
-enum Change {
-    Finish,
-    Of,
-}
-
-const CHANGES: [(&str, Change); 2] = [("finish", Change::Finish), ("of", Change::Of)];
-
-/// What a line is that was taken.
-#[derive(Drop)]
-enum Done {
-    /// One without an answer.
-    Silent,
-    /// One with this answer.
-    Answered(Answer),
-    /// None: no line begins with its first word.
-    Unknown,
 }
 
 impl Session {
@@ -169,62 +130,32 @@ impl Session {
         Ok(())
     }
 
-    /// Does what a line says that has no answer; returns whether it is such a line.
-    fn make(&mut self, word: &[u8], words: &mut Words<'_>) -> Result<bool, TextError> {
-        if self.nodes.line(self.alloc, word, words)?
-            || self.pending.line(self.alloc, word, words)?
-            || hir_text_defs::line(self.alloc, &mut self.tables, word, words)?
-        {
-            return Ok(true);
+    fn make(&mut self, make: Make) -> Result<(), TextError> {
+        match make {
+            Make::Change(change) => self.nodes.add(change),
+            Make::Part(part) => self.pending.add(part),
+            Make::Entry(entry) => entry.add(&mut self.tables),
+            Make::Begin => self.begin(),
         }
-        if word != b"begin".as_slice() {
-            return Ok(false);
-        }
-        words.end()?;
-        self.begin()?;
-        Ok(true)
     }
 
-    /// Does what such a line says.
-    fn do_change(
+    /// Makes the store of this owner the one that questions ask.
+    fn select(
         &mut self,
-        change: Change,
-        words: &mut Words<'_>,
+        owner: ExpressionStoreOwnerId,
         answer: &mut Answer,
     ) -> Result<(), TextError> {
-        match change {
-            Change::Finish => {
-                words.end()?;
-                if self.finish(answer)? {
-                    answer.word("accepted")?;
-                }
+        match lookup(&self.tables, &owner) {
+            Ok(()) => {
+                answer.word("found")?;
+                self.nodes.select(Subject::Owner(owner));
             }
-            Change::Of => {
-                select(&mut self.nodes, &self.tables, words, answer)?;
-                if let Subject::Owner(_) = &self.nodes.subject {
-                    self.caches.forget_finished(self.alloc);
-                }
-            }
+            Err(missing) => refuse_missing(answer, missing)?,
+        }
+        if let Subject::Owner(_) = &self.nodes.subject {
+            self.caches.forget_finished(self.alloc);
         }
         Ok(())
-    }
-
-    /// Does what a line says that has an answer and isn't a question; returns whether it is such a line.
-    fn change(
-        &mut self,
-        word: &[u8],
-        words: &mut Words<'_>,
-        answer: &mut Answer,
-    ) -> Result<bool, TextError> {
-        if let Some(change) = value_of(&CHANGES, word) {
-            self.do_change(change, words, answer)?;
-            return Ok(true);
-        }
-        let Some(definition) = hir_text_defs::read(self.alloc, word, words)? else {
-            return Ok(false);
-        };
-        self.define(definition, answer)?;
-        Ok(true)
     }
 
     /// Makes a body, a signature or the fields of a variant of the store.
@@ -233,9 +164,7 @@ impl Session {
         let Some(finished) = self.nodes.take_store(self.alloc, answer)? else {
             return Ok(());
         };
-        self.nodes.subject = hir_text_defs::make(
-            self.alloc,
-            definition,
+        self.nodes.subject = definition.make(
             finished,
             &mut self.pending,
             &mut self.tables,
@@ -247,73 +176,63 @@ impl Session {
         Ok(())
     }
 
-    /// Writes the answer to a question on scopes, captures or uses, by what is kept of the store that is
-    /// asked.
-    fn ask_scopes(&mut self, question: &Question, answer: &mut Answer) -> Result<(), TextError> {
+    /// Writes the answer of the store that is asked, where there is one; where there is none, the answer
+    /// says why.
+    fn ask_store(&mut self, question: &OfStore, answer: &mut Answer) -> Result<(), TextError> {
         if !self.finish(answer)? {
             return Ok(());
         }
         match Asked::new(&self.tables, &self.nodes.subject) {
-            Some(asked) => self.caches.ask(self.alloc, &asked, question, answer),
+            Some(asked) => question.ask(&asked, answer),
             None => Ok(()),
         }
     }
 
-    /// Writes the answer to a question on a store; returns whether the line is one. Where nodes are to be
-    /// finished first, the line is read before, so that one that is no question leaves them as they are.
-    fn ask_store(
+    /// Writes the answer to a question on scopes, captures or uses, by what is kept of the store that is
+    /// asked.
+    fn ask_scopes(
         &mut self,
-        word: &[u8],
-        words: &mut Words<'_>,
+        question: &ScopeQuestion,
         answer: &mut Answer,
-    ) -> Result<bool, TextError> {
-        if self.nodes.has_lines() {
-            let behind = *words;
-            if !ask_empty(self.alloc, &self.tables, word, words)? {
-                return Ok(false);
-            }
-            if !self.finish(answer)? {
-                return Ok(true);
-            }
-            *words = behind;
-        } else if !self.finish(answer)? {
-            return ask_empty(self.alloc, &self.tables, word, words);
+    ) -> Result<(), TextError> {
+        if !self.finish(answer)? {
+            return Ok(());
         }
         match Asked::new(&self.tables, &self.nodes.subject) {
-            Some(asked) => ask_store(self.alloc, &asked, word, words, answer),
-            None => ask_empty(self.alloc, &self.tables, word, words),
+            Some(asked) => self.caches.ask(&asked, question, answer),
+            None => Ok(()),
         }
     }
 
-    /// Writes the answer to a question; returns whether the line is one.
-    fn ask(
-        &mut self,
-        word: &[u8],
-        words: &mut Words<'_>,
-        answer: &mut Answer,
-    ) -> Result<bool, TextError> {
-        if ask_tables(self.alloc, &self.tables, word, words, answer)? {
-            return Ok(true);
-        }
-        match scopes::read(self.alloc, word, words)? {
-            Some(question) => {
-                self.ask_scopes(&question, answer)?;
-                Ok(true)
+    /// Does what a line says that has an answer, and writes the answer.
+    fn ask(&mut self, ask: Ask, answer: &mut Answer) -> Result<(), TextError> {
+        match ask {
+            Ask::Finish => {
+                let is_finished = self.finish(answer)?;
+                Ok(answer.flag(is_finished, "accepted")?)
             }
-            None => self.ask_store(word, words, answer),
+            Ask::Select(owner) => self.select(owner, answer),
+            Ask::Define(definition) => self.define(definition, answer),
+            Ask::Tables(question) => Ok(question.ask(&self.tables, answer)?),
+            Ask::TablesText(text) => text.ask(&self.tables, answer),
+            Ask::OfStore(question) => self.ask_store(&question, answer),
+            Ask::Scopes(question) => self.ask_scopes(&question, answer),
         }
     }
 
-    /// Does what a line says, of which this is the first word.
-    fn take_words(&mut self, word: &[u8], words: &mut Words<'_>) -> Result<Done, TextError> {
-        if self.make(word, words)? {
-            return Ok(Done::Silent);
+    /// Does what a line says. Returns the answer, where the line has one.
+    fn do_line(&mut self, line: Line) -> Result<Option<Answer>, TextError> {
+        match line {
+            Line::Make(make) => {
+                self.make(make)?;
+                Ok(None)
+            }
+            Line::Ask(ask) => {
+                let mut answer = Answer::new(self.alloc);
+                self.ask(ask, &mut answer)?;
+                Ok(Some(answer))
+            }
         }
-        let mut answer = Answer::new(self.alloc);
-        if self.change(word, words, &mut answer)? || self.ask(word, words, &mut answer)? {
-            return Ok(Done::Answered(answer));
-        }
-        Ok(Done::Unknown)
     }
 
     /// Keeps where the reading of a bad line stopped.
@@ -322,7 +241,7 @@ impl Session {
         TextError::Syntax
     }
 
-    /// Does what a line says. Returns the answer, where the line has one.
+    /// Reads a line, and does what it says. Returns the answer, where the line has one.
     fn read_line(&mut self, line: &[u8]) -> Result<Option<Answer>, TextError> {
         if let Err(error) = std::str::from_utf8(line) {
             return Err(self.stop_at(Stop::not_utf8(error.valid_up_to())));
@@ -330,12 +249,10 @@ impl Session {
         if is_skipped(line) {
             return Ok(None);
         }
-        let mut words = Words::new(line);
-        let word = words.keyword();
-        match self.take_words(word, &mut words) {
-            Ok(Done::Silent) => Ok(None),
-            Ok(Done::Answered(answer)) => Ok(Some(answer)),
-            Ok(Done::Unknown) => Err(self.stop_at(Stop::unknown_word())),
+        let mut words = Words::new(self.alloc, line);
+        match Line::read(&mut words) {
+            Ok(Some(line)) => self.do_line(line),
+            Ok(None) => Err(self.stop_at(Stop::unknown_word())),
             Err(TextError::Syntax) => Err(self.stop_at(Stop::of(line, &words))),
             Err(TextError::Memory) => Err(TextError::Memory),
         }

@@ -1,18 +1,19 @@
 //! Questions on the uses of a body, and on what a new name of a binding would change.
 
+use crate::asked::Asked;
+use crate::texts::put_printed;
 use hir_base::{DefWithBodyId, Edition, Name};
-use hir_defs::{Body, Tables};
+use hir_defs::Body;
 use hir_node::{BindingId, ExprOrPatId};
-use hir_pretty::{PrintFault, print_body_hir};
+use hir_pretty::print_body_hir;
 use hir_scope::ExprScopes;
-use hir_text_nodes::{Answer, Node, TextError, Words, opt_edition, write_node};
-use hir_text_store::refuse_missing;
+use hir_text_nodes::{Answer, TextError, Write, put, put_each};
 use hir_usages::{RenameFault, Usage, Usages, rename, renamed};
-use std::alloc::{AllocError, Global};
+use std::alloc::AllocError;
 
 /// A question on the uses of a body.
-#[derive(Drop)]
-pub(crate) enum Question {
+#[derive(Clone, Copy)]
+pub(crate) enum OfUsages {
     All,
     Of(BindingId),
     Unresolved,
@@ -22,170 +23,111 @@ pub(crate) enum Question {
 /// A question on a new name of a binding.
 #[derive(Drop)]
 pub(crate) struct NewName {
-    binding: BindingId,
-    name: Name,
+    pub(crate) binding: BindingId,
+    pub(crate) name: Name,
     /// The edition in which the renamed body is printed, where that is asked.
-    edition: Option<Edition>,
+    pub(crate) edition: Option<Edition>,
 }
 
-/// What comes after the word `rename`.
-pub(crate) fn read_rename(alloc: Global, words: &mut Words<'_>) -> Result<NewName, TextError> {
-    let binding = words.next_id()?;
-    let name = words.next_name(alloc)?;
-    Ok(NewName {
-        binding,
-        name,
-        edition: None,
-    })
-}
-
-/// What comes after the word `print-renamed`.
-pub(crate) fn read_renamed(alloc: Global, words: &mut Words<'_>) -> Result<NewName, TextError> {
-    let binding = words.next_id()?;
-    let name = words.next_name(alloc)?;
-    let edition = Some(opt_edition(words)?);
-    Ok(NewName {
-        binding,
-        name,
-        edition,
-    })
-}
-
-/// Writes an expression or a pattern.
-fn write_path(path: ExprOrPatId, answer: &mut Answer) -> Result<(), AllocError> {
-    match path {
-        ExprOrPatId::ExprId(id) => write_node(Node::Expr(id), answer),
-        ExprOrPatId::PatId(id) => write_node(Node::Pat(id), answer),
+/// Writes the binding that a use resolves to after the last word, or `none`.
+fn join_binding(answer: &mut Answer, binding: Option<BindingId>) -> Result<(), AllocError> {
+    match binding {
+        Some(binding) => answer.join_number(binding.into_raw()),
+        None => answer.join("none"),
     }
 }
 
-/// Writes uses.
-fn write_paths(usages: &[Usage], answer: &mut Answer) -> Result<(), AllocError> {
+fn put_paths(answer: &mut Answer, usages: &[Usage]) -> Result<(), AllocError> {
     for usage in usages {
-        write_path(usage.path, answer)?;
+        put(answer, &usage.path)?;
     }
     Ok(())
 }
 
-/// Writes each use with what it resolves to.
-fn write_all(usages: &Usages, answer: &mut Answer) -> Result<(), AllocError> {
-    for usage in usages.iter() {
-        write_path(usage.path, answer)?;
-        answer.join("=")?;
-        match usage.binding {
-            Some(binding) => answer.join_number(binding.into_raw())?,
-            None => answer.join("none")?,
-        }
-    }
-    Ok(())
-}
-
-/// Writes what is asked of the uses.
-pub(crate) fn write_usages(
-    question: &Question,
-    usages: &Usages,
-    answer: &mut Answer,
-) -> Result<(), AllocError> {
-    match question {
-        Question::All => write_all(usages, answer),
-        Question::Of(binding) => write_paths(usages.of(*binding), answer),
-        Question::Unresolved => write_paths(usages.unresolved(), answer),
-        Question::Unused => {
-            for binding in usages.unused() {
-                answer.id(*binding)?;
+impl OfUsages {
+    /// Writes the answer of the uses.
+    pub(crate) fn ask(self, usages: &Usages, answer: &mut Answer) -> Result<(), AllocError> {
+        match self {
+            OfUsages::All => {
+                for usage in usages.iter() {
+                    put(answer, &usage.path)?;
+                    answer.join("=")?;
+                    join_binding(answer, usage.binding)?;
+                }
+                Ok(())
             }
-            Ok(())
+            OfUsages::Of(binding) => put_paths(answer, usages.of(binding)),
+            OfUsages::Unresolved => put_paths(answer, usages.unresolved()),
+            OfUsages::Unused => put_each(answer, usages.unused()),
         }
     }
 }
 
 /// Writes that a use would resolve to another binding than it is to, and which one it is.
-fn write_conflict(
+fn put_conflict(
+    answer: &mut Answer,
     kind: &str,
     usage: ExprOrPatId,
     binding: Option<BindingId>,
-    answer: &mut Answer,
 ) -> Result<(), AllocError> {
     answer.join(kind)?;
-    answer.join("(")?;
-    let (arena, number) = match usage {
-        ExprOrPatId::ExprId(id) => ("expr:", id.into_raw()),
-        ExprOrPatId::PatId(id) => ("pat:", id.into_raw()),
-    };
-    answer.join(arena)?;
-    answer.join_number(number)?;
+    usage.write(answer)?;
     answer.join(" ")?;
-    match binding {
-        Some(binding) => answer.join_number(binding.into_raw())?,
-        None => answer.join("none")?,
-    }
+    join_binding(answer, binding)?;
     answer.join(")")
 }
 
-/// Writes why a binding may not have a name, or that it is out of memory.
-fn refuse_rename(fault: RenameFault, answer: &mut Answer) -> Result<(), TextError> {
+/// Writes why a binding may not have a name, or fails where it is out of memory.
+fn refuse_rename(answer: &mut Answer, fault: RenameFault) -> Result<(), TextError> {
     answer.refuse();
     match fault {
-        RenameFault::NotBound => answer.word("NotBound")?,
-        RenameFault::IsSelf => answer.word("IsSelf")?,
+        RenameFault::NotBound => answer.join("NotBound")?,
+        RenameFault::IsSelf => answer.join("IsSelf")?,
         RenameFault::SameFrame { other } => {
-            answer.word("SameFrame")?;
-            answer.join_around("(", other.into_raw(), ")")?;
+            answer.join("SameFrame(")?;
+            other.write(answer)?;
+            answer.join(")")?;
         }
-        RenameFault::Hidden { usage, by } => {
-            write_conflict("Hidden", usage, Some(by), answer)?;
-        }
-        RenameFault::Captures { usage, was } => write_conflict("Captures", usage, was, answer)?,
+        RenameFault::Hidden { usage, by } => put_conflict(answer, "Hidden(", usage, Some(by))?,
+        RenameFault::Captures { usage, was } => put_conflict(answer, "Captures(", usage, was)?,
         RenameFault::Memory => return Err(TextError::Memory),
     }
     Ok(())
 }
 
-/// Writes the text of a renamed body, or the first definition that is missing.
-fn write_printed(
-    printed: Result<String, PrintFault>,
-    answer: &mut Answer,
-) -> Result<(), TextError> {
-    match printed {
-        Ok(text) => Ok(answer.join(text.as_str())?),
-        Err(PrintFault::Missing(missing)) => Ok(refuse_missing(missing, answer)?),
-        Err(PrintFault::Memory) => Err(TextError::Memory),
-    }
-}
-
-/// Writes the uses that a new name changes, or why the binding may not have it.
-fn write_rename(
-    alloc: Global,
-    body: &Body,
-    scopes: &ExprScopes,
-    question: &NewName,
-    answer: &mut Answer,
-) -> Result<(), TextError> {
-    match rename(alloc, body, scopes, question.binding, &question.name) {
-        Ok(usages) => Ok(write_paths(usages.as_slice(), answer)?),
-        Err(fault) => refuse_rename(fault, answer),
-    }
-}
-
-/// Writes what a new name of a binding changes, or, where the question has an edition, how the renamed body
-/// is printed.
-pub(crate) fn ask_rename(
-    alloc: Global,
-    tables: &Tables,
-    body: &Body,
-    owner: DefWithBodyId,
-    scopes: &ExprScopes,
-    question: &NewName,
-    answer: &mut Answer,
-) -> Result<(), TextError> {
-    let Some(edition) = question.edition else {
-        return write_rename(alloc, body, scopes, question, answer);
-    };
-    match renamed(alloc, body, scopes, question.binding, &question.name) {
-        Ok(made) => {
-            let printed = print_body_hir(alloc, tables, &made, owner, edition);
-            write_printed(printed, answer)
+impl NewName {
+    /// Writes the uses that the new name changes, or why the binding may not have it.
+    fn put_changes(
+        &self,
+        body: &Body,
+        scopes: &ExprScopes,
+        answer: &mut Answer,
+    ) -> Result<(), TextError> {
+        match rename(answer.alloc(), body, scopes, self.binding, &self.name) {
+            Ok(usages) => Ok(put_paths(answer, usages.as_slice())?),
+            Err(fault) => refuse_rename(answer, fault),
         }
-        Err(fault) => refuse_rename(fault, answer),
+    }
+
+    /// Writes what the new name changes, or, where the question has an edition, how the renamed body is
+    /// printed.
+    pub(crate) fn ask(
+        &self,
+        asked: &Asked<'_>,
+        body: &Body,
+        owner: DefWithBodyId,
+        scopes: &ExprScopes,
+        answer: &mut Answer,
+    ) -> Result<(), TextError> {
+        let Some(edition) = self.edition else {
+            return self.put_changes(body, scopes, answer);
+        };
+        match renamed(answer.alloc(), body, scopes, self.binding, &self.name) {
+            Ok(made) => {
+                let printed = print_body_hir(answer.alloc(), asked.tables, &made, owner, edition);
+                put_printed(answer, printed)
+            }
+            Err(fault) => refuse_rename(answer, fault),
+        }
     }
 }

@@ -3,18 +3,17 @@
 use crate::pending::Pending;
 use crate::subject::{Finished, Subject, ask_accepted, ask_again};
 use hir_base::{DefWithBodyId, ExpressionStoreOwnerId};
-use hir_collections::Idx;
+use hir_collections::{Idx, Seq};
 use hir_defs::{Body, BodyFault, BodySourceMap, Param, RefusedBody, Tables, TablesOf};
 use hir_node::BindingId;
 use hir_store::ExpressionStore;
-use hir_text_nodes::{Answer, TextError, Words};
-use hir_text_store::{answer_unknown, done_or_stop, refuse};
-use hir_text_words::value_of;
-use std::alloc::{AllocError, Global};
+use hir_text_nodes::{Answer, TextError, Words, next, put, put_yes_or_no};
+use hir_text_store::{answer_unknown, done, refuse};
+use std::alloc::AllocError;
+use std::mem;
 
 /// Lets the parts of a body that was refused wait again. Returns its store.
 fn take_back(
-    alloc: Global,
     refused: RefusedBody,
     pending: &mut Pending,
     answer: &mut Answer,
@@ -25,18 +24,18 @@ fn take_back(
         params,
         self_param,
     } = refused;
-    pending.put_back_params(params, self_param);
+    pending.params = params;
+    pending.self_param = self_param;
     if fault == BodyFault::Memory {
         return Err(TextError::Memory);
     }
-    refuse(alloc, &fault, answer)?;
+    refuse(answer, &fault)?;
     Ok(store)
 }
 
 /// Makes a body of the store and of what waits for it, and adds it to the tables. Returns the store that
 /// questions ask from then on.
 pub(crate) fn make<F: Drop, S: Drop, P: Drop, V: Drop, M: Drop>(
-    alloc: Global,
     def: &DefWithBodyId,
     finished: Finished,
     pending: &mut Pending,
@@ -44,21 +43,21 @@ pub(crate) fn make<F: Drop, S: Drop, P: Drop, V: Drop, M: Drop>(
     answer: &mut Answer,
 ) -> Result<Subject, TextError> {
     let (store, sources) = Box::into_inner(finished);
-    let params = pending.take_params(alloc);
-    match Body::new(alloc, store, params, pending.take_self()) {
+    let params = mem::replace(&mut pending.params, Seq::new(answer.alloc()));
+    match Body::new(answer.alloc(), store, params, pending.self_param.take()) {
         Ok(body) => {
-            let sources = BodySourceMap::new(sources, pending.take_self_source());
-            done_or_stop(tables.add_body(*def, body, sources))?;
+            let sources = BodySourceMap::new(sources, pending.self_source.take());
+            done(tables.add_body(*def, body, sources))?;
             ask_accepted(ExpressionStoreOwnerId::Body(*def), answer)
         }
         Err(refused) => {
-            let store = take_back(alloc, refused, pending, answer)?;
-            ask_again(alloc, store, sources)
+            let store = take_back(refused, pending, answer)?;
+            ask_again(store, sources, answer)
         }
     }
 }
 
-/// The definition whose body the owner is, where it is a body.
+/// Returns the definition whose body the owner is, where it is a body.
 pub fn asked_def(owner: Option<ExpressionStoreOwnerId>) -> Option<DefWithBodyId> {
     match owner {
         Some(ExpressionStoreOwnerId::Body(def)) => Some(def),
@@ -67,7 +66,7 @@ pub fn asked_def(owner: Option<ExpressionStoreOwnerId>) -> Option<DefWithBodyId>
     }
 }
 
-/// The body of this owner, where it is one.
+/// Returns the body of this owner, where it is one.
 pub fn asked_body(tables: &Tables, owner: Option<ExpressionStoreOwnerId>) -> Option<&Body> {
     match asked_def(owner) {
         Some(def) => match Body::of(tables, def) {
@@ -78,77 +77,51 @@ pub fn asked_body(tables: &Tables, owner: Option<ExpressionStoreOwnerId>) -> Opt
     }
 }
 
+/// A question on the parameters of a body.
+#[derive(Clone, Copy)]
+pub enum BodyQuestion {
+    Parts,
+    IsSelf(BindingId),
+}
+
 /// Writes a parameter: the formal and what the user wrote, as `0:1`.
-fn write_param<K>(param: Param<Idx<K>>, answer: &mut Answer) -> Result<(), AllocError> {
-    answer.id(param.formal)?;
+fn put_param<K>(answer: &mut Answer, param: Param<Idx<K>>) -> Result<(), AllocError> {
+    put(answer, &param.formal)?;
     answer.join(":")?;
     answer.join_number(param.user_written.into_raw())
 }
 
 /// Writes the root of a body, its parameters, and its `self`, where it has one.
-fn write_parts(body: &Body, answer: &mut Answer) -> Result<(), AllocError> {
-    answer.word("root")?;
-    answer.id(body.root_expr())?;
-    answer.word("params")?;
+fn put_parts(answer: &mut Answer, body: &Body) -> Result<(), AllocError> {
+    put(answer, &("root", body.root_expr(), "params"))?;
     for param in body.params() {
-        write_param(*param, answer)?;
+        put_param(answer, *param)?;
     }
     if let Some(param) = body.self_param() {
         answer.word("self")?;
-        write_param(param, answer)?;
+        put_param(answer, param)?;
     }
     Ok(())
 }
 
-/// What the first word of a question asks of a body.
-#[derive(Clone, Copy)]
-enum Kind {
-    Parts,
-    IsSelf,
-}
-
-const KINDS: [(&str, Kind); 2] = [("body-parts", Kind::Parts), ("is-self", Kind::IsSelf)];
-
-/// What is asked of a body.
-#[derive(Clone, Copy)]
-enum Question {
-    Parts,
-    IsSelf(BindingId),
-}
-
-/// The question of a line, where it is such a question.
-fn read(word: &[u8], words: &mut Words<'_>) -> Result<Option<Question>, TextError> {
-    let question = match value_of(&KINDS, word) {
-        Some(Kind::Parts) => Question::Parts,
-        Some(Kind::IsSelf) => Question::IsSelf(words.next_id()?),
-        None => return Ok(None),
-    };
-    words.end()?;
-    Ok(Some(question))
-}
-
-/// Writes what is asked of a body, where there is one.
-fn write(body: Option<&Body>, question: Question, answer: &mut Answer) -> Result<(), AllocError> {
-    let Some(body) = body else {
-        return answer_unknown(answer);
-    };
-    match question {
-        Question::Parts => write_parts(body, answer),
-        Question::IsSelf(binding) => answer.yes_or_no(body.is_any_self_param(binding)),
+impl BodyQuestion {
+    /// Reads a question, after its first word; `None` where no such question begins with it.
+    pub fn read(word: &[u8], words: &mut Words<'_>) -> Result<Option<BodyQuestion>, TextError> {
+        match word {
+            b"body-parts" => Ok(Some(BodyQuestion::Parts)),
+            b"is-self" => Ok(Some(BodyQuestion::IsSelf(next(words)?))),
+            _ => Ok(None),
+        }
     }
-}
 
-/// Writes the answer to a question on the body that is asked, where there is one; returns whether it is such
-/// a question.
-pub fn ask_of_body(
-    body: Option<&Body>,
-    word: &[u8],
-    words: &mut Words<'_>,
-    answer: &mut Answer,
-) -> Result<bool, TextError> {
-    let Some(question) = read(word, words)? else {
-        return Ok(false);
-    };
-    write(body, question, answer)?;
-    Ok(true)
+    /// Writes the answer of the body that is asked, where there is one.
+    pub fn ask(self, body: Option<&Body>, answer: &mut Answer) -> Result<(), AllocError> {
+        let Some(body) = body else {
+            return answer_unknown(answer);
+        };
+        match self {
+            BodyQuestion::Parts => put_parts(answer, body),
+            BodyQuestion::IsSelf(binding) => put_yes_or_no(answer, body.is_any_self_param(binding)),
+        }
+    }
 }

@@ -1,178 +1,158 @@
 //! The lines that make a body, a signature or fields of a finished store, and add them to the tables.
 
 use crate::bodies;
-use crate::fields::next_shape;
 use crate::pending::Pending;
-use crate::signatures::{FunctionLine, StructLine, as_plain, read_function, read_struct};
 use crate::subject::{Finished, Subject, ask_accepted, ask_again};
 use hir_base::{
-    AdtId, DefWithBodyId, ExpressionStoreOwnerId, FunctionId, GenericDefId, StructId, VariantId,
+    AdtId, DefWithBodyId, ExpressionStoreOwnerId, FunctionId, GenericDefId, LangItemTarget,
+    StructId, VariantId,
 };
+use hir_collections::Seq;
 use hir_defs::{
     FieldsShape, FunctionParts, FunctionSignature, GenericParams, PlainDef, PlainParts,
     PlainSignature, RefusedSignature, SignatureFault, StructParts, StructSignature, Tables,
     TablesOf, VariantFields, VariantParts,
 };
 use hir_store::{ExpressionStore, ExpressionStoreSourceMap};
-use hir_text_nodes::{Answer, TextError, Words, as_def_with_body, as_variant, next_def};
-use hir_text_store::{done_or_stop, refuse};
-use hir_text_words::value_of;
-use std::alloc::Global;
+use hir_text_nodes::{Answer, TextError, Words, next, opt_abi, prefixed};
+use hir_text_store::{done, refuse};
+use std::mem;
 
-/// What a line makes of a finished store.
+/// What a line makes of a finished store. In the parts of a signature the generic parameters and the store
+/// are empty: those that wait come in their place.
 #[derive(Drop)]
 pub enum Definition {
     Body(DefWithBodyId),
-    Function(FunctionId, FunctionLine),
-    Struct(StructId, StructLine),
+    Function(FunctionId, Box<FunctionParts>),
+    Struct(StructId, Box<StructParts>),
     Plain(PlainDef),
     Variant(VariantId, FieldsShape),
 }
 
-/// What the first word of a line makes.
-#[derive(Clone, Copy)]
-enum Kind {
-    Body,
-    Function,
-    Struct,
-    Plain,
-    Variant,
-}
-
-const KINDS: [(&str, Kind); 5] = [
-    ("body", Kind::Body),
-    ("function", Kind::Function),
-    ("struct", Kind::Struct),
-    ("plain", Kind::Plain),
-    ("variant", Kind::Variant),
-];
-
-/// What comes after the first word.
-fn read_kind(alloc: Global, kind: Kind, words: &mut Words<'_>) -> Result<Definition, TextError> {
-    match kind {
-        Kind::Body => Ok(Definition::Body(as_def_with_body(next_def(words)?)?)),
-        Kind::Function => {
-            let id = words.next_def()?;
-            Ok(Definition::Function(id, read_function(words, alloc)?))
-        }
-        Kind::Struct => {
-            let id = words.next_def()?;
-            Ok(Definition::Struct(id, read_struct(words, alloc)?))
-        }
-        Kind::Plain => Ok(Definition::Plain(as_plain(next_def(words)?)?)),
-        Kind::Variant => {
-            let id = as_variant(next_def(words)?)?;
-            Ok(Definition::Variant(id, next_shape(words)?))
-        }
-    }
-}
-
-/// What a line makes of a finished store, where it is such a line.
-pub fn read(
-    alloc: Global,
-    word: &[u8],
-    words: &mut Words<'_>,
-) -> Result<Option<Definition>, TextError> {
-    let Some(kind) = value_of(&KINDS, word) else {
-        return Ok(None);
+fn read_function(words: &mut Words<'_>) -> Result<Box<FunctionParts>, TextError> {
+    let parts = FunctionParts {
+        name: next(words)?,
+        params: next(words)?,
+        ret_type: next(words)?,
+        is_const: words.flag(b"const"),
+        is_async: words.flag(b"async"),
+        is_unsafe: words.flag(b"unsafe"),
+        is_explicit_safe: words.flag(b"safe"),
+        abi: opt_abi(words)?,
+        legacy_const_indices: prefixed(words, b"legacy:")?,
+        generic_params: GenericParams::empty(words.alloc()),
+        store: ExpressionStore::empty(words.alloc()),
     };
-    let definition = read_kind(alloc, kind, words)?;
-    words.end()?;
-    Ok(Some(definition))
+    Ok(Box::new(words.alloc(), parts)?)
 }
 
-/// The parts of a signature.
-trait Parts: Sized + Drop {
-    /// What of them waited, and the store.
-    fn take_apart(self) -> (GenericParams, ExpressionStore);
+fn read_struct(words: &mut Words<'_>) -> Result<Box<StructParts>, TextError> {
+    let parts = StructParts {
+        name: next(words)?,
+        shape: next(words)?,
+        is_fundamental: words.flag(b"fundamental"),
+        generic_params: GenericParams::empty(words.alloc()),
+        store: ExpressionStore::empty(words.alloc()),
+    };
+    Ok(Box::new(words.alloc(), parts)?)
 }
 
-impl Parts for FunctionParts {
-    fn take_apart(self) -> (GenericParams, ExpressionStore) {
-        (self.generic_params, self.store)
+/// Takes a definition whose signature keeps only the generic parameters.
+pub(crate) fn next_plain(words: &mut Words<'_>) -> Result<PlainDef, TextError> {
+    match next::<LangItemTarget>(words)? {
+        LangItemTarget::ImplId(id) => Ok(PlainDef::Impl(id)),
+        LangItemTarget::EnumId(id) => Ok(PlainDef::Enum(id)),
+        LangItemTarget::StaticId(id) => Ok(PlainDef::Static(id)),
+        LangItemTarget::UnionId(id) => Ok(PlainDef::Union(id)),
+        LangItemTarget::TypeAliasId(id) => Ok(PlainDef::TypeAlias(id)),
+        LangItemTarget::TraitId(id) => Ok(PlainDef::Trait(id)),
+        LangItemTarget::ConstId(id) => Ok(PlainDef::Const(id)),
+        LangItemTarget::FunctionId(_)
+        | LangItemTarget::StructId(_)
+        | LangItemTarget::EnumVariantId(_)
+        | LangItemTarget::MacroId(_) => Err(words.reject()),
     }
 }
 
-impl Parts for StructParts {
-    fn take_apart(self) -> (GenericParams, ExpressionStore) {
-        (self.generic_params, self.store)
-    }
-}
-
-impl Parts for PlainParts {
-    fn take_apart(self) -> (GenericParams, ExpressionStore) {
-        (self.generic_params, self.store)
-    }
-}
-
-/// The answer is why a definition is refused.
-fn refuse_signature(
-    alloc: Global,
-    fault: SignatureFault,
-    answer: &mut Answer,
-) -> Result<(), TextError> {
+fn refuse_signature(answer: &mut Answer, fault: SignatureFault) -> Result<(), TextError> {
     if fault == SignatureFault::Memory {
         return Err(TextError::Memory);
     }
-    Ok(refuse(alloc, &fault, answer)?)
+    Ok(refuse(answer, &fault)?)
 }
 
 /// Lets the generic parameters of a signature that was refused wait again, and its store be asked again.
-fn take_back<P: Parts>(
-    alloc: Global,
-    refused: RefusedSignature<P>,
-    sources: ExpressionStoreSourceMap,
+fn take_back(
+    fault: SignatureFault,
+    parts: (GenericParams, ExpressionStore, ExpressionStoreSourceMap),
     pending: &mut Pending,
     answer: &mut Answer,
 ) -> Result<Subject, TextError> {
-    refuse_signature(alloc, refused.fault, answer)?;
-    let (generic_params, store) = refused.parts.take_apart();
+    let (generic_params, store, sources) = parts;
+    refuse_signature(answer, fault)?;
     pending.put_back_generics(&generic_params)?;
-    ask_again(alloc, store, sources)
+    ask_again(store, sources, answer)
 }
 
 fn make_function<S: Drop, P: Drop, V: Drop, B: Drop, N: Drop>(
-    alloc: Global,
     id: FunctionId,
-    line: FunctionLine,
+    parts: Box<FunctionParts>,
     finished: Finished,
     pending: &mut Pending,
     tables: &mut TablesOf<FunctionSignature, S, P, V, B, ExpressionStoreSourceMap, N>,
     answer: &mut Answer,
 ) -> Result<Subject, TextError> {
     let (store, sources) = Box::into_inner(finished);
-    match FunctionSignature::new(line.parts(pending.take_generics(alloc), store)) {
+    let mut parts = Box::into_inner(parts);
+    parts.store = store;
+    parts.generic_params = pending.take_generics(answer.alloc());
+    match FunctionSignature::new(parts) {
         Ok(signature) => {
-            done_or_stop(tables.add_function(id, signature, sources))?;
+            done(tables.add_function(id, signature, sources))?;
             let def = GenericDefId::FunctionId(id);
             ask_accepted(ExpressionStoreOwnerId::Signature(def), answer)
         }
-        Err(refused) => take_back(alloc, refused, sources, pending, answer),
+        Err(RefusedSignature { fault, parts }) => {
+            let FunctionParts {
+                generic_params,
+                store,
+                ..
+            } = parts;
+            take_back(fault, (generic_params, store, sources), pending, answer)
+        }
     }
 }
 
 fn make_struct<F: Drop, P: Drop, V: Drop, B: Drop, N: Drop>(
-    alloc: Global,
     id: StructId,
-    line: StructLine,
+    parts: Box<StructParts>,
     finished: Finished,
     pending: &mut Pending,
     tables: &mut TablesOf<F, StructSignature, P, V, B, ExpressionStoreSourceMap, N>,
     answer: &mut Answer,
 ) -> Result<Subject, TextError> {
     let (store, sources) = Box::into_inner(finished);
-    match StructSignature::new(line.parts(pending.take_generics(alloc), store)) {
+    let mut parts = Box::into_inner(parts);
+    parts.store = store;
+    parts.generic_params = pending.take_generics(answer.alloc());
+    match StructSignature::new(parts) {
         Ok(signature) => {
-            done_or_stop(tables.add_struct(id, signature, sources))?;
+            done(tables.add_struct(id, signature, sources))?;
             let def = GenericDefId::AdtId(AdtId::StructId(id));
             ask_accepted(ExpressionStoreOwnerId::Signature(def), answer)
         }
-        Err(refused) => take_back(alloc, refused, sources, pending, answer),
+        Err(RefusedSignature { fault, parts }) => {
+            let StructParts {
+                generic_params,
+                store,
+                ..
+            } = parts;
+            take_back(fault, (generic_params, store, sources), pending, answer)
+        }
     }
 }
 
 fn make_plain<F: Drop, S: Drop, V: Drop, B: Drop, N: Drop>(
-    alloc: Global,
     def: &PlainDef,
     finished: Finished,
     pending: &mut Pending,
@@ -180,35 +160,27 @@ fn make_plain<F: Drop, S: Drop, V: Drop, B: Drop, N: Drop>(
     answer: &mut Answer,
 ) -> Result<Subject, TextError> {
     let (store, sources) = Box::into_inner(finished);
-    let generic_params = pending.take_generics(alloc);
+    let generic_params = pending.take_generics(answer.alloc());
     match PlainSignature::new(PlainParts {
         generic_params,
         store,
     }) {
         Ok(signature) => {
-            done_or_stop(tables.add_plain(*def, signature, sources))?;
+            done(tables.add_plain(*def, signature, sources))?;
             ask_accepted(ExpressionStoreOwnerId::Signature(def.generic_def()), answer)
         }
-        Err(refused) => take_back(alloc, refused, sources, pending, answer),
+        Err(RefusedSignature { fault, parts }) => {
+            let PlainParts {
+                generic_params,
+                store,
+                ..
+            } = parts;
+            take_back(fault, (generic_params, store, sources), pending, answer)
+        }
     }
 }
 
-/// Lets the fields of a variant that was refused wait again, and its store be asked again.
-fn take_fields_back(
-    alloc: Global,
-    refused: RefusedSignature<VariantParts>,
-    sources: ExpressionStoreSourceMap,
-    pending: &mut Pending,
-    answer: &mut Answer,
-) -> Result<Subject, TextError> {
-    refuse_signature(alloc, refused.fault, answer)?;
-    let VariantParts { fields, store, .. } = refused.parts;
-    pending.put_back_fields(fields);
-    ask_again(alloc, store, sources)
-}
-
 fn make_variant<F: Drop, S: Drop, P: Drop, B: Drop, N: Drop>(
-    alloc: Global,
     id: &VariantId,
     shape: FieldsShape,
     finished: Finished,
@@ -217,41 +189,59 @@ fn make_variant<F: Drop, S: Drop, P: Drop, B: Drop, N: Drop>(
     answer: &mut Answer,
 ) -> Result<Subject, TextError> {
     let (store, sources) = Box::into_inner(finished);
-    let fields = pending.take_fields(alloc);
+    let fields = mem::replace(&mut pending.fields, Seq::new(answer.alloc()));
     match VariantFields::new(VariantParts {
         shape,
         fields,
         store,
     }) {
         Ok(variant) => {
-            done_or_stop(tables.add_fields(*id, variant, sources))?;
+            done(tables.add_fields(*id, variant, sources))?;
             ask_accepted(ExpressionStoreOwnerId::VariantFields(*id), answer)
         }
-        Err(refused) => take_fields_back(alloc, refused, sources, pending, answer),
+        Err(RefusedSignature { fault, parts }) => {
+            let VariantParts { fields, store, .. } = parts;
+            refuse_signature(answer, fault)?;
+            pending.fields = fields;
+            ask_again(store, sources, answer)
+        }
     }
 }
 
-/// Makes the definition of the store and of what waits for it, and adds it to the tables. Returns the store
-/// that questions ask from then on: that of the definition, or what was given back.
-pub fn make(
-    alloc: Global,
-    definition: Definition,
-    finished: Finished,
-    pending: &mut Pending,
-    tables: &mut Tables,
-    answer: &mut Answer,
-) -> Result<Subject, TextError> {
-    match definition {
-        Definition::Body(def) => bodies::make(alloc, &def, finished, pending, tables, answer),
-        Definition::Function(id, line) => {
-            make_function(alloc, id, line, finished, pending, tables, answer)
-        }
-        Definition::Struct(id, line) => {
-            make_struct(alloc, id, line, finished, pending, tables, answer)
-        }
-        Definition::Plain(def) => make_plain(alloc, &def, finished, pending, tables, answer),
-        Definition::Variant(id, shape) => {
-            make_variant(alloc, &id, shape, finished, pending, tables, answer)
+impl Definition {
+    /// Reads a definition, after the first word of its line; `None` where no such line begins with it.
+    pub fn read(word: &[u8], words: &mut Words<'_>) -> Result<Option<Definition>, TextError> {
+        Ok(Some(match word {
+            b"body" => Definition::Body(next(words)?),
+            b"function" => Definition::Function(next(words)?, read_function(words)?),
+            b"struct" => Definition::Struct(next(words)?, read_struct(words)?),
+            b"plain" => Definition::Plain(next_plain(words)?),
+            b"variant" => Definition::Variant(next(words)?, next(words)?),
+            _ => return Ok(None),
+        }))
+    }
+
+    /// Makes the definition of the store and of what waits for it, and adds it to the tables. Returns the
+    /// store that questions ask from then on: that of the definition, or what was given back.
+    pub fn make(
+        self,
+        finished: Finished,
+        pending: &mut Pending,
+        tables: &mut Tables,
+        answer: &mut Answer,
+    ) -> Result<Subject, TextError> {
+        match self {
+            Definition::Body(def) => bodies::make(&def, finished, pending, tables, answer),
+            Definition::Function(id, parts) => {
+                make_function(id, parts, finished, pending, tables, answer)
+            }
+            Definition::Struct(id, parts) => {
+                make_struct(id, parts, finished, pending, tables, answer)
+            }
+            Definition::Plain(def) => make_plain(&def, finished, pending, tables, answer),
+            Definition::Variant(id, shape) => {
+                make_variant(&id, shape, finished, pending, tables, answer)
+            }
         }
     }
 }

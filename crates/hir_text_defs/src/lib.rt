@@ -3,20 +3,15 @@
 
 mod bodies;
 mod definitions;
-mod entry_text;
-mod fields;
+mod entries;
 mod generics;
 mod pending;
 mod questions;
-mod signature_text;
-mod signatures;
 mod subject;
-mod tables;
 
-pub use bodies::{ask_of_body, asked_body, asked_def};
-pub use definitions::{Definition, make, read};
-pub use pending::Pending;
-pub use questions::ask;
-pub use signatures::{FunctionLine, StructLine};
+pub use bodies::{BodyQuestion, asked_body, asked_def};
+pub use definitions::Definition;
+pub use entries::Entry;
+pub use pending::{Part, Pending};
+pub use questions::Question;
 pub use subject::{Finished, Subject};
-pub use tables::line;

@@ -1,93 +1,75 @@
 //! What waits for the next body, signature or fields: parameters, `self` and its source, generic parameters,
 //! predicates and fields.
 
-use crate::fields::read_field;
 use hir_base::{InFile, LifetimeParamKind, SelfParamPtr, TypeOrConstParamKind};
 use hir_collections::{Arena, Idx, Seq, TryClone};
 use hir_defs::{
     FieldData, GenericParams, LifetimeParamData, Param, TypeOrConstParamData, WherePredicate,
 };
 use hir_node::{BindingId, PatId};
-use hir_text_nodes::{
-    TextError, Words, next_source, pointer, read_const_param, read_lifetime_param, read_type_param,
-    read_where, read_where_lifetime,
-};
-use hir_text_words::value_of;
+use hir_text_nodes::{TextError, Words, next, next_where, next_where_lifetime, opt_next};
+use hir_text_store::done;
 use std::alloc::Global;
 use std::mem;
 
-/// What waits for the next body, signature or fields.
+/// A part of the next body, signature or fields.
 #[derive(Drop)]
-pub struct Pending {
-    params: Seq<Param<PatId>>,
-    self_param: Option<Param<BindingId>>,
-    self_source: Option<InFile<SelfParamPtr>>,
-    type_or_consts: Arena<TypeOrConstParamKind, TypeOrConstParamData>,
-    lifetimes: Arena<LifetimeParamKind, LifetimeParamData>,
-    predicates: Seq<WherePredicate>,
-    fields: Seq<FieldData>,
+pub enum Part {
+    Param(Param<PatId>),
+    SelfParam(Param<BindingId>),
+    SelfSource(InFile<SelfParamPtr>),
+    TypeOrConst(TypeOrConstParamData),
+    Lifetime(LifetimeParamData),
+    Predicate(WherePredicate),
+    Field(FieldData),
 }
 
-/// A parameter: the formal, and what the user wrote, which is the same where it is left out.
-fn read_param<K>(words: &mut Words<'_>) -> Result<Param<Idx<K>>, TextError> {
-    let formal = words.next_number()?;
-    let user_written = if words.is_end() {
-        formal
-    } else {
-        words.next_number()?
-    };
+/// Takes a parameter: the formal, and what the user wrote, which is the same where it is left out.
+fn next_param<K>(words: &mut Words<'_>) -> Result<Param<Idx<K>>, TextError> {
+    let formal: u32 = next(words)?;
+    let user_written = opt_next(words)?.unwrap_or(formal);
     Ok(Param {
         formal: Idx::from_raw(formal),
         user_written: Idx::from_raw(user_written),
     })
 }
 
-/// What the first word of a line says that comes next.
-#[derive(Clone, Copy)]
-enum Kind {
-    Param,
-    SelfParam,
-    SelfSource,
-    TypeParam,
-    ConstParam,
-    LifetimeParam,
-    Where,
-    WhereLifetime,
-    Field,
+impl Part {
+    /// Reads a part, after the first word of its line; `None` where no such line begins with it.
+    pub fn read(word: &[u8], words: &mut Words<'_>) -> Result<Option<Part>, TextError> {
+        Ok(Some(match word {
+            b"param" => Part::Param(next_param(words)?),
+            b"self" => Part::SelfParam(next_param(words)?),
+            b"self-source" => Part::SelfSource(next(words)?),
+            b"type-param" => {
+                Part::TypeOrConst(TypeOrConstParamData::TypeParamData(next(words)?))
+            }
+            b"const-param" => {
+                Part::TypeOrConst(TypeOrConstParamData::ConstParamData(next(words)?))
+            }
+            b"lifetime-param" => Part::Lifetime(next(words)?),
+            b"where" => Part::Predicate(next_where(words)?),
+            b"where-lifetime" => Part::Predicate(next_where_lifetime(words)?),
+            b"field" => Part::Field(next(words)?),
+            _ => return Ok(None),
+        }))
+    }
 }
 
-const KINDS: [(&str, Kind); 9] = [
-    ("param", Kind::Param),
-    ("self", Kind::SelfParam),
-    ("self-source", Kind::SelfSource),
-    ("type-param", Kind::TypeParam),
-    ("const-param", Kind::ConstParam),
-    ("lifetime-param", Kind::LifetimeParam),
-    ("where", Kind::Where),
-    ("where-lifetime", Kind::WhereLifetime),
-    ("field", Kind::Field),
-];
-
-/// What was read, where the line ends behind it.
-fn last<T: Drop>(item: Result<T, TextError>, words: &mut Words<'_>) -> Result<T, TextError> {
-    let item = item?;
-    words.end()?;
-    Ok(item)
-}
-
-/// Puts what was read after the others.
-fn push<T: Drop>(list: &mut Seq<T>, item: Result<T, TextError>) -> Result<(), TextError> {
-    Ok(list.push(item?)?)
-}
-
-/// The same in an arena.
-fn put<K, T: Drop>(arena: &mut Arena<K, T>, item: Result<T, TextError>) -> Result<(), TextError> {
-    let _ = arena.alloc(item?)?;
-    Ok(())
+/// What waits for the next body, signature or fields.
+#[derive(Drop)]
+pub struct Pending {
+    pub(crate) params: Seq<Param<PatId>>,
+    pub(crate) self_param: Option<Param<BindingId>>,
+    pub(crate) self_source: Option<InFile<SelfParamPtr>>,
+    type_or_consts: Arena<TypeOrConstParamKind, TypeOrConstParamData>,
+    lifetimes: Arena<LifetimeParamKind, LifetimeParamData>,
+    predicates: Seq<WherePredicate>,
+    pub(crate) fields: Seq<FieldData>,
 }
 
 impl Pending {
-    /// Nothing waits.
+    /// Returns that nothing waits.
     pub fn new(alloc: Global) -> Pending {
         Pending {
             params: Seq::new(alloc),
@@ -100,78 +82,23 @@ impl Pending {
         }
     }
 
-    /// Adds what a line of this kind says. The line is read to its end first: a bad one adds nothing.
-    fn add(&mut self, alloc: Global, kind: Kind, words: &mut Words<'_>) -> Result<(), TextError> {
-        match kind {
-            Kind::Param => push(&mut self.params, last(read_param(words), words)),
-            Kind::SelfParam => {
-                self.self_param = Some(last(read_param(words), words)?);
+    /// Lets a part wait.
+    pub fn add(&mut self, part: Part) -> Result<(), TextError> {
+        match part {
+            Part::Param(param) => done(self.params.push(param)),
+            Part::SelfParam(param) => {
+                self.self_param = Some(param);
                 Ok(())
             }
-            Kind::SelfSource => {
-                self.self_source = Some(pointer(last(next_source(words), words)?));
+            Part::SelfSource(source) => {
+                self.self_source = Some(source);
                 Ok(())
             }
-            Kind::TypeParam => {
-                let item = last(read_type_param(words, alloc), words);
-                put(&mut self.type_or_consts, item)
-            }
-            Kind::ConstParam => {
-                let item = last(read_const_param(words, alloc), words);
-                put(&mut self.type_or_consts, item)
-            }
-            Kind::LifetimeParam => {
-                let item = last(read_lifetime_param(words, alloc), words);
-                put(&mut self.lifetimes, item)
-            }
-            Kind::Where => push(&mut self.predicates, last(read_where(words, alloc), words)),
-            Kind::WhereLifetime => {
-                push(
-                    &mut self.predicates,
-                    last(read_where_lifetime(words), words),
-                )
-            }
-            Kind::Field => push(&mut self.fields, last(read_field(words, alloc), words)),
+            Part::TypeOrConst(param) => done(self.type_or_consts.alloc(param)),
+            Part::Lifetime(param) => done(self.lifetimes.alloc(param)),
+            Part::Predicate(predicate) => done(self.predicates.push(predicate)),
+            Part::Field(field) => done(self.fields.push(field)),
         }
-    }
-
-    /// Does what a line says that makes a part of what comes next; returns whether it is such a line.
-    pub fn line(
-        &mut self,
-        alloc: Global,
-        word: &[u8],
-        words: &mut Words<'_>,
-    ) -> Result<bool, TextError> {
-        let Some(kind) = value_of(&KINDS, word) else {
-            return Ok(false);
-        };
-        self.add(alloc, kind, words)?;
-        Ok(true)
-    }
-
-    /// Takes the parameters.
-    pub(crate) fn take_params(&mut self, alloc: Global) -> Seq<Param<PatId>> {
-        mem::replace(&mut self.params, Seq::new(alloc))
-    }
-
-    /// Takes the `self`, where there is one.
-    pub(crate) fn take_self(&mut self) -> Option<Param<BindingId>> {
-        self.self_param.take()
-    }
-
-    /// Takes where the `self` is written, where that is known.
-    pub(crate) fn take_self_source(&mut self) -> Option<InFile<SelfParamPtr>> {
-        self.self_source.take()
-    }
-
-    /// Lets the parts of a body that was refused wait again.
-    pub(crate) fn put_back_params(
-        &mut self,
-        params: Seq<Param<PatId>>,
-        self_param: Option<Param<BindingId>>,
-    ) {
-        self.params = params;
-        self.self_param = self_param;
     }
 
     /// Takes the generic parameters and the predicates.
@@ -194,15 +121,5 @@ impl Pending {
             self.predicates.push(predicate.try_clone()?)?;
         }
         Ok(())
-    }
-
-    /// Takes the fields.
-    pub(crate) fn take_fields(&mut self, alloc: Global) -> Seq<FieldData> {
-        mem::replace(&mut self.fields, Seq::new(alloc))
-    }
-
-    /// Lets the fields of a variant that was refused wait again.
-    pub(crate) fn put_back_fields(&mut self, fields: Seq<FieldData>) {
-        self.fields = fields;
     }
 }

@@ -1,287 +1,240 @@
-//! All questions that tables answer.
+//! Questions on the tables.
 
-use crate::entry_text::{write_opt_name, write_opt_repr, write_words};
-use crate::generics;
-use crate::signature_text::{write_function, write_plain, write_struct, write_variant};
-use crate::signatures::as_plain;
+use crate::definitions::next_plain;
+use crate::generics::GenericsQuestion;
 use hir_base::{
     CrateId, DefWithBodyId, Edition, EnumVariantId, FunctionId, GenericDefId, NamedDef, StructId,
     VariantId,
 };
+use hir_collections::Text;
 use hir_defs::{
-    Bodies, Body, BodySourceMap, FunctionSignature, GenericParams, PlainDef, PlainSignature,
+    Bodies, Body, BodySourceMap, FunctionSignature, GenericParams, PlainDef, PlainSignature, Repr,
     StructSignature, Tables, TablesOf, VariantFields,
 };
+use hir_store_core::Missing;
 use hir_text_nodes::{
-    Answer, TextError, Words, as_def_with_body, as_generic, as_named, as_variant, next_def,
-    next_edition, syntax, write_source,
+    Answer, TextError, Words, next, put, put_abi, put_each, put_found, put_prefixed, syntax,
 };
 use hir_text_store::{differs, refuse_missing};
-use hir_text_words::value_of;
-use std::alloc::{AllocError, Global};
+use std::alloc::AllocError;
 
-/// What the first word of a question asks.
+/// A question on an entry of the tables besides bodies and signatures.
 #[derive(Clone, Copy)]
-enum Kind {
-    Name,
-    CrateName,
-    Parent,
-    Repr,
-    RawWords,
-    Function,
-    Struct,
-    Plain,
-    Variant,
-    SelfSyntax,
-    Generics(generics::Kind),
-}
-
-const KINDS: [(&str, Kind); 21] = [
-    ("name-of", Kind::Name),
-    ("crate-name-of", Kind::CrateName),
-    ("parent-of", Kind::Parent),
-    ("repr-of", Kind::Repr),
-    ("raw-words-of", Kind::RawWords),
-    ("function-of", Kind::Function),
-    ("struct-of", Kind::Struct),
-    ("plain-of", Kind::Plain),
-    ("variant-of", Kind::Variant),
-    ("self-syntax", Kind::SelfSyntax),
-    ("generics", Kind::Generics(generics::Kind::Counts)),
-    ("params", Kind::Generics(generics::Kind::TypesAndConsts)),
-    ("lifetimes", Kind::Generics(generics::Kind::Lifetimes)),
-    (
-        "early-lifetimes",
-        Kind::Generics(generics::Kind::EarlyLifetimes),
-    ),
-    (
-        "late-lifetimes",
-        Kind::Generics(generics::Kind::LateLifetimes),
-    ),
-    ("predicates", Kind::Generics(generics::Kind::Predicates)),
-    ("trait-self", Kind::Generics(generics::Kind::TraitSelf)),
-    ("find-type", Kind::Generics(generics::Kind::FindType)),
-    ("find-const", Kind::Generics(generics::Kind::FindConst)),
-    (
-        "find-lifetime",
-        Kind::Generics(generics::Kind::FindLifetime),
-    ),
-    (
-        "lifetime-index",
-        Kind::Generics(generics::Kind::LifetimeIndex),
-    ),
-];
-
-/// What is asked of the tables.
-#[derive(Drop)]
-enum Question {
+pub enum EntryQuestion {
     Name(NamedDef),
     CrateName(CrateId),
     Parent(EnumVariantId),
     Repr(StructId),
     RawWords(Edition),
+}
+
+/// A question on the tables.
+#[derive(Drop)]
+pub enum Question {
+    Entry(EntryQuestion),
     Function(FunctionId),
     Struct(StructId),
     Plain(PlainDef),
     Variant(VariantId),
     SelfSyntax(DefWithBodyId),
-    Generics(generics::Question, GenericDefId),
+    Generics(GenericsQuestion, GenericDefId),
 }
 
-/// A definition that has generic parameters, after a space.
-fn next_generic(words: &mut Words<'_>) -> Result<GenericDefId, TextError> {
-    as_generic(next_def(words)?)
-}
-
-/// What is asked of the generic parameters of a definition.
+/// Reads a question on generic parameters; the line goes on with the definition.
 fn read_generics(
-    alloc: Global,
-    kind: generics::Kind,
+    word: &[u8],
     words: &mut Words<'_>,
-) -> Result<Question, TextError> {
-    let question = generics::read(alloc, kind, words)?;
-    match next_generic(words) {
+) -> Result<Option<GenericsQuestion>, TextError> {
+    Ok(Some(match word {
+        b"generics" => GenericsQuestion::Counts,
+        b"params" => GenericsQuestion::TypesAndConsts,
+        b"lifetimes" => GenericsQuestion::Lifetimes,
+        b"early-lifetimes" => GenericsQuestion::EarlyLifetimes,
+        b"late-lifetimes" => GenericsQuestion::LateLifetimes,
+        b"predicates" => GenericsQuestion::Predicates,
+        b"trait-self" => GenericsQuestion::TraitSelf,
+        b"find-type" => GenericsQuestion::FindType(next(words)?),
+        b"find-const" => GenericsQuestion::FindConst(next(words)?),
+        b"find-lifetime" => GenericsQuestion::FindLifetime(next(words)?),
+        b"lifetime-index" => GenericsQuestion::LifetimeIndex(next(words)?),
+        _ => return Ok(None),
+    }))
+}
+
+/// Takes the definition after a question on generic parameters.
+fn with_def(words: &mut Words<'_>, question: GenericsQuestion) -> Result<Question, TextError> {
+    match next(words) {
         Ok(def) => Ok(Question::Generics(question, def)),
         Err(stop) => Err(stop),
     }
 }
 
-/// What comes after the first word.
-fn read(alloc: Global, kind: Kind, words: &mut Words<'_>) -> Result<Question, TextError> {
-    match kind {
-        Kind::Name => Ok(Question::Name(as_named(next_def(words)?)?)),
-        Kind::CrateName => Ok(Question::CrateName(words.next_def()?)),
-        Kind::Parent => Ok(Question::Parent(words.next_def()?)),
-        Kind::Repr => Ok(Question::Repr(words.next_def()?)),
-        Kind::RawWords => Ok(Question::RawWords(next_edition(words)?)),
-        Kind::Function => Ok(Question::Function(words.next_def()?)),
-        Kind::Struct => Ok(Question::Struct(words.next_def()?)),
-        Kind::Plain => Ok(Question::Plain(as_plain(next_def(words)?)?)),
-        Kind::Variant => Ok(Question::Variant(as_variant(next_def(words)?)?)),
-        Kind::SelfSyntax => Ok(Question::SelfSyntax(as_def_with_body(next_def(words)?)?)),
-        Kind::Generics(kind) => read_generics(alloc, kind, words),
+/// Writes the name of what has one, or `none`.
+fn put_name(answer: &mut Answer, found: Result<Option<&Text>, Missing>) -> Result<(), AllocError> {
+    match found {
+        Ok(name) => put_found(answer, &name),
+        Err(missing) => refuse_missing(answer, missing),
     }
 }
 
-/// The question of a line, where it is such a question.
-fn read_line(
-    alloc: Global,
-    word: &[u8],
-    words: &mut Words<'_>,
-) -> Result<Option<Question>, TextError> {
-    let Some(kind) = value_of(&KINDS, word) else {
-        return Ok(None);
+fn put_repr(answer: &mut Answer, repr: Option<Repr>) -> Result<(), AllocError> {
+    let Some(repr) = repr else {
+        return answer.word("none");
     };
-    let question = read(alloc, kind, words)?;
-    words.end()?;
-    Ok(Some(question))
+    answer.flag(repr.c, "C")?;
+    put_prefixed(answer, "align:", &repr.align)?;
+    put_prefixed(answer, "pack:", &repr.pack)
 }
 
 // These are proved for tables of any other entries, since tables of what they keep are costly to lay out.
-fn name<F: Drop, S: Drop, P: Drop, V: Drop, B: Drop, M: Drop, N: Drop>(
-    tables: &TablesOf<F, S, P, V, B, M, N>,
-    def: &NamedDef,
+fn put_entry<F: Drop, S: Drop, P: Drop, V: Drop, B: Drop, M: Drop, N: Drop>(
     answer: &mut Answer,
+    tables: &TablesOf<F, S, P, V, B, M, N>,
+    question: &EntryQuestion,
 ) -> Result<(), AllocError> {
-    match tables.name(*def) {
-        Ok(name) => write_opt_name(name, answer),
-        Err(missing) => refuse_missing(missing, answer),
+    match question {
+        EntryQuestion::Name(def) => put_name(answer, tables.name(*def)),
+        EntryQuestion::CrateName(id) => put_name(answer, tables.crate_name(*id)),
+        EntryQuestion::Parent(id) => match tables.variant_parent(*id) {
+            Ok(parent) => put(answer, &parent),
+            Err(missing) => refuse_missing(answer, missing),
+        },
+        EntryQuestion::Repr(id) => put_repr(answer, tables.repr(*id)),
+        EntryQuestion::RawWords(edition) => put_each(answer, tables.raw_words(*edition)),
     }
 }
 
-fn crate_name<F: Drop, S: Drop, P: Drop, V: Drop, B: Drop, M: Drop, N: Drop>(
-    tables: &TablesOf<F, S, P, V, B, M, N>,
-    id: CrateId,
+fn put_function<S: Drop, P: Drop, V: Drop, B: Drop, M: Drop, N: Drop>(
     answer: &mut Answer,
-) -> Result<(), AllocError> {
-    match tables.crate_name(id) {
-        Ok(name) => write_opt_name(name, answer),
-        Err(missing) => refuse_missing(missing, answer),
-    }
-}
-
-fn parent<F: Drop, S: Drop, P: Drop, V: Drop, B: Drop, M: Drop, N: Drop>(
-    tables: &TablesOf<F, S, P, V, B, M, N>,
-    id: EnumVariantId,
-    answer: &mut Answer,
-) -> Result<(), AllocError> {
-    match tables.variant_parent(id) {
-        Ok(parent) => answer.number(parent.into_raw()),
-        Err(missing) => refuse_missing(missing, answer),
-    }
-}
-
-fn function<S: Drop, P: Drop, V: Drop, B: Drop, M: Drop, N: Drop>(
     tables: &TablesOf<FunctionSignature, S, P, V, B, M, N>,
     id: FunctionId,
-    answer: &mut Answer,
 ) -> Result<(), AllocError> {
-    match tables.function_signature(id) {
-        Ok(signature) => write_function(id, signature, answer),
-        Err(missing) => refuse_missing(missing, answer),
-    }
+    let signature = match tables.function_signature(id) {
+        Ok(signature) => signature,
+        Err(missing) => return refuse_missing(answer, missing),
+    };
+    put(
+        answer,
+        &("function", id, signature.name(), signature.params()),
+    )?;
+    put(answer, &signature.ret_type())?;
+    answer.flag(signature.is_const(), "const")?;
+    answer.flag(signature.is_async(), "async")?;
+    answer.flag(signature.is_unsafe(), "unsafe")?;
+    answer.flag(signature.is_explicit_safe(), "safe")?;
+    put_abi(answer, signature.abi())?;
+    put_prefixed(answer, "legacy:", &signature.legacy_const_indices())
 }
 
-fn structure<F: Drop, P: Drop, V: Drop, B: Drop, M: Drop, N: Drop>(
+fn put_struct<F: Drop, P: Drop, V: Drop, B: Drop, M: Drop, N: Drop>(
+    answer: &mut Answer,
     tables: &TablesOf<F, StructSignature, P, V, B, M, N>,
     id: StructId,
-    answer: &mut Answer,
 ) -> Result<(), AllocError> {
     match tables.struct_signature(id) {
-        Ok(signature) => write_struct(id, signature, answer),
-        Err(missing) => refuse_missing(missing, answer),
+        Ok(signature) => {
+            put(answer, &("struct", id, signature.name(), signature.shape()))?;
+            answer.flag(signature.is_fundamental(), "fundamental")
+        }
+        Err(missing) => refuse_missing(answer, missing),
     }
 }
 
-fn plain<F: Drop, S: Drop, V: Drop, B: Drop, M: Drop, N: Drop>(
+fn put_plain<F: Drop, S: Drop, V: Drop, B: Drop, M: Drop, N: Drop>(
+    answer: &mut Answer,
     tables: &TablesOf<F, S, PlainSignature, V, B, M, N>,
     def: &PlainDef,
-    answer: &mut Answer,
 ) -> Result<(), AllocError> {
     match tables.plain_signature(*def) {
-        Ok(_) => write_plain(*def, answer),
-        Err(missing) => refuse_missing(missing, answer),
+        Ok(_) => put(answer, &("plain", def.generic_def())),
+        Err(missing) => refuse_missing(answer, missing),
     }
 }
 
-fn variant<F: Drop, S: Drop, P: Drop, B: Drop, M: Drop, N: Drop>(
+/// Writes the line of a variant, and after it those of its fields.
+fn put_variant<F: Drop, S: Drop, P: Drop, B: Drop, M: Drop, N: Drop>(
+    answer: &mut Answer,
     tables: &TablesOf<F, S, P, VariantFields, B, M, N>,
     id: &VariantId,
-    answer: &mut Answer,
 ) -> Result<(), AllocError> {
-    match tables.variant_fields(*id) {
-        Ok(variant) => write_variant(*id, variant, answer),
-        Err(missing) => refuse_missing(missing, answer),
+    let variant = match tables.variant_fields(*id) {
+        Ok(variant) => variant,
+        Err(missing) => return refuse_missing(answer, missing),
+    };
+    put(answer, &("variant", *id, variant.shape()))?;
+    for field in variant.fields() {
+        answer.line()?;
+        put(answer, field)?;
     }
+    Ok(())
 }
 
-/// Whether a source map and its part of the store equal themselves.
+/// Returns whether a source map and its part of the store equal themselves.
 fn equals_itself(map: &BodySourceMap) -> bool {
     map.store() == map.store() && *map == *map
 }
 
 /// Writes where the `self` of a body is written, or `none`.
-fn write_self_syntax(map: &BodySourceMap, answer: &mut Answer) -> Result<(), AllocError> {
-    if !equals_itself(map) {
-        return differs(answer);
-    }
-    match map.self_param_syntax() {
-        Some(source) => write_source(syntax(source), answer),
-        None => answer.word("none"),
-    }
-}
-
-fn self_syntax<T: Bodies>(
+fn put_self_syntax<T: Bodies>(
+    answer: &mut Answer,
     tables: &T,
     def: &DefWithBodyId,
-    answer: &mut Answer,
 ) -> Result<(), AllocError> {
     match Body::with_source_map(tables, *def) {
-        Ok((_, map)) => write_self_syntax(map, answer),
-        Err(missing) => refuse_missing(missing, answer),
+        Ok((_, map)) if !equals_itself(map) => differs(answer),
+        Ok((_, map)) => match map.self_param_syntax() {
+            Some(source) => put(answer, &syntax(source)),
+            None => answer.word("none"),
+        },
+        Err(missing) => refuse_missing(answer, missing),
     }
 }
 
-fn generic_params(
-    tables: &Tables,
-    question: &generics::Question,
-    def: &GenericDefId,
+fn put_generics(
     answer: &mut Answer,
+    tables: &Tables,
+    question: &GenericsQuestion,
+    def: &GenericDefId,
 ) -> Result<(), AllocError> {
     match GenericParams::of(tables, *def) {
-        Ok(params) => generics::write(question, params, *def, answer),
-        Err(missing) => refuse_missing(missing, answer),
+        Ok(params) => question.ask(params, *def, answer),
+        Err(missing) => refuse_missing(answer, missing),
     }
 }
 
-/// Writes what the tables answer.
-fn write(tables: &Tables, question: &Question, answer: &mut Answer) -> Result<(), AllocError> {
-    match question {
-        Question::Name(def) => name(tables, def, answer),
-        Question::CrateName(id) => crate_name(tables, *id, answer),
-        Question::Parent(id) => parent(tables, *id, answer),
-        Question::Repr(id) => write_opt_repr(tables.repr(*id), answer),
-        Question::RawWords(edition) => write_words(tables.raw_words(*edition), answer),
-        Question::Function(id) => function(tables, *id, answer),
-        Question::Struct(id) => structure(tables, *id, answer),
-        Question::Plain(def) => plain(tables, def, answer),
-        Question::Variant(id) => variant(tables, id, answer),
-        Question::SelfSyntax(def) => self_syntax(tables, def, answer),
-        Question::Generics(question, def) => generic_params(tables, question, def, answer),
+impl Question {
+    /// Reads a question, after its first word; `None` where no such question begins with it.
+    pub fn read(word: &[u8], words: &mut Words<'_>) -> Result<Option<Question>, TextError> {
+        Ok(Some(match word {
+            b"name-of" => Question::Entry(EntryQuestion::Name(next(words)?)),
+            b"crate-name-of" => Question::Entry(EntryQuestion::CrateName(next(words)?)),
+            b"parent-of" => Question::Entry(EntryQuestion::Parent(next(words)?)),
+            b"repr-of" => Question::Entry(EntryQuestion::Repr(next(words)?)),
+            b"raw-words-of" => Question::Entry(EntryQuestion::RawWords(next(words)?)),
+            b"function-of" => Question::Function(next(words)?),
+            b"struct-of" => Question::Struct(next(words)?),
+            b"plain-of" => Question::Plain(next_plain(words)?),
+            b"variant-of" => Question::Variant(next(words)?),
+            b"self-syntax" => Question::SelfSyntax(next(words)?),
+            _ => {
+                return match read_generics(word, words)? {
+                    Some(question) => Ok(Some(with_def(words, question)?)),
+                    None => Ok(None),
+                };
+            }
+        }))
     }
-}
 
-/// Writes the answer to a question on the tables; returns whether it is such a question.
-pub fn ask(
-    alloc: Global,
-    tables: &Tables,
-    word: &[u8],
-    words: &mut Words<'_>,
-    answer: &mut Answer,
-) -> Result<bool, TextError> {
-    let Some(question) = read_line(alloc, word, words)? else {
-        return Ok(false);
-    };
-    write(tables, &question, answer)?;
-    Ok(true)
+    /// Writes the answer of the tables.
+    pub fn ask(&self, tables: &Tables, answer: &mut Answer) -> Result<(), AllocError> {
+        match self {
+            Question::Entry(question) => put_entry(answer, tables, question),
+            Question::Function(id) => put_function(answer, tables, *id),
+            Question::Struct(id) => put_struct(answer, tables, *id),
+            Question::Plain(def) => put_plain(answer, tables, def),
+            Question::Variant(id) => put_variant(answer, tables, id),
+            Question::SelfSyntax(def) => put_self_syntax(answer, tables, def),
+            Question::Generics(question, def) => put_generics(answer, tables, question, def),
+        }
+    }
 }

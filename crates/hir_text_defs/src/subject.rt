@@ -3,7 +3,6 @@
 use hir_base::ExpressionStoreOwnerId;
 use hir_store::{ExpressionStore, ExpressionStoreSourceMap};
 use hir_text_nodes::{Answer, TextError};
-use std::alloc::Global;
 
 /// A finished store, and its source map.
 pub type Finished = Box<(ExpressionStore, ExpressionStoreSourceMap)>;
@@ -19,7 +18,7 @@ pub enum Subject {
     Owner(ExpressionStoreOwnerId),
 }
 
-/// What was accepted is the store that questions ask from then on.
+/// Returns what was accepted as the store that questions ask from then on.
 pub(crate) fn ask_accepted(
     owner: ExpressionStoreOwnerId,
     answer: &mut Answer,
@@ -28,11 +27,11 @@ pub(crate) fn ask_accepted(
     Ok(Subject::Owner(owner))
 }
 
-/// What was refused is the store that questions ask again.
+/// Returns what was refused as the store that questions ask again.
 pub(crate) fn ask_again(
-    alloc: Global,
     store: ExpressionStore,
     sources: ExpressionStoreSourceMap,
+    answer: &Answer,
 ) -> Result<Subject, TextError> {
-    Ok(Subject::Store(Box::new(alloc, (store, sources))?))
+    Ok(Subject::Store(Box::new(answer.alloc(), (store, sources))?))
 }

@@ -1,24 +1,24 @@
 //! Generic arguments, as `::<T0,L1,Item=T3>`: types, lifetimes and constants by their numbers, and the
-//! bindings of associated types.
+//! bindings of associated types. Bounds, as `T3`, `?T3`, `for<NAMES>T3`, `L0`, `use<T,L0>` and `error`.
 
-use crate::reading::{joined_or_none, push, three, zip_ok};
+use crate::forms::{Read, Write, after, join, join_items, join_list, joined, list};
 use hir_base::Name;
 use hir_collections::{Idx, Seq};
 use hir_path::{
-    AssociatedTypeBinding, ConstRef, GenericArg, GenericArgs, GenericArgsParentheses, TypeBound,
-    TypeRefId,
+    AssociatedTypeBinding, ConstRef, GenericArg, GenericArgs, GenericArgsParentheses, PathId,
+    TraitBoundModifier, TypeBound, UseArgRef,
 };
-use hir_text_words::{TextError, Words};
-use std::alloc::Global;
+use hir_text_words::{Answer, Part, TextError, Words};
+use std::alloc::AllocError;
 
-/// How many arguments may stand around others, each in a binding of the one before.
+/// How many arguments may be around others, each in a binding of the one before.
 const DEEPEST: u8 = 100;
 
-/// The letter of a name that reads like the number of a type, a lifetime or a constant: one of theirs, and
-/// then only digits.
-pub(crate) fn letter_of(name: &[u8]) -> Option<u8> {
+/// Returns the letter of a name that reads like the number of a type, a lifetime or a constant: one of
+/// theirs, and then only digits.
+fn letter_of(name: &[u8]) -> Option<u8> {
     match name {
-        [letter, digits @ ..] if is_letter(*letter) && is_digits(digits) => Some(*letter),
+        [letter, digits @ ..] if is_letter(*letter) && Part::Digits.is_all(digits) => Some(*letter),
         _ => None,
     }
 }
@@ -27,41 +27,42 @@ fn is_letter(byte: u8) -> bool {
     byte == b'T' || byte == b'L' || byte == b'C'
 }
 
-/// Whether these are digits, and one at least.
-fn is_digits(digits: &[u8]) -> bool {
-    for digit in digits {
-        if !digit.is_ascii_digit() {
-            return false;
-        }
-    }
-    !digits.is_empty()
-}
-
-/// The letter of the next name, where that reads like a number.
-pub(crate) fn next_letter(words: &Words<'_>) -> Option<u8> {
+/// Returns the letter of the next name, where that reads like a number.
+fn next_letter(words: &Words<'_>) -> Option<u8> {
     let mut ahead = *words;
     letter_of(ahead.bare_name())
 }
 
-/// The number after a letter.
-pub(crate) fn lettered_id<K>(words: &mut Words<'_>) -> Result<Idx<K>, TextError> {
+fn lettered<K>(words: &mut Words<'_>) -> Result<Idx<K>, TextError> {
     let _ = words.take(1);
-    words.id()
+    Read::read(words)
 }
 
 /// A type, a lifetime or a constant, by its letter and its number.
-fn read_arg(words: &mut Words<'_>) -> Result<GenericArg, TextError> {
-    match next_letter(words) {
-        Some(b'T') => Ok(GenericArg::Ty(lettered_id(words)?)),
-        Some(b'L') => Ok(GenericArg::Lifetime(lettered_id(words)?)),
-        Some(_) => Ok(GenericArg::Const(ConstRef {
-            expr: lettered_id(words)?,
-        })),
-        None => Err(words.reject()),
+impl Read for GenericArg {
+    fn read(words: &mut Words<'_>) -> Result<GenericArg, TextError> {
+        match next_letter(words) {
+            Some(b'T') => Ok(GenericArg::Ty(lettered(words)?)),
+            Some(b'L') => Ok(GenericArg::Lifetime(lettered(words)?)),
+            Some(_) => {
+                let expr = lettered(words)?;
+                Ok(GenericArg::Const(ConstRef { expr }))
+            }
+            None => Err(words.reject()),
+        }
     }
 }
 
-/// How the arguments are written.
+impl Write for GenericArg {
+    fn write(&self, answer: &mut Answer) -> Result<(), AllocError> {
+        match self {
+            GenericArg::Ty(id) => join(answer, "T", id),
+            GenericArg::Lifetime(id) => join(answer, "L", id),
+            GenericArg::Const(ConstRef { expr }) => join(answer, "C", expr),
+        }
+    }
+}
+
 fn read_parentheses(words: &mut Words<'_>) -> GenericArgsParentheses {
     if words.eat(b"paren;") {
         GenericArgsParentheses::ParenSugar
@@ -72,7 +73,8 @@ fn read_parentheses(words: &mut Words<'_>) -> GenericArgsParentheses {
     }
 }
 
-/// Whether the line goes on with a comma and one more type, lifetime or constant: the comma is then taken.
+/// Returns whether the line goes on with a comma and one more type, lifetime or constant: the comma is then
+/// taken.
 fn goes_on(words: &mut Words<'_>) -> bool {
     let mut ahead = *words;
     let goes_on = ahead.eat(b",") && next_letter(&ahead).is_some();
@@ -82,14 +84,14 @@ fn goes_on(words: &mut Words<'_>) -> bool {
     goes_on
 }
 
-/// The types, lifetimes and constants that come next, joined by `,`.
-fn read_list(words: &mut Words<'_>, alloc: Global) -> Result<Seq<GenericArg>, TextError> {
-    let mut args = Seq::new(alloc);
+/// Takes the types, lifetimes and constants that come next, joined by `,`.
+fn read_list(words: &mut Words<'_>) -> Result<Seq<GenericArg>, TextError> {
+    let mut args = Seq::new(words.alloc());
     if next_letter(words).is_none() {
         return Ok(args);
     }
-    for _ in 0..words.rest().len() {
-        push(&mut args, read_arg(words))?;
+    for _ in 0..words.most_items() {
+        args.push(Read::read(words)?)?;
         if !goes_on(words) {
             break;
         }
@@ -97,107 +99,78 @@ fn read_list(words: &mut Words<'_>, alloc: Global) -> Result<Seq<GenericArg>, Te
     Ok(args)
 }
 
-/// The name of an associated type.
-fn read_name(words: &mut Words<'_>, alloc: Global) -> Result<Name, TextError> {
+/// Takes the name of an associated type, which doesn't read like a number.
+fn read_name(words: &mut Words<'_>) -> Result<Name, TextError> {
     if next_letter(words).is_some() {
         return Err(words.reject());
     }
-    words.name(alloc)
+    Read::read(words)
 }
 
-/// The bounds of an associated type, where there are any.
-fn opt_bounds(words: &mut Words<'_>, alloc: Global) -> Result<Seq<TypeBound>, TextError> {
+fn opt_bounds(words: &mut Words<'_>) -> Result<Seq<TypeBound>, TextError> {
     if words.eat(b":") {
-        return joined_or_none(words, alloc, b"+");
+        return list(words, b"+");
     }
-    Ok(Seq::new(alloc))
+    Ok(Seq::new(words.alloc()))
 }
 
-/// The type that an associated type is, where there is one.
-fn opt_type(words: &mut Words<'_>) -> Result<Option<TypeRefId>, TextError> {
-    if words.eat(b"=T") {
-        return Ok(Some(words.id()?));
-    }
-    Ok(None)
-}
-
-/// The arguments of an associated type, where it has any. In them others may be nested less deep than
+/// Takes the arguments of an associated type, where it has any. In them others may be nested less deep than
 /// `depth`.
 #[cycle(read_within)]
-fn opt_args(
-    words: &mut Words<'_>,
-    alloc: Global,
-    depth: u8,
-) -> Result<Option<GenericArgs>, TextError> {
+fn opt_args(words: &mut Words<'_>, depth: u8) -> Result<Option<GenericArgs>, TextError> {
     if !words.eat(b"::<") {
         return Ok(None);
     }
     if depth == 0 {
         return Err(words.reject());
     }
-    Ok(Some(read_within(words, alloc, depth - 1)?))
+    Ok(Some(read_within(words, depth - 1)?))
 }
 
-/// The binding of an associated type: its arguments, bounds after `:`, and a type after `=`.
+/// Takes the binding of an associated type: its arguments, bounds after `:`, and a type after `=`.
 #[cycle(read_within)]
-fn read_binding(
-    words: &mut Words<'_>,
-    alloc: Global,
-    depth: u8,
-) -> Result<AssociatedTypeBinding, TextError> {
-    let front = zip_ok(read_name(words, alloc), opt_args(words, alloc, depth));
-    let back = zip_ok(opt_bounds(words, alloc), opt_type(words));
-    let ((name, args), (bounds, type_ref)) = zip_ok(front, back)?;
+fn read_binding(words: &mut Words<'_>, depth: u8) -> Result<AssociatedTypeBinding, TextError> {
     Ok(AssociatedTypeBinding {
-        name,
-        args,
-        type_ref,
-        bounds,
+        name: read_name(words)?,
+        args: opt_args(words, depth)?,
+        bounds: opt_bounds(words)?,
+        type_ref: after(words, b"=T")?,
     })
 }
 
-/// The bindings of associated types, joined by `,`.
+/// Takes the bindings of associated types, joined by `,`, where this says that there are any.
 #[cycle(read_within)]
 fn read_bindings(
     words: &mut Words<'_>,
-    alloc: Global,
-    depth: u8,
-) -> Result<Seq<AssociatedTypeBinding>, TextError> {
-    let mut bindings = Seq::new(alloc);
-    for _ in 0..words.rest().len() {
-        push(&mut bindings, read_binding(words, alloc, depth))?;
-        if !words.eat(b",") {
-            return Ok(bindings);
-        }
-    }
-    Err(words.reject())
-}
-
-/// The bindings of associated types, where this says that there are any.
-#[cycle(read_within)]
-fn opt_bindings(
-    words: &mut Words<'_>,
-    alloc: Global,
     depth: u8,
     has_bindings: bool,
 ) -> Result<Seq<AssociatedTypeBinding>, TextError> {
-    if has_bindings {
-        return read_bindings(words, alloc, depth);
+    let mut bindings = Seq::new(words.alloc());
+    let mut goes_on = has_bindings;
+    for _ in 0..words.most_items() {
+        if !goes_on {
+            break;
+        }
+        bindings.push(read_binding(words, depth)?)?;
+        goes_on = words.eat(b",");
     }
-    Ok(Seq::new(alloc))
+    Ok(bindings)
 }
 
-/// What comes after `::<`, to the end `>`. In it others may be nested as deep as `depth`.
+/// Takes what comes after `::<`, to the end `>`. In it others may be nested as deep as `depth`.
 #[cycle(read_within)]
-fn read_within(words: &mut Words<'_>, alloc: Global, depth: u8) -> Result<GenericArgs, TextError> {
+fn read_within(words: &mut Words<'_>, depth: u8) -> Result<GenericArgs, TextError> {
     let has_self_type = words.eat(b"self;");
     let parenthesized = read_parentheses(words);
     let is_empty = words.is_at(b">");
-    let has_args = next_letter(words).is_some();
-    let args = read_list(words, alloc);
-    let has_bindings = if has_args { words.eat(b",") } else { !is_empty };
-    let bindings = opt_bindings(words, alloc, depth, has_bindings);
-    let (args, bindings, ()) = three(args, bindings, words.expect(b">"))?;
+    let args = read_list(words)?;
+    let has_bindings = if args.is_empty() {
+        !is_empty
+    } else {
+        words.eat(b",")
+    };
+    let bindings = read_bindings(words, depth, has_bindings)?;
+    words.expect(b">")?;
     Ok(GenericArgs {
         args,
         has_self_type,
@@ -206,14 +179,224 @@ fn read_within(words: &mut Words<'_>, alloc: Global, depth: u8) -> Result<Generi
     })
 }
 
-/// Generic arguments, from `::<` on.
-pub(crate) fn read_args(words: &mut Words<'_>, alloc: Global) -> Result<GenericArgs, TextError> {
-    words.expect(b"::<")?;
-    read_within(words, alloc, DEEPEST)
+impl Read for GenericArgs {
+    fn read(words: &mut Words<'_>) -> Result<GenericArgs, TextError> {
+        words.expect(b"::<")?;
+        read_within(words, DEEPEST)
+    }
 }
 
-/// The same after a space.
-pub fn next_args(words: &mut Words<'_>, alloc: Global) -> Result<GenericArgs, TextError> {
+/// Writes a name after the last word: in quotes too where it reads like something else in its place.
+pub(crate) fn join_name(
+    answer: &mut Answer,
+    name: &Name,
+    is_taken: bool,
+) -> Result<(), AllocError> {
+    if is_taken {
+        answer.join_quoted(name.as_str())
+    } else {
+        answer.join_name(name.as_str())
+    }
+}
+
+/// Returns the word before arguments that says how they are written.
+fn parentheses_text(parentheses: GenericArgsParentheses) -> &'static str {
+    match parentheses {
+        GenericArgsParentheses::No => "",
+        GenericArgsParentheses::ReturnTypeNotation => "rtn;",
+        GenericArgsParentheses::ParenSugar => "paren;",
+    }
+}
+
+fn join_front(answer: &mut Answer, args: &GenericArgs) -> Result<(), AllocError> {
+    answer.join(if args.has_self_type {
+        "::<self;"
+    } else {
+        "::<"
+    })?;
+    answer.join(parentheses_text(args.parenthesized))?;
+    join_items(answer, args.args.as_slice(), ",")?;
+    if !args.args.is_empty() && !args.bindings.is_empty() {
+        answer.join(",")?;
+    }
+    Ok(())
+}
+
+#[cycle(join_args)]
+fn join_binding(answer: &mut Answer, binding: &AssociatedTypeBinding) -> Result<(), AllocError> {
+    let name = &binding.name;
+    join_name(answer, name, letter_of(name.as_str().as_bytes()).is_some())?;
+    match &binding.args {
+        Some(args) => join_args(answer, args)?,
+        None => {}
+    }
+    if !binding.bounds.is_empty() {
+        answer.join(":")?;
+        join_list(answer, binding.bounds.as_slice(), "+")?;
+    }
+    match binding.type_ref {
+        Some(id) => join(answer, "=T", &id),
+        None => Ok(()),
+    }
+}
+
+/// Writes generic arguments after the last word without a space, from `::<` on.
+#[cycle(join_args)]
+pub fn join_args(answer: &mut Answer, args: &GenericArgs) -> Result<(), AllocError> {
+    join_front(answer, args)?;
+    join_bindings(answer, args.bindings.as_slice())?;
+    answer.join(">")
+}
+
+#[cycle(join_args)]
+fn join_bindings(
+    answer: &mut Answer,
+    bindings: &[AssociatedTypeBinding],
+) -> Result<(), AllocError> {
+    let mut before = "";
+    for binding in bindings {
+        answer.join(before)?;
+        join_binding(answer, binding)?;
+        before = ",";
+    }
+    Ok(())
+}
+
+impl Write for GenericArgs {
+    fn write(&self, answer: &mut Answer) -> Result<(), AllocError> {
+        join_args(answer, self)
+    }
+}
+
+/// The path of a trait, by the number of its type.
+impl Read for PathId {
+    fn read(words: &mut Words<'_>) -> Result<PathId, TextError> {
+        Ok(PathId::from_type_ref_unchecked(Read::read(words)?))
+    }
+}
+
+/// A lifetime by its number, or a name.
+impl Read for UseArgRef {
+    fn read(words: &mut Words<'_>) -> Result<UseArgRef, TextError> {
+        if next_letter(words) == Some(b'L') {
+            return Ok(UseArgRef::Lifetime(lettered(words)?));
+        }
+        Ok(UseArgRef::Name(Read::read(words)?))
+    }
+}
+
+impl Write for UseArgRef {
+    fn write(&self, answer: &mut Answer) -> Result<(), AllocError> {
+        match self {
+            UseArgRef::Name(name) => {
+                let is_taken = letter_of(name.as_str().as_bytes()) == Some(b'L');
+                join_name(answer, name, is_taken)
+            }
+            UseArgRef::Lifetime(id) => join(answer, "L", id),
+        }
+    }
+}
+
+/// Takes what `use<` lists, to the end `>`.
+fn read_uses(words: &mut Words<'_>) -> Result<Seq<UseArgRef>, TextError> {
+    if words.eat(b">") {
+        return Ok(Seq::new(words.alloc()));
+    }
+    let uses = joined(words, b",")?;
+    words.expect(b">")?;
+    Ok(uses)
+}
+
+/// Takes the names after `for<`, to the end `>`.
+pub(crate) fn read_binder(words: &mut Words<'_>) -> Result<Seq<Name>, TextError> {
+    let names = Read::read(words)?;
+    words.expect(b">")?;
+    Ok(names)
+}
+
+fn read_for(words: &mut Words<'_>) -> Result<TypeBound, TextError> {
+    let names = read_binder(words)?;
+    words.expect(b"T")?;
+    Ok(TypeBound::ForLifetime(names, Read::read(words)?))
+}
+
+fn read_trait(words: &mut Words<'_>, modifier: TraitBoundModifier) -> Result<TypeBound, TextError> {
+    Ok(TypeBound::Path(Read::read(words)?, modifier))
+}
+
+impl Read for TypeBound {
+    fn read(words: &mut Words<'_>) -> Result<TypeBound, TextError> {
+        if words.eat(b"?T") {
+            read_trait(words, TraitBoundModifier::Maybe)
+        } else if words.eat(b"for<") {
+            read_for(words)
+        } else if words.eat(b"use<") {
+            Ok(TypeBound::Use(read_uses(words)?))
+        } else if words.eat(b"error") {
+            Ok(TypeBound::Error)
+        } else if words.eat(b"L") {
+            Ok(TypeBound::Lifetime(Read::read(words)?))
+        } else if words.eat(b"T") {
+            read_trait(words, TraitBoundModifier::None)
+        } else {
+            Err(words.reject())
+        }
+    }
+}
+
+impl Write for TypeBound {
+    fn write(&self, answer: &mut Answer) -> Result<(), AllocError> {
+        match self {
+            TypeBound::Path(path, modifier) => {
+                let start = match modifier {
+                    TraitBoundModifier::None => "T",
+                    TraitBoundModifier::Maybe => "?T",
+                };
+                join(answer, start, &path.type_ref())
+            }
+            TypeBound::ForLifetime(names, path) => {
+                join(answer, "for<", names)?;
+                join(answer, ">T", &path.type_ref())
+            }
+            TypeBound::Lifetime(id) => join(answer, "L", id),
+            TypeBound::Use(uses) => {
+                answer.join("use<")?;
+                join_items(answer, uses.as_slice(), ",")?;
+                answer.join(">")
+            }
+            TypeBound::Error => answer.join("error"),
+        }
+    }
+}
+
+/// Takes the names of `for<NAMES>`, where that comes next.
+pub(crate) fn opt_binder(words: &mut Words<'_>) -> Result<Option<Seq<Name>>, TextError> {
+    if words.prefix(b"for<") {
+        return Ok(Some(read_binder(words)?));
+    }
+    Ok(None)
+}
+
+/// Writes `for<NAMES>`, where there are names of lifetimes.
+pub(crate) fn put_binder(answer: &mut Answer, names: &Option<Seq<Name>>) -> Result<(), AllocError> {
+    match names {
+        Some(names) => {
+            answer.word("for<")?;
+            names.write(answer)?;
+            answer.join(">")
+        }
+        None => Ok(()),
+    }
+}
+
+/// Bounds joined by `+`, or `-`.
+pub(crate) fn next_bounds(words: &mut Words<'_>) -> Result<Seq<TypeBound>, TextError> {
     words.expect(b" ")?;
-    read_args(words, alloc)
+    list(words, b"+")
+}
+
+/// Writes bounds joined by `+`, or `-`, after a space.
+pub(crate) fn put_bounds(answer: &mut Answer, bounds: &[TypeBound]) -> Result<(), AllocError> {
+    answer.space()?;
+    join_list(answer, bounds, "+")
 }

@@ -1,116 +1,226 @@
-//! Closures and coroutines.
+//! Parts of expressions: statements, arms, fields, closures and coroutines.
 
-use crate::reading::{Read, one_or_more, three};
+use crate::forms::{
+    Read, Write, join, join_items, joined, next, part, prefixed, put, put_prefixed,
+};
 use hir_collections::{Seq, ShortList};
 use hir_node::{
-    CaptureBy, ClosureKind, CoroutineKind, CoroutineSource, Expr, Movability, PatId, TypeRefId,
+    CaptureBy, ClosureKind, CoroutineKind, CoroutineSource, Expr, ExprId, Item, MatchArm,
+    Movability, PatId, RecordLitField, Statement, TypeRefId,
 };
-use hir_text_words::{TextError, Words};
-use std::alloc::{AllocError, Global};
+use hir_text_words::{Answer, TextError, Words};
+use std::alloc::AllocError;
 
-/// What a closure expression makes, by the word at its end.
-const KINDS: [(&str, ClosureKind); 5] = [
-    ("static", ClosureKind::OldCoroutine(Movability::Static)),
-    ("movable", ClosureKind::OldCoroutine(Movability::Movable)),
-    ("async", ClosureKind::CoroutineClosure(CoroutineKind::Async)),
-    ("gen", ClosureKind::CoroutineClosure(CoroutineKind::Gen)),
-    (
-        "async-gen",
-        ClosureKind::CoroutineClosure(CoroutineKind::AsyncGen),
-    ),
-];
-
-const SOURCES: [(&str, CoroutineSource); 3] = [
-    ("block", CoroutineSource::Block),
-    ("closure", CoroutineSource::Closure),
-    ("fn", CoroutineSource::Fn),
-];
-
-pub(crate) fn closure_expr(words: &mut Words<'_>, alloc: Global) -> Result<Expr, TextError> {
-    let body = words.next_id()?;
-    let params = read_params(words, alloc);
-    let ret_type = words.prefixed_id(b"ret:");
-    let capture_by = capture_by(words);
-    let ((args, arg_types), ret_type, closure_kind) = three(params, ret_type, closure_kind(words))?;
-    Ok(Expr::Closure {
-        args,
-        arg_types,
-        ret_type,
-        body,
-        closure_kind,
-        capture_by,
-    })
-}
-
-/// The arguments of a closure, and their types.
-fn read_params(
-    words: &mut Words<'_>,
-    alloc: Global,
-) -> Result<(ShortList<PatId>, Seq<Option<TypeRefId>>), TextError> {
-    let args = words.next_ids(alloc)?;
-    let types = arg_types(words, alloc, args.len())?;
-    Ok((args, types))
-}
-
-fn capture_by(words: &mut Words<'_>) -> CaptureBy {
-    if words.flag(b"move") {
-        CaptureBy::Value
-    } else {
-        CaptureBy::Ref
+impl Read for Statement {
+    fn read(words: &mut Words<'_>) -> Result<Statement, TextError> {
+        Ok(match words.keyword() {
+            b"let" => Statement::Let {
+                pat: part(words)?,
+                type_ref: part(words)?,
+                initializer: part(words)?,
+                else_branch: part(words)?,
+            },
+            b"semi" => Statement::Expr {
+                expr: part(words)?,
+                has_semi: true,
+            },
+            b"expr" => Statement::Expr {
+                expr: part(words)?,
+                has_semi: false,
+            },
+            b"macro" => Statement::Item(Item::MacroDef(part(words)?)),
+            b"item" => Statement::Item(Item::Other),
+            _ => return Err(words.reject()),
+        })
     }
 }
 
-/// The types of a closure with this number of arguments.
-fn arg_types(
-    words: &mut Words<'_>,
-    alloc: Global,
-    arg_count: usize,
-) -> Result<Seq<Option<TypeRefId>>, TextError> {
-    if !words.prefix(b"types:") {
-        return Ok(no_types(alloc, arg_count)?);
+impl Write for Statement {
+    fn write(&self, answer: &mut Answer) -> Result<(), AllocError> {
+        match self {
+            Statement::Let {
+                pat,
+                type_ref,
+                initializer,
+                else_branch,
+            } => {
+                join(answer, "let:", pat)?;
+                join(answer, ":", type_ref)?;
+                join(answer, ":", initializer)?;
+                join(answer, ":", else_branch)
+            }
+            Statement::Expr { expr, has_semi } => {
+                join(answer, if *has_semi { "semi:" } else { "expr:" }, expr)
+            }
+            Statement::Item(item) => match item {
+                Item::MacroDef(id) => join(answer, "macro:", id),
+                Item::Other => answer.join("item"),
+            },
+        }
     }
-    if words.is_word_end() {
-        return Ok(Seq::new(alloc));
-    }
-    one_or_more(words, alloc, b",")
 }
 
-impl Read for Option<TypeRefId> {
-    fn read(words: &mut Words<'_>, _: Global) -> Result<Option<TypeRefId>, TextError> {
-        words.opt_id()
+impl Read for MatchArm {
+    fn read(words: &mut Words<'_>) -> Result<MatchArm, TextError> {
+        Ok(MatchArm {
+            pat: Read::read(words)?,
+            guard: part(words)?,
+            expr: part(words)?,
+        })
     }
 }
 
-/// An absent type for each argument.
-fn no_types(alloc: Global, arg_count: usize) -> Result<Seq<Option<TypeRefId>>, AllocError> {
-    let mut types = Seq::with_capacity(alloc, arg_count)?;
+impl Write for MatchArm {
+    fn write(&self, answer: &mut Answer) -> Result<(), AllocError> {
+        let MatchArm { pat, guard, expr } = self;
+        pat.write(answer)?;
+        join(answer, ":", guard)?;
+        join(answer, ":", expr)
+    }
+}
+
+impl Read for RecordLitField {
+    fn read(words: &mut Words<'_>) -> Result<RecordLitField, TextError> {
+        Ok(RecordLitField {
+            name: Read::read(words)?,
+            expr: part(words)?,
+        })
+    }
+}
+
+impl Write for RecordLitField {
+    fn write(&self, answer: &mut Answer) -> Result<(), AllocError> {
+        self.name.write(answer)?;
+        join(answer, ":", &self.expr)
+    }
+}
+
+fn no_types(words: &Words<'_>, arg_count: usize) -> Result<Seq<Option<TypeRefId>>, AllocError> {
+    let mut types = Seq::with_capacity(words.alloc(), arg_count)?;
     for _ in 0..arg_count {
         types.push(None)?;
     }
     Ok(types)
 }
 
-/// What a closure expression makes: a closure, where the line ends.
-fn closure_kind(words: &mut Words<'_>) -> Result<ClosureKind, TextError> {
+/// Takes the types of a closure with this number of arguments: where they are left out each has an absent
+/// type.
+fn read_types(
+    words: &mut Words<'_>,
+    arg_count: usize,
+) -> Result<Seq<Option<TypeRefId>>, TextError> {
+    if !words.prefix(b"types:") {
+        return Ok(no_types(words, arg_count)?);
+    }
+    if words.is_word_end() {
+        return Ok(Seq::new(words.alloc()));
+    }
+    joined(words, b",")
+}
+
+/// Takes what a closure expression makes: a closure, where the line ends.
+fn read_kind(words: &mut Words<'_>) -> Result<ClosureKind, TextError> {
     if words.is_end() {
         return Ok(ClosureKind::Closure);
     }
-    let kind = words.next_in(&KINDS)?;
-    match kind {
-        ClosureKind::CoroutineClosure(kind) => coroutine(words, kind),
-        ClosureKind::Closure
-        | ClosureKind::OldCoroutine(_)
-        | ClosureKind::Coroutine { kind: _, source: _ } => Ok(kind),
-    }
-}
-
-/// A coroutine, where its source comes after a colon; else a closure that makes coroutines.
-fn coroutine(words: &mut Words<'_>, kind: CoroutineKind) -> Result<ClosureKind, TextError> {
+    let kind = match words.next_keyword()? {
+        b"static" => return Ok(ClosureKind::OldCoroutine(Movability::Static)),
+        b"movable" => return Ok(ClosureKind::OldCoroutine(Movability::Movable)),
+        b"async" => CoroutineKind::Async,
+        b"gen" => CoroutineKind::Gen,
+        b"async-gen" => CoroutineKind::AsyncGen,
+        _ => return Err(words.reject()),
+    };
     if !words.eat(b":") {
         return Ok(ClosureKind::CoroutineClosure(kind));
     }
-    Ok(ClosureKind::Coroutine {
-        kind,
-        source: words.keyword_in(&SOURCES)?,
+    let source = match words.keyword() {
+        b"block" => CoroutineSource::Block,
+        b"closure" => CoroutineSource::Closure,
+        b"fn" => CoroutineSource::Fn,
+        _ => return Err(words.reject()),
+    };
+    Ok(ClosureKind::Coroutine { kind, source })
+}
+
+/// Takes the parts of a closure.
+pub(crate) fn read_closure(words: &mut Words<'_>) -> Result<Expr, TextError> {
+    let body = next(words)?;
+    let args: ShortList<PatId> = next(words)?;
+    Ok(Expr::Closure {
+        arg_types: read_types(words, args.len())?,
+        args,
+        ret_type: prefixed(words, b"ret:")?,
+        body,
+        capture_by: if words.flag(b"move") {
+            CaptureBy::Value
+        } else {
+            CaptureBy::Ref
+        },
+        closure_kind: read_kind(words)?,
     })
+}
+
+/// Returns whether each of this number of arguments has an absent type, as where a line leaves the types
+/// out.
+fn are_left_out(types: &[Option<TypeRefId>], arg_count: usize) -> bool {
+    for ty in types {
+        if ty.is_some() {
+            return false;
+        }
+    }
+    types.len() == arg_count
+}
+
+fn coroutine_text(kind: CoroutineKind) -> &'static str {
+    match kind {
+        CoroutineKind::Async => "async",
+        CoroutineKind::Gen => "gen",
+        CoroutineKind::AsyncGen => "async-gen",
+    }
+}
+
+/// Writes what a closure expression makes; nothing where that is a closure.
+fn put_kind(answer: &mut Answer, kind: ClosureKind) -> Result<(), AllocError> {
+    match kind {
+        ClosureKind::Closure => Ok(()),
+        ClosureKind::OldCoroutine(Movability::Static) => answer.word("static"),
+        ClosureKind::OldCoroutine(Movability::Movable) => answer.word("movable"),
+        ClosureKind::Coroutine { kind, source } => {
+            answer.word(coroutine_text(kind))?;
+            answer.join(match source {
+                CoroutineSource::Block => ":block",
+                CoroutineSource::Closure => ":closure",
+                CoroutineSource::Fn => ":fn",
+            })
+        }
+        ClosureKind::CoroutineClosure(kind) => answer.word(coroutine_text(kind)),
+    }
+}
+
+/// Writes what comes after the arguments of a closure.
+pub(crate) fn put_signature(
+    answer: &mut Answer,
+    ret_type: &Option<TypeRefId>,
+    capture_by: CaptureBy,
+    closure_kind: ClosureKind,
+) -> Result<(), AllocError> {
+    put_prefixed(answer, "ret:", ret_type)?;
+    answer.flag(capture_by == CaptureBy::Value, "move")?;
+    put_kind(answer, closure_kind)
+}
+
+/// Writes the body of a closure, its arguments and their types.
+pub(crate) fn put_params(
+    answer: &mut Answer,
+    body: ExprId,
+    args: &[PatId],
+    types: &[Option<TypeRefId>],
+) -> Result<(), AllocError> {
+    put(answer, &("closure", body, args))?;
+    if are_left_out(types, args.len()) {
+        return Ok(());
+    }
+    answer.word("types:")?;
+    join_items(answer, types, ",")
 }

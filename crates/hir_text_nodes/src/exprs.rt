@@ -1,294 +1,306 @@
-//! Expressions: each form is read by its keyword and its parts.
+//! Expressions: each form is read by its word and its parts, and written as its line has it.
 
-use crate::args::next_args;
-use crate::blocks::{block_expr, loop_expr, match_expr, opt_label};
-use crate::closures::closure_expr;
-use crate::literals::{LiteralForm, read_literal};
-use crate::operators::{next_binary, next_unary};
-use crate::paths::next_path;
-use crate::reading::{Read, behind_spaces, in_box, joined_or_none, three, zip_ok};
-use hir_base::Name;
-use hir_collections::{Boxed, Seq};
-use hir_node::{
-    Array, Expr, GenericArgs, Mutability, OffsetOf, Rawness, RecordLitField, RecordSpread,
-};
-use hir_text_words::{TextError, Words};
-use std::alloc::Global;
+use crate::closures::{put_params, put_signature, read_closure};
+use crate::forms::{Read, Write, each, next, opt_next, prefixed, put, put_each, put_prefixed};
+use crate::literals::{next_binary, next_unary, put_literal, read_literal};
+use hir_base::BinaryOp;
+use hir_collections::Boxed;
+use hir_node::{Array, Expr, LoopSource, Mutability, OffsetOf, Rawness, RecordSpread, Unsafe};
+use hir_text_words::{Answer, TextError, Words};
+use std::alloc::AllocError;
 
-/// The form of an expression.
-#[derive(Clone, Copy)]
-enum Form {
-    Simple(Simple),
-    Jump(Jump),
-    Compound(Compound),
-    Literal(LiteralForm),
-}
-
-/// An expression of few nodes.
-#[derive(Clone, Copy)]
-enum Simple {
-    Missing,
-    Underscore,
-    IncludeBytes,
-    Repeat,
-    Const,
-    If,
-    Let,
-    Loop,
-    Cast,
-    Ref,
-    Unary,
-    Binary,
-    Assign,
-    Index,
-}
-
-/// An expression that goes elsewhere.
-#[derive(Clone, Copy)]
-enum Jump {
-    Continue,
-    Break,
-    Return,
-    Yield,
-    Yeet,
-    Become,
-    Await,
-}
-
-/// An expression of any number of nodes, or with a name or a path.
-#[derive(Clone, Copy)]
-enum Compound {
-    Path,
-    Array,
-    OffsetOf,
-    Block,
-    Call,
-    Method,
-    Match,
-    Record,
-    Field,
-    Closure,
-    Tuple,
-}
-
-const FORMS: [(&str, Form); 40] = [
-    ("missing", Form::Simple(Simple::Missing)),
-    ("underscore", Form::Simple(Simple::Underscore)),
-    ("include-bytes", Form::Simple(Simple::IncludeBytes)),
-    ("repeat", Form::Simple(Simple::Repeat)),
-    ("const", Form::Simple(Simple::Const)),
-    ("if", Form::Simple(Simple::If)),
-    ("let", Form::Simple(Simple::Let)),
-    ("loop", Form::Simple(Simple::Loop)),
-    ("cast", Form::Simple(Simple::Cast)),
-    ("ref", Form::Simple(Simple::Ref)),
-    ("unary", Form::Simple(Simple::Unary)),
-    ("bin", Form::Simple(Simple::Binary)),
-    ("assign", Form::Simple(Simple::Assign)),
-    ("index", Form::Simple(Simple::Index)),
-    ("continue", Form::Jump(Jump::Continue)),
-    ("break", Form::Jump(Jump::Break)),
-    ("return", Form::Jump(Jump::Return)),
-    ("yield", Form::Jump(Jump::Yield)),
-    ("yeet", Form::Jump(Jump::Yeet)),
-    ("become", Form::Jump(Jump::Become)),
-    ("await", Form::Jump(Jump::Await)),
-    ("path", Form::Compound(Compound::Path)),
-    ("array", Form::Compound(Compound::Array)),
-    ("offset-of", Form::Compound(Compound::OffsetOf)),
-    ("block", Form::Compound(Compound::Block)),
-    ("call", Form::Compound(Compound::Call)),
-    ("method", Form::Compound(Compound::Method)),
-    ("match", Form::Compound(Compound::Match)),
-    ("record", Form::Compound(Compound::Record)),
-    ("field", Form::Compound(Compound::Field)),
-    ("closure", Form::Compound(Compound::Closure)),
-    ("tuple", Form::Compound(Compound::Tuple)),
-    ("string", Form::Literal(LiteralForm::String)),
-    ("bytes", Form::Literal(LiteralForm::Bytes)),
-    ("cstring", Form::Literal(LiteralForm::CString)),
-    ("char", Form::Literal(LiteralForm::Char)),
-    ("bool", Form::Literal(LiteralForm::Bool)),
-    ("int", Form::Literal(LiteralForm::Int)),
-    ("uint", Form::Literal(LiteralForm::Uint)),
-    ("float", Form::Literal(LiteralForm::Float)),
-];
-
-/// The expression of the words after `expr`.
-pub fn read_expr(words: &mut Words<'_>, alloc: Global) -> Result<Expr, TextError> {
-    match words.next_in(&FORMS)? {
-        Form::Simple(form) => simple_expr(form, words),
-        Form::Jump(form) => jump_expr(form, words),
-        Form::Compound(form) => compound_expr(form, words, alloc),
-        Form::Literal(form) => Ok(Expr::Literal(read_literal(form, words, alloc)?)),
+/// The words after `expr`.
+impl Read for Expr {
+    fn read(words: &mut Words<'_>) -> Result<Expr, TextError> {
+        match words.keyword() {
+            b"missing" => Ok(Expr::Missing),
+            b"underscore" => Ok(Expr::Underscore),
+            b"include-bytes" => Ok(Expr::IncludeBytes),
+            b"path" => Ok(Expr::Path(next(words)?)),
+            b"const" => Ok(Expr::Const(next(words)?)),
+            b"array" => {
+                let elements = next(words)?;
+                Ok(Expr::Array(Array::ElementList { elements }))
+            }
+            b"repeat" => {
+                let (initializer, repeat) = (next(words)?, next(words)?);
+                Ok(Expr::Array(Array::Repeat {
+                    initializer,
+                    repeat,
+                }))
+            }
+            b"offset-of" => {
+                let (container, fields) = (next(words)?, next(words)?);
+                Ok(Expr::OffsetOf(OffsetOf { container, fields }))
+            }
+            b"record" => Ok(Expr::RecordLit {
+                path: next(words)?,
+                fields: Boxed::new(words.alloc(), each(words)?)?,
+                spread: read_spread(words)?,
+            }),
+            b"tuple" => Ok(Expr::Tuple {
+                exprs: next(words)?,
+            }),
+            b"closure" => read_closure(words),
+            word => read_control(word, words),
+        }
     }
 }
 
-fn simple_expr(form: Simple, words: &mut Words<'_>) -> Result<Expr, TextError> {
-    match form {
-        Simple::Missing => Ok(Expr::Missing),
-        Simple::Underscore => Ok(Expr::Underscore),
-        Simple::IncludeBytes => Ok(Expr::IncludeBytes),
-        Simple::Repeat => {
-            let (initializer, repeat) = zip_ok(words.next_id(), words.next_id())?;
-            Ok(Expr::Array(Array::Repeat {
-                initializer,
-                repeat,
-            }))
-        }
-        Simple::Const => Ok(Expr::Const(words.next_id()?)),
-        Simple::If => {
-            let (condition, then_branch, else_branch) = three(
-                words.next_id(),
-                words.next_id(),
-                words.next_opt_id(),
-            )?;
-            Ok(Expr::If {
-                condition,
-                then_branch,
-                else_branch,
-            })
-        }
-        Simple::Let => {
-            let (pat, expr) = zip_ok(words.next_id(), words.next_id())?;
-            Ok(Expr::Let { pat, expr })
-        }
-        Simple::Loop => loop_expr(words),
-        Simple::Cast => {
-            let (expr, type_ref) = zip_ok(words.next_id(), words.next_id())?;
-            Ok(Expr::Cast { expr, type_ref })
-        }
-        Simple::Ref => Ok(Expr::Ref {
-            expr: words.next_id()?,
+/// Takes an expression that says what is done next.
+fn read_control(word: &[u8], words: &mut Words<'_>) -> Result<Expr, TextError> {
+    Ok(match word {
+        b"if" => Expr::If {
+            condition: next(words)?,
+            then_branch: next(words)?,
+            else_branch: next(words)?,
+        },
+        b"block" => Expr::Block {
+            id: next(words)?,
+            tail: next(words)?,
+            label: prefixed(words, b"label:")?,
+            unsafe_: if words.flag(b"unsafe") {
+                Unsafe::Yes
+            } else {
+                Unsafe::No
+            },
+            statements: each(words)?,
+        },
+        b"loop" => Expr::Loop {
+            body: next(words)?,
+            label: prefixed(words, b"label:")?,
+            source: read_loop_source(words),
+        },
+        b"match" => Expr::Match {
+            expr: next(words)?,
+            arms: each(words)?,
+        },
+        b"continue" => Expr::Continue {
+            label: prefixed(words, b"label:")?,
+        },
+        b"break" => Expr::Break {
+            expr: next(words)?,
+            label: prefixed(words, b"label:")?,
+        },
+        b"return" => Expr::Return { expr: next(words)? },
+        b"yield" => Expr::Yield { expr: next(words)? },
+        b"yeet" => Expr::Yeet { expr: next(words)? },
+        b"become" => Expr::Become { expr: next(words)? },
+        b"await" => Expr::Await { expr: next(words)? },
+        _ => return read_operation(word, words),
+    })
+}
+
+/// Takes an expression that is made of operands, or a literal.
+fn read_operation(word: &[u8], words: &mut Words<'_>) -> Result<Expr, TextError> {
+    Ok(match word {
+        b"let" => Expr::Let {
+            pat: next(words)?,
+            expr: next(words)?,
+        },
+        b"call" => Expr::Call {
+            callee: next(words)?,
+            args: next(words)?,
+        },
+        b"method" => Expr::MethodCall {
+            receiver: next(words)?,
+            method_name: next(words)?,
+            args: next(words)?,
+            generic_args: opt_next(words)?,
+        },
+        b"field" => Expr::Field {
+            expr: next(words)?,
+            name: next(words)?,
+        },
+        b"cast" => Expr::Cast {
+            expr: next(words)?,
+            type_ref: next(words)?,
+        },
+        b"ref" => Expr::Ref {
+            expr: next(words)?,
             rawness: Rawness::from_raw(words.flag(b"raw")),
             mutability: Mutability::from_mutable(words.flag(b"mut")),
-        }),
-        Simple::Unary => {
-            let (op, expr) = zip_ok(next_unary(words), words.next_id())?;
-            Ok(Expr::UnaryOp { expr, op })
-        }
-        Simple::Binary => {
-            let (op, lhs, rhs) = three(next_binary(words), words.next_id(), words.next_id())?;
-            Ok(Expr::BinaryOp { lhs, rhs, op })
-        }
-        Simple::Assign => {
-            let (target, value) = zip_ok(words.next_id(), words.next_id())?;
-            Ok(Expr::Assignment { target, value })
-        }
-        Simple::Index => {
-            let (base, index) = zip_ok(words.next_id(), words.next_id())?;
-            Ok(Expr::Index { base, index })
-        }
-    }
-}
-
-fn jump_expr(form: Jump, words: &mut Words<'_>) -> Result<Expr, TextError> {
-    match form {
-        Jump::Continue => Ok(Expr::Continue {
-            label: opt_label(words)?,
-        }),
-        Jump::Break => {
-            let (expr, label) = zip_ok(words.next_opt_id(), opt_label(words))?;
-            Ok(Expr::Break { expr, label })
-        }
-        Jump::Return => Ok(Expr::Return {
-            expr: words.next_opt_id()?,
-        }),
-        Jump::Yield => Ok(Expr::Yield {
-            expr: words.next_opt_id()?,
-        }),
-        Jump::Yeet => Ok(Expr::Yeet {
-            expr: words.next_opt_id()?,
-        }),
-        Jump::Become => Ok(Expr::Become {
-            expr: words.next_id()?,
-        }),
-        Jump::Await => Ok(Expr::Await {
-            expr: words.next_id()?,
-        }),
-    }
-}
-
-fn compound_expr(form: Compound, words: &mut Words<'_>, alloc: Global) -> Result<Expr, TextError> {
-    match form {
-        Compound::Path => Ok(Expr::Path(next_path(words, alloc)?)),
-        Compound::Array => Ok(Expr::Array(Array::ElementList {
-            elements: words.next_ids(alloc)?,
-        })),
-        Compound::OffsetOf => {
-            let (container, fields) = zip_ok(words.next_id(), next_names(words, alloc))?;
-            Ok(Expr::OffsetOf(OffsetOf { container, fields }))
-        }
-        Compound::Block => block_expr(words, alloc),
-        Compound::Call => {
-            let (callee, args) = zip_ok(words.next_id(), words.next_ids(alloc))?;
-            Ok(Expr::Call { callee, args })
-        }
-        Compound::Method => method_expr(words, alloc),
-        Compound::Match => match_expr(words, alloc),
-        Compound::Record => record_expr(words, alloc),
-        Compound::Field => {
-            let (expr, name) = zip_ok(words.next_id(), words.next_name(alloc))?;
-            Ok(Expr::Field { expr, name })
-        }
-        Compound::Closure => closure_expr(words, alloc),
-        Compound::Tuple => Ok(Expr::Tuple {
-            exprs: words.next_ids(alloc)?,
-        }),
-    }
-}
-
-/// Names after a space: joined by `,`, or `-`.
-fn next_names(words: &mut Words<'_>, alloc: Global) -> Result<Seq<Name>, TextError> {
-    words.expect(b" ")?;
-    joined_or_none(words, alloc, b",")
-}
-
-/// The generic arguments at the line's end, where there are any.
-fn opt_args(words: &mut Words<'_>, alloc: Global) -> Result<Option<Boxed<GenericArgs>>, TextError> {
-    if words.is_end() {
-        return Ok(None);
-    }
-    Ok(Some(in_box(alloc, next_args(words, alloc))?))
-}
-
-fn method_expr(words: &mut Words<'_>, alloc: Global) -> Result<Expr, TextError> {
-    let front = zip_ok(words.next_id(), words.next_name(alloc));
-    let back = zip_ok(words.next_ids(alloc), opt_args(words, alloc));
-    let ((receiver, method_name), (args, generic_args)) = zip_ok(front, back)?;
-    Ok(Expr::MethodCall {
-        receiver,
-        method_name,
-        args,
-        generic_args,
+        },
+        b"unary" => Expr::UnaryOp {
+            op: next_unary(words)?,
+            expr: next(words)?,
+        },
+        b"bin" => Expr::BinaryOp {
+            op: next_binary(words)?,
+            lhs: next(words)?,
+            rhs: next(words)?,
+        },
+        b"assign" => Expr::Assignment {
+            target: next(words)?,
+            value: next(words)?,
+        },
+        b"index" => Expr::Index {
+            base: next(words)?,
+            index: next(words)?,
+        },
+        _ => Expr::Literal(read_literal(word, words)?),
     })
 }
 
-impl Read for RecordLitField {
-    fn read(words: &mut Words<'_>, alloc: Global) -> Result<RecordLitField, TextError> {
-        let (name, expr) = zip_ok(words.name(alloc), words.part_id())?;
-        Ok(RecordLitField { name, expr })
+fn read_loop_source(words: &mut Words<'_>) -> LoopSource {
+    if words.flag(b"while") {
+        LoopSource::While
+    } else if words.flag(b"for") {
+        LoopSource::ForLoop
+    } else {
+        LoopSource::Loop
     }
 }
 
-fn record_expr(words: &mut Words<'_>, alloc: Global) -> Result<Expr, TextError> {
-    let path = next_path(words, alloc);
-    let fields = in_box(alloc, behind_spaces(words, alloc));
-    let (path, fields, spread) = three(path, fields, spread(words))?;
-    Ok(Expr::RecordLit {
-        path,
-        fields,
-        spread,
-    })
-}
-
-/// What comes after the fields of a record literal.
-fn spread(words: &mut Words<'_>) -> Result<RecordSpread, TextError> {
+/// Takes what comes after the fields of a record literal.
+fn read_spread(words: &mut Words<'_>) -> Result<RecordSpread, TextError> {
     if !words.prefix(b"..") {
         return Ok(RecordSpread::None);
     }
     if words.is_word_end() {
         return Ok(RecordSpread::FieldDefaults);
     }
-    Ok(RecordSpread::Expr(words.id()?))
+    Ok(RecordSpread::Expr(Read::read(words)?))
+}
+
+fn op_text(op: Option<BinaryOp>) -> &'static str {
+    match op {
+        Some(op) => op.as_str(),
+        None => "missing",
+    }
+}
+
+fn put_array(answer: &mut Answer, array: &Array) -> Result<(), AllocError> {
+    match array {
+        Array::ElementList { elements } => put(answer, &("array", elements)),
+        Array::Repeat {
+            initializer,
+            repeat,
+        } => put(answer, &("repeat", initializer, repeat)),
+    }
+}
+
+fn put_spread(answer: &mut Answer, spread: RecordSpread) -> Result<(), AllocError> {
+    match spread {
+        RecordSpread::None => Ok(()),
+        RecordSpread::FieldDefaults => answer.word(".."),
+        RecordSpread::Expr(id) => put_prefixed(answer, "..", &Some(id)),
+    }
+}
+
+/// The line of an expression.
+impl Write for Expr {
+    fn write(&self, answer: &mut Answer) -> Result<(), AllocError> {
+        answer.join("expr")?;
+        match self {
+            Expr::Missing => answer.word("missing"),
+            Expr::Underscore => answer.word("underscore"),
+            Expr::IncludeBytes => answer.word("include-bytes"),
+            Expr::Path(path) => put(answer, &("path", path)),
+            Expr::Literal(literal) => put_literal(answer, literal),
+            Expr::Array(array) => put_array(answer, array),
+            Expr::OffsetOf(offset_of) => {
+                let OffsetOf { container, fields } = offset_of;
+                put(answer, &("offset-of", container, fields))
+            }
+            Expr::Const(id) => put(answer, &("const", id)),
+            Expr::If {
+                condition,
+                then_branch,
+                else_branch,
+            } => put(answer, &("if", condition, then_branch, else_branch)),
+            Expr::Let { pat, expr } => put(answer, &("let", pat, expr)),
+            Expr::Block {
+                id,
+                statements,
+                tail,
+                label,
+                unsafe_,
+            } => {
+                put(answer, &("block", id, tail))?;
+                put_prefixed(answer, "label:", label)?;
+                answer.flag(*unsafe_ == Unsafe::Yes, "unsafe")?;
+                put_each(answer, statements.as_slice())
+            }
+            Expr::Loop {
+                body,
+                label,
+                source,
+            } => {
+                put(answer, &("loop", body))?;
+                put_prefixed(answer, "label:", label)?;
+                match source {
+                    LoopSource::Loop => Ok(()),
+                    LoopSource::While => answer.word("while"),
+                    LoopSource::ForLoop => answer.word("for"),
+                }
+            }
+            Expr::Call { callee, args } => put(answer, &("call", callee, args)),
+            Expr::MethodCall {
+                receiver,
+                method_name,
+                args,
+                generic_args,
+            } => {
+                put(answer, &("method", receiver, method_name, args))?;
+                match generic_args {
+                    Some(generic_args) => put(answer, generic_args.get()),
+                    None => Ok(()),
+                }
+            }
+            Expr::Match { expr, arms } => {
+                put(answer, &("match", expr))?;
+                put_each(answer, arms.as_slice())
+            }
+            Expr::Continue { label } => {
+                answer.word("continue")?;
+                put_prefixed(answer, "label:", label)
+            }
+            Expr::Break { expr, label } => {
+                put(answer, &("break", expr))?;
+                put_prefixed(answer, "label:", label)
+            }
+            Expr::Return { expr } => put(answer, &("return", expr)),
+            Expr::Yield { expr } => put(answer, &("yield", expr)),
+            Expr::Yeet { expr } => put(answer, &("yeet", expr)),
+            Expr::Become { expr } => put(answer, &("become", expr)),
+            Expr::Await { expr } => put(answer, &("await", expr)),
+            Expr::RecordLit {
+                path,
+                fields,
+                spread,
+            } => {
+                put(answer, &("record", path))?;
+                put_each(answer, fields.get().as_slice())?;
+                put_spread(answer, *spread)
+            }
+            Expr::Field { expr, name } => put(answer, &("field", expr, name)),
+            Expr::Cast { expr, type_ref } => put(answer, &("cast", expr, type_ref)),
+            Expr::Ref {
+                expr,
+                rawness,
+                mutability,
+            } => {
+                put(answer, &("ref", expr))?;
+                answer.flag(rawness.is_raw(), "raw")?;
+                answer.flag(mutability.is_mut(), "mut")
+            }
+            Expr::UnaryOp { expr, op } => put(answer, &("unary", op.as_str(), expr)),
+            Expr::BinaryOp { lhs, rhs, op } => put(answer, &("bin", op_text(*op), lhs, rhs)),
+            Expr::Assignment { target, value } => put(answer, &("assign", target, value)),
+            Expr::Index { base, index } => put(answer, &("index", base, index)),
+            Expr::Closure {
+                args,
+                arg_types,
+                ret_type,
+                body,
+                closure_kind,
+                capture_by,
+            } => {
+                put_params(answer, *body, args.as_slice(), arg_types.as_slice())?;
+                put_signature(answer, ret_type, *capture_by, *closure_kind)
+            }
+            Expr::Tuple { exprs } => put(answer, &("tuple", exprs)),
+        }
+    }
 }

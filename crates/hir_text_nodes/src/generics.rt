@@ -1,180 +1,213 @@
-//! Generic parameters and the predicates of `where` clauses: read after the first word of their line, and
+//! Generic parameters, predicates of `where` clauses and fields: read after the first word of their line, and
 //! written as their line has them.
 
-use crate::bounds::{next_bound, opt_binder};
-use crate::path_text::{join_names, write_bound};
-use crate::reading::{three, zip_ok};
-use hir_base::Name;
-use hir_collections::Idx;
+use crate::args::{opt_binder, put_binder};
+use crate::forms::{Read, Write, join, next, part, prefixed, put_prefixed};
 use hir_path::ConstRef;
 use hir_signature::{
-    ConstParamData, LifetimeBoundType, LifetimeParamData, TypeOrConstParamData, TypeParamData,
-    TypeParamProvenance, WherePredicate,
+    ConstParamData, FieldData, FieldsShape, LifetimeBoundType, LifetimeParamData, RawVisibility,
+    TypeOrConstParamData, TypeParamData, TypeParamProvenance, WherePredicate,
 };
 use hir_text_words::{Answer, TextError, Words};
-use std::alloc::{AllocError, Global};
+use std::alloc::AllocError;
 
-/// What a parameter is if no argument is given, after `default:`.
-fn opt_default<K>(words: &mut Words<'_>) -> Result<Option<Idx<K>>, TextError> {
-    words.prefixed_id(b"default:")
-}
-
-/// Where a type parameter comes from, where that isn't the list of parameters.
-const PROVENANCES: [(&str, TypeParamProvenance); 2] = [
-    ("self", TypeParamProvenance::TraitSelf),
-    ("impl", TypeParamProvenance::ArgumentImplTrait),
-];
-
-/// A type parameter, after the word `type-param`.
-pub fn read_type_param(
-    words: &mut Words<'_>,
-    alloc: Global,
-) -> Result<TypeOrConstParamData, TextError> {
-    let (name, default) = zip_ok(words.next_opt_name(alloc), opt_default(words))?;
-    let provenance = words.flag_in(&PROVENANCES);
-    Ok(TypeOrConstParamData::TypeParamData(TypeParamData {
-        name,
-        default,
-        provenance: provenance.unwrap_or(TypeParamProvenance::TypeParamList),
-    }))
-}
-
-/// A constant parameter, after the word `const-param`.
-pub fn read_const_param(
-    words: &mut Words<'_>,
-    alloc: Global,
-) -> Result<TypeOrConstParamData, TextError> {
-    let name = words.next_name(alloc);
-    let (name, ty, default) = three(name, words.next_id(), opt_const(words))?;
-    Ok(TypeOrConstParamData::ConstParamData(ConstParamData { name, ty, default }))
-}
-
-/// The constant that a parameter is if no argument is given.
-fn opt_const(words: &mut Words<'_>) -> Result<Option<ConstRef>, TextError> {
-    match opt_default(words)? {
-        Some(expr) => Ok(Some(ConstRef { expr })),
-        None => Ok(None),
-    }
-}
-
-/// A lifetime parameter, after the word `lifetime-param`.
-pub fn read_lifetime_param(
-    words: &mut Words<'_>,
-    alloc: Global,
-) -> Result<LifetimeParamData, TextError> {
-    Ok(LifetimeParamData {
-        name: words.next_name(alloc)?,
-        bound_type: bound_type(words),
-    })
-}
-
-fn bound_type(words: &mut Words<'_>) -> LifetimeBoundType {
-    if words.flag(b"late") {
-        LifetimeBoundType::LateBound
+fn read_provenance(words: &mut Words<'_>) -> TypeParamProvenance {
+    if words.flag(b"self") {
+        TypeParamProvenance::TraitSelf
+    } else if words.flag(b"impl") {
+        TypeParamProvenance::ArgumentImplTrait
     } else {
-        LifetimeBoundType::EarlyBound
+        TypeParamProvenance::TypeParamList
     }
 }
 
-/// The predicate that a type meets a bound, after the word `where`.
-pub fn read_where(words: &mut Words<'_>, alloc: Global) -> Result<WherePredicate, TextError> {
-    let target = words.next_id();
-    let bound = next_bound(words, alloc);
-    let (target, bound, lifetimes) = three(target, bound, opt_binder(words, alloc))?;
+/// A name or `-`, and what comes after it.
+impl Read for TypeParamData {
+    fn read(words: &mut Words<'_>) -> Result<TypeParamData, TextError> {
+        Ok(TypeParamData {
+            name: Read::read(words)?,
+            default: prefixed(words, b"default:")?,
+            provenance: read_provenance(words),
+        })
+    }
+}
+
+/// A constant, by its expression.
+impl Read for ConstRef {
+    fn read(words: &mut Words<'_>) -> Result<ConstRef, TextError> {
+        Ok(ConstRef {
+            expr: Read::read(words)?,
+        })
+    }
+}
+
+impl Read for ConstParamData {
+    fn read(words: &mut Words<'_>) -> Result<ConstParamData, TextError> {
+        Ok(ConstParamData {
+            name: Read::read(words)?,
+            ty: next(words)?,
+            default: prefixed(words, b"default:")?,
+        })
+    }
+}
+
+impl Read for LifetimeParamData {
+    fn read(words: &mut Words<'_>) -> Result<LifetimeParamData, TextError> {
+        Ok(LifetimeParamData {
+            name: Read::read(words)?,
+            bound_type: if words.flag(b"late") {
+                LifetimeBoundType::LateBound
+            } else {
+                LifetimeBoundType::EarlyBound
+            },
+        })
+    }
+}
+
+/// Takes the predicate that a type meets a bound, after the word `where`.
+pub fn next_where(words: &mut Words<'_>) -> Result<WherePredicate, TextError> {
     Ok(WherePredicate::TypeBound {
-        lifetimes,
-        target,
-        bound,
+        target: next(words)?,
+        bound: next(words)?,
+        lifetimes: opt_binder(words)?,
     })
 }
 
-/// The predicate that a lifetime outlives another, after the word `where-lifetime`.
-pub fn read_where_lifetime(words: &mut Words<'_>) -> Result<WherePredicate, TextError> {
-    let (target, bound) = zip_ok(words.next_id(), words.next_id())?;
-    Ok(WherePredicate::Lifetime { target, bound })
+/// Takes the predicate that a lifetime outlives another, after the word `where-lifetime`.
+pub fn next_where_lifetime(words: &mut Words<'_>) -> Result<WherePredicate, TextError> {
+    Ok(WherePredicate::Lifetime {
+        target: next(words)?,
+        bound: next(words)?,
+    })
 }
 
-/// Writes what a parameter is if no argument is given.
-fn write_default<K>(default: Option<Idx<K>>, answer: &mut Answer) -> Result<(), AllocError> {
-    match default {
-        Some(id) => {
-            answer.word("default:")?;
-            answer.join_number(id.into_raw())
-        }
-        None => Ok(()),
-    }
-}
-
-/// Writes a name, or `-`.
-fn write_opt_name(name: Option<&Name>, answer: &mut Answer) -> Result<(), AllocError> {
-    match name {
-        Some(name) => answer.name(name.as_str()),
-        None => answer.word("-"),
-    }
-}
-
-/// Writes a type or constant parameter as its line has it.
-pub fn write_type_or_const(
-    param: &TypeOrConstParamData,
-    answer: &mut Answer,
-) -> Result<(), AllocError> {
-    match param {
-        TypeOrConstParamData::TypeParamData(param) => {
-            answer.word("type-param")?;
-            write_opt_name(param.name.as_ref(), answer)?;
-            write_default(param.default, answer)?;
-            match param.provenance {
-                TypeParamProvenance::TypeParamList => Ok(()),
-                TypeParamProvenance::TraitSelf => answer.word("self"),
-                TypeParamProvenance::ArgumentImplTrait => answer.word("impl"),
-            }
-        }
-        TypeOrConstParamData::ConstParamData(param) => {
-            answer.word("const-param")?;
-            answer.name(param.name.as_str())?;
-            answer.id(param.ty)?;
-            write_default(param.default.map(|constant| constant.expr), answer)
-        }
-    }
-}
-
-/// Writes a lifetime parameter as its line has it.
-pub fn write_lifetime_param(
-    param: &LifetimeParamData,
-    answer: &mut Answer,
-) -> Result<(), AllocError> {
-    answer.word("lifetime-param")?;
-    answer.name(param.name.as_str())?;
-    match param.bound_type {
-        LifetimeBoundType::EarlyBound => Ok(()),
-        LifetimeBoundType::LateBound => answer.word("late"),
-    }
-}
-
-/// Writes a predicate as its line has it.
-pub fn write_predicate(predicate: &WherePredicate, answer: &mut Answer) -> Result<(), AllocError> {
-    match predicate {
-        WherePredicate::TypeBound {
-            lifetimes,
-            target,
-            bound,
-        } => {
-            answer.word("where")?;
-            answer.id(*target)?;
-            write_bound(bound, answer)?;
-            match lifetimes {
-                Some(names) => {
-                    answer.word("for<")?;
-                    join_names(names.as_slice(), answer)?;
-                    answer.join(">")
+/// The line of a type or constant parameter.
+impl Write for TypeOrConstParamData {
+    fn write(&self, answer: &mut Answer) -> Result<(), AllocError> {
+        match self {
+            TypeOrConstParamData::TypeParamData(param) => {
+                ("type-param", &param.name).write(answer)?;
+                put_prefixed(answer, "default:", &param.default)?;
+                match param.provenance {
+                    TypeParamProvenance::TypeParamList => Ok(()),
+                    TypeParamProvenance::TraitSelf => answer.word("self"),
+                    TypeParamProvenance::ArgumentImplTrait => answer.word("impl"),
                 }
-                None => Ok(()),
+            }
+            TypeOrConstParamData::ConstParamData(param) => {
+                ("const-param", &param.name, param.ty).write(answer)?;
+                match param.default {
+                    Some(constant) => put_prefixed(answer, "default:", &Some(constant.expr)),
+                    None => Ok(()),
+                }
             }
         }
-        WherePredicate::Lifetime { target, bound } => {
-            answer.word("where-lifetime")?;
-            answer.id(*target)?;
-            answer.id(*bound)
+    }
+}
+
+/// The line of a lifetime parameter.
+impl Write for LifetimeParamData {
+    fn write(&self, answer: &mut Answer) -> Result<(), AllocError> {
+        ("lifetime-param", &self.name).write(answer)?;
+        answer.flag(self.is_late_bound(), "late")
+    }
+}
+
+/// The line of a predicate.
+impl Write for WherePredicate {
+    fn write(&self, answer: &mut Answer) -> Result<(), AllocError> {
+        match self {
+            WherePredicate::TypeBound {
+                lifetimes,
+                target,
+                bound,
+            } => {
+                ("where", target, bound).write(answer)?;
+                put_binder(answer, lifetimes)
+            }
+            WherePredicate::Lifetime { target, bound } => {
+                ("where-lifetime", target, bound).write(answer)
+            }
         }
+    }
+}
+
+/// Takes what is in the parentheses of a visibility.
+fn read_limit(words: &mut Words<'_>) -> Result<RawVisibility, TextError> {
+    match words.keyword() {
+        b"crate" => Ok(RawVisibility::PubCrate),
+        b"self" => Ok(RawVisibility::PubSelf),
+        b"in" => Ok(RawVisibility::Module(part(words)?)),
+        _ => Err(words.reject()),
+    }
+}
+
+/// Takes a visibility after a space.
+fn next_visibility(words: &mut Words<'_>) -> Result<RawVisibility, TextError> {
+    words.expect(b" pub")?;
+    if words.is_word_end() {
+        return Ok(RawVisibility::Public);
+    }
+    words.expect(b"(")?;
+    let visibility = read_limit(words)?;
+    words.expect(b")")?;
+    Ok(visibility)
+}
+
+/// The words after `field`.
+impl Read for FieldData {
+    fn read(words: &mut Words<'_>) -> Result<FieldData, TextError> {
+        Ok(FieldData {
+            name: Read::read(words)?,
+            type_ref: next(words)?,
+            visibility: next_visibility(words)?,
+            is_unsafe: words.flag(b"unsafe"),
+            default_value: prefixed(words, b"default:")?,
+        })
+    }
+}
+
+impl Write for RawVisibility {
+    fn write(&self, answer: &mut Answer) -> Result<(), AllocError> {
+        match self {
+            RawVisibility::Public => answer.join("pub"),
+            RawVisibility::PubCrate => answer.join("pub(crate)"),
+            RawVisibility::PubSelf => answer.join("pub(self)"),
+            RawVisibility::Module(path) => {
+                join(answer, "pub(in:", path)?;
+                answer.join(")")
+            }
+        }
+    }
+}
+
+/// The line of a field.
+impl Write for FieldData {
+    fn write(&self, answer: &mut Answer) -> Result<(), AllocError> {
+        ("field", &self.name, self.type_ref, &self.visibility).write(answer)?;
+        answer.flag(self.is_unsafe, "unsafe")?;
+        put_prefixed(answer, "default:", &self.default_value)
+    }
+}
+
+/// How fields are written.
+impl Read for FieldsShape {
+    fn read(words: &mut Words<'_>) -> Result<FieldsShape, TextError> {
+        match words.keyword() {
+            b"record" => Ok(FieldsShape::Record),
+            b"tuple" => Ok(FieldsShape::Tuple),
+            b"unit" => Ok(FieldsShape::Unit),
+            _ => Err(words.reject()),
+        }
+    }
+}
+
+impl Write for FieldsShape {
+    fn write(&self, answer: &mut Answer) -> Result<(), AllocError> {
+        answer.join(match self {
+            FieldsShape::Record => "record",
+            FieldsShape::Tuple => "tuple",
+            FieldsShape::Unit => "unit",
+        })
     }
 }

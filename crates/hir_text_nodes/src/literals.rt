@@ -1,73 +1,62 @@
-//! Literals: read after their keyword, and written as their line has them.
+//! Literals and operators: read after their keyword, and written as their line has them.
 
-use crate::variants::{Word, of_word};
-use hir_base::{BuiltinFloat, BuiltinInt, BuiltinUint};
-use hir_collections::Text;
+use crate::forms::{Quoted, Read, next_quoted, opt_next, put};
+use hir_base::{
+    ArithOp, BinaryOp, BuiltinFloat, BuiltinInt, BuiltinUint, CmpOp, LogicOp, Ordering, UnaryOp,
+};
+use hir_collections::{Seq, Text};
 use hir_node::{FloatTypeWrapper, Literal};
-use hir_text_words::{Answer, TextError, Words};
-use std::alloc::{AllocError, Global};
+use hir_text_words::{Answer, Part, TextError, Words};
+use std::alloc::AllocError;
 
-/// The form of a literal.
-#[derive(Clone, Copy)]
-pub(crate) enum LiteralForm {
-    String,
-    Bytes,
-    CString,
-    Char,
-    Bool,
-    Int,
-    Uint,
-    Float,
-}
-
-const TRUTHS: [(&str, bool); 2] = [("true", true), ("false", false)];
-
-const INTS: [BuiltinInt; 6] = [
-    BuiltinInt::Isize,
-    BuiltinInt::I8,
-    BuiltinInt::I16,
-    BuiltinInt::I32,
-    BuiltinInt::I64,
-    BuiltinInt::I128,
-];
-
-const UINTS: [BuiltinUint; 6] = [
-    BuiltinUint::Usize,
-    BuiltinUint::U8,
-    BuiltinUint::U16,
-    BuiltinUint::U32,
-    BuiltinUint::U64,
-    BuiltinUint::U128,
-];
-
-const FLOATS: [BuiltinFloat; 4] = [
-    BuiltinFloat::F16,
-    BuiltinFloat::F32,
-    BuiltinFloat::F64,
-    BuiltinFloat::F128,
-];
-
-/// The literal of this form.
-pub(crate) fn read_literal(
-    form: LiteralForm,
-    words: &mut Words<'_>,
-    alloc: Global,
-) -> Result<Literal, TextError> {
-    match form {
-        LiteralForm::String => Ok(Literal::String(words.next_text(alloc)?)),
-        LiteralForm::Bytes => Ok(Literal::ByteString(words.next_bytes(alloc)?)),
-        LiteralForm::CString => Ok(Literal::CString(words.next_bytes(alloc)?)),
-        LiteralForm::Char => Ok(Literal::Char(next_char(words, alloc)?)),
-        LiteralForm::Bool => Ok(Literal::Bool(words.next_in(&TRUTHS)?)),
-        LiteralForm::Int => int_literal(words),
-        LiteralForm::Uint => uint_literal(words),
-        LiteralForm::Float => float_literal(words, alloc),
+impl Read for BuiltinInt {
+    fn read(words: &mut Words<'_>) -> Result<BuiltinInt, TextError> {
+        match words.keyword() {
+            b"isize" => Ok(BuiltinInt::Isize),
+            b"i8" => Ok(BuiltinInt::I8),
+            b"i16" => Ok(BuiltinInt::I16),
+            b"i32" => Ok(BuiltinInt::I32),
+            b"i64" => Ok(BuiltinInt::I64),
+            b"i128" => Ok(BuiltinInt::I128),
+            _ => Err(words.reject()),
+        }
     }
 }
 
-/// A text of one character.
-fn next_char(words: &mut Words<'_>, alloc: Global) -> Result<char, TextError> {
-    let text = words.next_text(alloc)?;
+impl Read for BuiltinUint {
+    fn read(words: &mut Words<'_>) -> Result<BuiltinUint, TextError> {
+        match words.keyword() {
+            b"usize" => Ok(BuiltinUint::Usize),
+            b"u8" => Ok(BuiltinUint::U8),
+            b"u16" => Ok(BuiltinUint::U16),
+            b"u32" => Ok(BuiltinUint::U32),
+            b"u64" => Ok(BuiltinUint::U64),
+            b"u128" => Ok(BuiltinUint::U128),
+            _ => Err(words.reject()),
+        }
+    }
+}
+
+impl Read for BuiltinFloat {
+    fn read(words: &mut Words<'_>) -> Result<BuiltinFloat, TextError> {
+        match words.keyword() {
+            b"f16" => Ok(BuiltinFloat::F16),
+            b"f32" => Ok(BuiltinFloat::F32),
+            b"f64" => Ok(BuiltinFloat::F64),
+            b"f128" => Ok(BuiltinFloat::F128),
+            _ => Err(words.reject()),
+        }
+    }
+}
+
+fn next_bytes(words: &mut Words<'_>) -> Result<Seq<u8>, TextError> {
+    words.expect(b" ")?;
+    Ok(Seq::from_vec(words.bytes()?))
+}
+
+/// Takes a text of one character.
+fn next_char(words: &mut Words<'_>) -> Result<char, TextError> {
+    let text = next_quoted(words)?;
     let mut chars = text.as_str().chars();
     match (chars.next(), chars.next()) {
         (Some(c), None) => Ok(c),
@@ -75,118 +64,151 @@ fn next_char(words: &mut Words<'_>, alloc: Global) -> Result<char, TextError> {
     }
 }
 
-/// The suffix at the line's end, where there is one.
-fn opt_suffix<T: Word>(all: &[T], words: &mut Words<'_>) -> Result<Option<T>, TextError> {
-    if words.is_end() {
-        return Ok(None);
-    }
-    let word = words.next_keyword()?;
-    Ok(Some(of_word(all, word, words)?))
-}
-
-fn int_literal(words: &mut Words<'_>) -> Result<Literal, TextError> {
-    words.expect(b" ")?;
-    let value = words.int()?;
-    Ok(Literal::Int(value, opt_suffix(&INTS, words)?))
-}
-
-fn uint_literal(words: &mut Words<'_>) -> Result<Literal, TextError> {
-    words.expect(b" ")?;
-    let value = words.big()?;
-    Ok(Literal::Uint(value, opt_suffix(&UINTS, words)?))
-}
-
-fn float_literal(words: &mut Words<'_>, alloc: Global) -> Result<Literal, TextError> {
-    let text = FloatTypeWrapper::new(float_text(words, alloc)?);
-    Ok(Literal::Float(text, opt_suffix(&FLOATS, words)?))
-}
-
-/// The text of a float: digits and `.`, or in quotes.
-fn float_text(words: &mut Words<'_>, alloc: Global) -> Result<Text, TextError> {
+/// Takes the text of a float: digits and `.`, or in quotes.
+fn next_float(words: &mut Words<'_>) -> Result<FloatTypeWrapper, TextError> {
     if words.is_at(b" \"") {
-        return words.next_text(alloc);
+        return Ok(FloatTypeWrapper::new(next_quoted(words)?));
     }
     words.expect(b" ")?;
-    let digits = words.decimal();
+    let digits = words.take_of(Part::Decimal);
     if digits.is_empty() {
         return Err(words.reject());
     }
-    Ok(Text::from_str(alloc, std::str::from_utf8(digits)?)?)
+    Ok(FloatTypeWrapper::new(Text::from_string(words.text_of(digits)?)))
+}
+
+/// Takes the literal of this form.
+pub(crate) fn read_literal(form: &[u8], words: &mut Words<'_>) -> Result<Literal, TextError> {
+    match form {
+        b"string" => Ok(Literal::String(next_quoted(words)?)),
+        b"bytes" => Ok(Literal::ByteString(next_bytes(words)?)),
+        b"cstring" => Ok(Literal::CString(next_bytes(words)?)),
+        b"char" => Ok(Literal::Char(next_char(words)?)),
+        b"bool" => match words.next_keyword()? {
+            b"true" => Ok(Literal::Bool(true)),
+            b"false" => Ok(Literal::Bool(false)),
+            _ => Err(words.reject()),
+        },
+        b"int" => {
+            words.expect(b" ")?;
+            Ok(Literal::Int(words.int()?, opt_next(words)?))
+        }
+        b"uint" => {
+            words.expect(b" ")?;
+            Ok(Literal::Uint(words.big()?, opt_next(words)?))
+        }
+        b"float" => Ok(Literal::Float(next_float(words)?, opt_next(words)?)),
+        _ => Err(words.reject()),
+    }
+}
+
+fn put_suffix(answer: &mut Answer, suffix: Option<&'static str>) -> Result<(), AllocError> {
+    match suffix {
+        Some(suffix) => answer.word(suffix),
+        None => Ok(()),
+    }
+}
+
+fn put_quoted(answer: &mut Answer, word: &str, text: &str) -> Result<(), AllocError> {
+    put(answer, &(word, Quoted(text)))
+}
+
+fn put_bytes(answer: &mut Answer, word: &str, bytes: &[u8]) -> Result<(), AllocError> {
+    answer.word(word)?;
+    answer.space()?;
+    answer.join_bytes(bytes)
+}
+
+/// Writes the text of a float: bare, where it is of digits and `.` alone.
+fn put_float(answer: &mut Answer, text: &str) -> Result<(), AllocError> {
+    if Part::Decimal.is_all(text.as_bytes()) {
+        put(answer, &("float", text))
+    } else {
+        put_quoted(answer, "float", text)
+    }
 }
 
 /// Writes a literal as its line has it, like `int -1 i32`.
-pub fn write_literal(literal: &Literal, answer: &mut Answer) -> Result<(), AllocError> {
+pub fn put_literal(answer: &mut Answer, literal: &Literal) -> Result<(), AllocError> {
     match literal {
-        Literal::String(text) => write_text("string", text.as_str(), answer),
-        Literal::ByteString(bytes) => write_bytes("bytes", bytes.as_slice(), answer),
-        Literal::CString(bytes) => write_bytes("cstring", bytes.as_slice(), answer),
-        Literal::Char(c) => write_text("char", c.encode_utf8(&mut [0u8; 4]), answer),
-        Literal::Bool(value) => write_bool(*value, answer),
-        Literal::Int(value, suffix) => write_int(*value, *suffix, answer),
-        Literal::Uint(value, suffix) => write_uint(*value, *suffix, answer),
-        Literal::Float(text, suffix) => write_float(text.as_str(), *suffix, answer),
+        Literal::String(text) => put_quoted(answer, "string", text.as_str()),
+        Literal::ByteString(bytes) => put_bytes(answer, "bytes", bytes.as_slice()),
+        Literal::CString(bytes) => put_bytes(answer, "cstring", bytes.as_slice()),
+        Literal::Char(c) => put_quoted(answer, "char", c.encode_utf8(&mut [0u8; 4])),
+        Literal::Bool(value) => put(answer, &("bool", if *value { "true" } else { "false" })),
+        Literal::Int(value, suffix) => {
+            answer.word("int ")?;
+            answer.join_shown(value)?;
+            put_suffix(answer, suffix.map(|suffix| suffix.as_str()))
+        }
+        Literal::Uint(value, suffix) => {
+            answer.word("uint ")?;
+            answer.join_shown(value)?;
+            put_suffix(answer, suffix.map(|suffix| suffix.as_str()))
+        }
+        Literal::Float(text, suffix) => {
+            put_float(answer, text.as_str())?;
+            put_suffix(answer, suffix.map(|suffix| suffix.as_str()))
+        }
     }
 }
 
-fn write_text(word: &str, text: &str, answer: &mut Answer) -> Result<(), AllocError> {
-    answer.word(word)?;
-    answer.quote(text)
-}
-
-fn write_bytes(word: &str, bytes: &[u8], answer: &mut Answer) -> Result<(), AllocError> {
-    answer.word(word)?;
-    answer.bytes(bytes)
-}
-
-fn write_bool(value: bool, answer: &mut Answer) -> Result<(), AllocError> {
-    answer.word("bool")?;
-    answer.word(if value { "true" } else { "false" })
-}
-
-fn write_int(
-    value: i128,
-    suffix: Option<BuiltinInt>,
-    answer: &mut Answer,
-) -> Result<(), AllocError> {
-    answer.word("int")?;
-    answer.int(value)?;
-    write_suffix(suffix, answer)
-}
-
-fn write_uint(
-    value: u128,
-    suffix: Option<BuiltinUint>,
-    answer: &mut Answer,
-) -> Result<(), AllocError> {
-    answer.word("uint")?;
-    answer.big(value)?;
-    write_suffix(suffix, answer)
-}
-
-/// Writes a float: its text bare, where it is of digits and `.` alone.
-fn write_float(
-    text: &str,
-    suffix: Option<BuiltinFloat>,
-    answer: &mut Answer,
-) -> Result<(), AllocError> {
-    answer.word("float")?;
-    if is_decimal(text.as_bytes()) {
-        answer.word(text)?;
-    } else {
-        answer.quote(text)?;
+fn arith_op(word: &[u8]) -> Option<ArithOp> {
+    match word {
+        b"+" => Some(ArithOp::Add),
+        b"-" => Some(ArithOp::Sub),
+        b"*" => Some(ArithOp::Mul),
+        b"/" => Some(ArithOp::Div),
+        b"%" => Some(ArithOp::Rem),
+        b"<<" => Some(ArithOp::Shl),
+        b">>" => Some(ArithOp::Shr),
+        b"^" => Some(ArithOp::BitXor),
+        b"|" => Some(ArithOp::BitOr),
+        b"&" => Some(ArithOp::BitAnd),
+        _ => None,
     }
-    write_suffix(suffix, answer)
 }
 
-/// Whether a text is of digits and `.` alone, and not empty.
-fn is_decimal(text: &[u8]) -> bool {
-    let mut words = Words::new(text);
-    !words.decimal().is_empty() && words.is_end()
+fn order(ordering: Ordering, strict: bool) -> BinaryOp {
+    BinaryOp::CmpOp(CmpOp::Ord { ordering, strict })
 }
 
-fn write_suffix<T: Word>(suffix: Option<T>, answer: &mut Answer) -> Result<(), AllocError> {
-    match suffix {
-        Some(suffix) => answer.word(suffix.text()),
-        None => Ok(()),
+fn binary_op(word: &[u8]) -> Option<BinaryOp> {
+    Some(match word {
+        b"||" => BinaryOp::LogicOp(LogicOp::Or),
+        b"&&" => BinaryOp::LogicOp(LogicOp::And),
+        b"==" => BinaryOp::CmpOp(CmpOp::Eq { negated: false }),
+        b"!=" => BinaryOp::CmpOp(CmpOp::Eq { negated: true }),
+        b"<" => order(Ordering::Less, true),
+        b"<=" => order(Ordering::Less, false),
+        b">" => order(Ordering::Greater, true),
+        b">=" => order(Ordering::Greater, false),
+        b"=" => BinaryOp::Assignment { op: None },
+        [word @ .., b'='] => {
+            let op = Some(arith_op(word)?);
+            BinaryOp::Assignment { op }
+        }
+        _ => BinaryOp::ArithOp(arith_op(word)?),
+    })
+}
+
+/// Takes the operator between two expressions; none for `missing`.
+pub(crate) fn next_binary(words: &mut Words<'_>) -> Result<Option<BinaryOp>, TextError> {
+    if words.flag(b"missing") {
+        return Ok(None);
+    }
+    words.expect(b" ")?;
+    let word = words.take_of(Part::Word);
+    Ok(Some(words.known(binary_op(word))?))
+}
+
+/// Takes the operator before an expression.
+pub(crate) fn next_unary(words: &mut Words<'_>) -> Result<UnaryOp, TextError> {
+    words.expect(b" ")?;
+    match words.take_of(Part::Word) {
+        b"*" => Ok(UnaryOp::Deref),
+        b"!" => Ok(UnaryOp::Not),
+        b"-" => Ok(UnaryOp::Neg),
+        _ => Err(words.reject()),
     }
 }

@@ -1,8 +1,7 @@
-//! Nodes of each arena, as `expr:3`.
+//! Nodes by their arena and number, as `expr:3`.
 
-use crate::reading::zip_ok;
-use hir_collections::Idx;
-use hir_path::{BindingId, ExprId, LabelId, LifetimeRefId, PatId, TypeRefId};
+use crate::forms::{Read, Write, join, part};
+use hir_node::{BindingId, ExprId, ExprOrPatId, LabelId, LifetimeRefId, NodeId, PatId, TypeRefId};
 use hir_text_words::{Answer, TextError, Words};
 use std::alloc::AllocError;
 
@@ -17,59 +16,58 @@ pub enum Node {
     Lifetime(LifetimeRefId),
 }
 
-/// An arena.
-#[derive(Clone, Copy)]
-enum Arena {
-    Expr,
-    Pat,
-    Type,
-    Binding,
-    Label,
-    Lifetime,
-}
-
-const ARENAS: [(&str, Arena); 6] = [
-    ("expr", Arena::Expr),
-    ("pat", Arena::Pat),
-    ("type", Arena::Type),
-    ("binding", Arena::Binding),
-    ("label", Arena::Label),
-    ("lifetime", Arena::Lifetime),
-];
-
-/// The node of this number in an arena.
-fn node_of(arena: Arena, number: u32) -> Node {
-    match arena {
-        Arena::Expr => Node::Expr(Idx::from_raw(number)),
-        Arena::Pat => Node::Pat(Idx::from_raw(number)),
-        Arena::Type => Node::Type(Idx::from_raw(number)),
-        Arena::Binding => Node::Binding(Idx::from_raw(number)),
-        Arena::Label => Node::Label(Idx::from_raw(number)),
-        Arena::Lifetime => Node::Lifetime(Idx::from_raw(number)),
+impl Read for Node {
+    fn read(words: &mut Words<'_>) -> Result<Node, TextError> {
+        Ok(match words.keyword() {
+            b"expr" => Node::Expr(part(words)?),
+            b"pat" => Node::Pat(part(words)?),
+            b"type" => Node::Type(part(words)?),
+            b"binding" => Node::Binding(part(words)?),
+            b"label" => Node::Label(part(words)?),
+            b"lifetime" => Node::Lifetime(part(words)?),
+            _ => return Err(words.reject()),
+        })
     }
 }
 
-/// A node after a space.
-pub fn next_node(words: &mut Words<'_>) -> Result<Node, TextError> {
-    let (arena, number) = zip_ok(words.next_in(&ARENAS), words.part_number(b":"))?;
-    Ok(node_of(arena, number))
-}
-
-/// The arena of a node, and its number.
-fn parts_of(node: Node) -> (&'static str, u32) {
-    match node {
-        Node::Expr(id) => ("expr:", id.into_raw()),
-        Node::Pat(id) => ("pat:", id.into_raw()),
-        Node::Type(id) => ("type:", id.into_raw()),
-        Node::Binding(id) => ("binding:", id.into_raw()),
-        Node::Label(id) => ("label:", id.into_raw()),
-        Node::Lifetime(id) => ("lifetime:", id.into_raw()),
+impl Read for ExprOrPatId {
+    fn read(words: &mut Words<'_>) -> Result<ExprOrPatId, TextError> {
+        match Node::read(words)? {
+            Node::Expr(id) => Ok(ExprOrPatId::ExprId(id)),
+            Node::Pat(id) => Ok(ExprOrPatId::PatId(id)),
+            Node::Type(_) | Node::Binding(_) | Node::Label(_) | Node::Lifetime(_) => {
+                Err(words.reject())
+            }
+        }
     }
 }
 
-/// Writes a node.
-pub fn write_node(node: Node, answer: &mut Answer) -> Result<(), AllocError> {
-    let (arena, number) = parts_of(node);
-    answer.word(arena)?;
-    answer.join_number(number)
+impl Read for NodeId {
+    fn read(words: &mut Words<'_>) -> Result<NodeId, TextError> {
+        match Node::read(words)? {
+            Node::Expr(id) => Ok(NodeId::Expr(id)),
+            Node::Pat(id) => Ok(NodeId::Pat(id)),
+            Node::Type(id) => Ok(NodeId::TypeRef(id)),
+            Node::Binding(_) | Node::Label(_) | Node::Lifetime(_) => Err(words.reject()),
+        }
+    }
+}
+
+impl Write for ExprOrPatId {
+    fn write(&self, answer: &mut Answer) -> Result<(), AllocError> {
+        match self {
+            ExprOrPatId::ExprId(id) => join(answer, "expr:", id),
+            ExprOrPatId::PatId(id) => join(answer, "pat:", id),
+        }
+    }
+}
+
+impl Write for NodeId {
+    fn write(&self, answer: &mut Answer) -> Result<(), AllocError> {
+        match self {
+            NodeId::Expr(id) => join(answer, "expr:", id),
+            NodeId::Pat(id) => join(answer, "pat:", id),
+            NodeId::TypeRef(id) => join(answer, "type:", id),
+        }
+    }
 }

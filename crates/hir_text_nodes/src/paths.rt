@@ -1,59 +1,40 @@
 //! Paths: their kind, their names, their arguments, and what they begin at.
 
-use crate::args::read_args;
-use crate::definitions::{as_lang, read_def};
-use crate::reading::{in_box, push, zip_ok};
-use hir_base::{Id, ModPath, Name, PathKind};
+use crate::args::{join_args, join_name};
+use crate::forms::{Read, Write, after, in_parens, join};
+use hir_base::{LangItemTarget, ModPath, Name, PathKind};
 use hir_collections::{Boxed, Seq};
-use hir_path::{GenericArgs, NormalPath, Path, TypeRefId};
-use hir_text_words::{TextError, Words, value_of};
-use std::alloc::Global;
+use hir_path::{GenericArgs, NormalPath, Path, PathSegments, TypeRefId};
+use hir_text_words::{Answer, TextError, Words};
+use std::alloc::AllocError;
 
-const KINDS: [(&str, PathKind); 3] = [
-    ("self", PathKind::SELF),
-    ("super", PathKind::Super(1)),
-    ("crate", PathKind::Crate),
-];
-
-/// Whether a bare word is the kind of a path, and so no name of a segment.
-pub(crate) fn is_kind(word: &[u8]) -> bool {
-    value_of(&KINDS, word).is_some()
-}
-
-/// How many modules above: the number in parentheses, or one.
-fn read_super(words: &mut Words<'_>) -> Result<u8, TextError> {
-    if !words.eat(b"(") {
-        return Ok(1);
+/// Returns the kind of a path that a bare word is; none where it is the name of a segment.
+fn kind_of(word: &[u8]) -> Option<PathKind> {
+    match word {
+        b"self" => Some(PathKind::SELF),
+        b"super" => Some(PathKind::Super(1)),
+        b"crate" => Some(PathKind::Crate),
+        _ => None,
     }
-    let count = words.byte()?;
-    words.expect(b")")?;
-    Ok(count)
 }
 
-/// The crate after `$crate(`.
-fn read_crate(words: &mut Words<'_>) -> Result<PathKind, TextError> {
-    let krate = words.number()?;
-    words.expect(b")")?;
-    Ok(PathKind::DollarCrate(Id::from_raw(krate)))
-}
-
-/// The kind of a path that begins with a word; none where that is the name of a segment.
+/// Takes the kind of a path that begins with a word; none where that is the name of a segment.
 fn opt_kind(words: &mut Words<'_>) -> Result<Option<PathKind>, TextError> {
     if words.eat(b"$crate(") {
-        return Ok(Some(read_crate(words)?));
+        return Ok(Some(PathKind::DollarCrate(in_parens(words)?)));
     }
     let mut ahead = *words;
-    let kind = value_of(&KINDS, ahead.bare_name());
+    let kind = kind_of(ahead.bare_name());
     if kind.is_some() {
         *words = ahead;
     }
-    if kind == Some(PathKind::Super(1)) {
-        return Ok(Some(PathKind::Super(read_super(words)?)));
+    if kind == Some(PathKind::Super(1)) && words.eat(b"(") {
+        return Ok(Some(PathKind::Super(in_parens(words)?)));
     }
     Ok(kind)
 }
 
-/// The kind of a path, and whether a segment comes next.
+/// Takes the kind of a path; returns also whether a segment comes next.
 fn read_kind(words: &mut Words<'_>) -> Result<(PathKind, bool), TextError> {
     if words.eat(b"::") {
         return Ok((PathKind::Abs, words.is_at_name()));
@@ -67,110 +48,72 @@ fn read_kind(words: &mut Words<'_>) -> Result<(PathKind, bool), TextError> {
     }
 }
 
-/// The name of a segment.
-fn read_segment(words: &mut Words<'_>, alloc: Global) -> Result<Name, TextError> {
+fn read_segment(words: &mut Words<'_>) -> Result<Name, TextError> {
     let mut ahead = *words;
-    if is_kind(ahead.bare_name()) {
+    if kind_of(ahead.bare_name()).is_some() {
         return Err(words.reject());
     }
-    words.name(alloc)
+    Read::read(words)
 }
 
-/// The names of segments.
-fn read_names(words: &mut Words<'_>, alloc: Global) -> Result<Seq<Name>, TextError> {
-    let mut names = Seq::new(alloc);
-    for _ in 0..words.rest().len() {
-        push(&mut names, read_segment(words, alloc))?;
-        if !words.eat(b"::") {
-            return Ok(names);
+/// Takes the names of segments, where this says that there are any.
+fn read_names(words: &mut Words<'_>, has_names: bool) -> Result<Seq<Name>, TextError> {
+    let mut names = Seq::new(words.alloc());
+    let mut goes_on = has_names;
+    for _ in 0..words.most_items() {
+        if !goes_on {
+            break;
         }
+        names.push(read_segment(words)?)?;
+        goes_on = words.eat(b"::");
     }
-    Err(words.reject())
+    Ok(names)
 }
 
-/// The names of segments, where this says that there are any.
-fn opt_names(
-    words: &mut Words<'_>,
-    alloc: Global,
-    has_names: bool,
-) -> Result<Seq<Name>, TextError> {
-    if has_names {
-        return read_names(words, alloc);
+impl Read for ModPath {
+    fn read(words: &mut Words<'_>) -> Result<ModPath, TextError> {
+        let (kind, has_names) = read_kind(words)?;
+        let names = read_names(words, has_names)?;
+        Ok(ModPath::from_segments(words.alloc(), kind, names)?)
     }
-    Ok(Seq::new(alloc))
 }
 
-/// A path without arguments.
-pub fn read_mod_path(words: &mut Words<'_>, alloc: Global) -> Result<ModPath, TextError> {
-    let (kind, has_names) = read_kind(words)?;
-    let names = opt_names(words, alloc, has_names)?;
-    mod_path(alloc, kind, names)
-}
+/// The places of a path for the arguments of its segments.
+type Places = Seq<Option<GenericArgs>>;
 
-/// The same after a space.
-pub(crate) fn next_mod_path(words: &mut Words<'_>, alloc: Global) -> Result<ModPath, TextError> {
-    words.expect(b" ")?;
-    read_mod_path(words, alloc)
-}
-
-/// The segments of a path: their names, and a place for the arguments of each.
-#[derive(Drop)]
-struct Segments {
-    names: Seq<Name>,
-    places: Seq<Option<GenericArgs>>,
-}
-
-/// The arguments of a segment, where it has any.
-fn opt_args(words: &mut Words<'_>, alloc: Global) -> Result<Option<GenericArgs>, TextError> {
+fn opt_args(words: &mut Words<'_>) -> Result<Option<GenericArgs>, TextError> {
     if words.is_at(b"::<") {
-        return Ok(Some(read_args(words, alloc)?));
+        return Ok(Some(Read::read(words)?));
     }
     Ok(None)
 }
 
-/// The next segment, which is put after the others.
-fn push_segment(
-    words: &mut Words<'_>,
-    alloc: Global,
-    segments: &mut Segments,
-) -> Result<(), TextError> {
-    push(&mut segments.names, read_segment(words, alloc))?;
-    push(&mut segments.places, opt_args(words, alloc))
-}
-
-/// The segments of a path, where this says that there are any.
-fn opt_segments(
-    words: &mut Words<'_>,
-    alloc: Global,
-    has_segments: bool,
-) -> Result<Segments, TextError> {
-    let mut segments = Segments {
-        names: Seq::new(alloc),
-        places: Seq::new(alloc),
-    };
-    if !has_segments {
-        return Ok(segments);
-    }
-    for _ in 0..words.rest().len() {
-        push_segment(words, alloc, &mut segments)?;
-        if !words.eat(b"::") {
-            return Ok(segments);
+/// Takes the names of segments and their arguments, where this says that there are any.
+fn read_segments(words: &mut Words<'_>, has_some: bool) -> Result<(Seq<Name>, Places), TextError> {
+    let mut names = Seq::new(words.alloc());
+    let mut places = Seq::new(words.alloc());
+    let mut goes_on = has_some;
+    for _ in 0..words.most_items() {
+        if !goes_on {
+            break;
         }
+        names.push(read_segment(words)?)?;
+        places.push(opt_args(words)?)?;
+        goes_on = words.eat(b"::");
     }
-    Err(words.reject())
+    Ok((names, places))
 }
 
-/// The type in `<>` that a path begins at, where there is one.
+/// Takes the type in `<>` that a path begins at, where there is one.
 fn opt_anchor(words: &mut Words<'_>) -> Result<Option<TypeRefId>, TextError> {
-    if !words.eat(b"<") {
-        return Ok(None);
+    let anchor = after(words, b"<")?;
+    if anchor.is_some() {
+        words.expect(b">")?;
     }
-    let anchor = words.id()?;
-    words.expect(b">")?;
-    Ok(Some(anchor))
+    Ok(anchor)
 }
 
-/// The kind of a path after its anchor, if it has one, and whether a segment comes next.
+/// Takes the kind of a path after its anchor, if it has one; returns also whether a segment comes next.
 fn kind_behind(words: &mut Words<'_>, has_anchor: bool) -> Result<(PathKind, bool), TextError> {
     if has_anchor && !words.eat(b"::") {
         return Ok((PathKind::Plain, false));
@@ -178,8 +121,7 @@ fn kind_behind(words: &mut Words<'_>, has_anchor: bool) -> Result<(PathKind, boo
     read_kind(words)
 }
 
-/// Whether there are arguments in one of these places.
-pub(crate) fn has_args(places: &[Option<GenericArgs>]) -> bool {
+fn has_args(places: &[Option<GenericArgs>]) -> bool {
     for place in places {
         if place.is_some() {
             return true;
@@ -188,26 +130,15 @@ pub(crate) fn has_args(places: &[Option<GenericArgs>]) -> bool {
     false
 }
 
-/// The places of a path, as many as come after `/`: no arguments may be lost.
-fn read_places(
-    words: &mut Words<'_>,
-    places: Seq<Option<GenericArgs>>,
-) -> Result<Seq<Option<GenericArgs>>, TextError> {
-    if !words.eat(b"/") {
+/// Returns these places, cut or filled up to as many as come after `/`: no arguments may be lost.
+fn read_places(words: &mut Words<'_>, places: Places) -> Result<Places, TextError> {
+    let Some(count) = after::<u8>(words, b"/")? else {
         return Ok(places);
-    }
-    let count = usize::from(words.byte()?);
+    };
+    let count = usize::from(count);
     if count < places.len() && has_args(&places.as_slice()[count..]) {
         return Err(words.reject());
     }
-    resize(places, count)
-}
-
-/// These places, cut to this number, or filled up to it.
-fn resize(
-    places: Seq<Option<GenericArgs>>,
-    count: usize,
-) -> Result<Seq<Option<GenericArgs>>, TextError> {
     let mut places = places.into_vec();
     places.truncate(count);
     for _ in places.len()..count {
@@ -216,71 +147,170 @@ fn resize(
     Ok(Seq::from_vec(places))
 }
 
-/// The name after a lang item, where there is one.
-fn opt_lang_name(words: &mut Words<'_>, alloc: Global) -> Result<Option<Boxed<Name>>, TextError> {
+/// Takes the name after a lang item, where there is one.
+fn opt_lang_name(words: &mut Words<'_>) -> Result<Option<Boxed<Name>>, TextError> {
     if words.eat(b"::") {
-        return Ok(Some(in_box(alloc, read_segment(words, alloc))?));
+        let name = read_segment(words)?;
+        return Ok(Some(Boxed::new(words.alloc(), name)?));
     }
     Ok(None)
 }
 
-/// The definition after `lang(`, and its name.
-fn read_lang(words: &mut Words<'_>, alloc: Global) -> Result<Path, TextError> {
-    let def = read_def(words)?;
-    words.expect(b")")?;
-    Ok(Path::LangItem(as_lang(def), opt_lang_name(words, alloc)?))
+/// Takes the definition after `lang(`, and its name.
+fn read_lang(words: &mut Words<'_>) -> Result<Path, TextError> {
+    let target: LangItemTarget = in_parens(words)?;
+    Ok(Path::LangItem(target, opt_lang_name(words)?))
 }
 
-/// The names and the places of a path, with its anchor.
-fn normal_of(
-    type_anchor: Option<TypeRefId>,
-    parts: Result<(ModPath, Seq<Option<GenericArgs>>), TextError>,
-) -> Result<NormalPath, TextError> {
-    let (mod_path, generic_args) = parts?;
-    Ok(NormalPath {
-        generic_args,
-        type_anchor,
-        mod_path,
-    })
-}
-
-/// A path that may have arguments or an anchor.
-fn normal_path(
+/// Takes the rest of a path that may have arguments or an anchor.
+fn read_normal(
     words: &mut Words<'_>,
-    alloc: Global,
     type_anchor: Option<TypeRefId>,
     kind: PathKind,
-    segments: Segments,
+    names: Seq<Name>,
+    places: Places,
 ) -> Result<Path, TextError> {
-    let Segments { names, places } = segments;
-    let places = read_places(words, places);
-    let parts = zip_ok(mod_path(alloc, kind, names), places);
-    Ok(Path::Normal(in_box(alloc, normal_of(type_anchor, parts))?))
+    let mod_path = ModPath::from_segments(words.alloc(), kind, names)?;
+    let path = NormalPath {
+        generic_args: read_places(words, places)?,
+        type_anchor,
+        mod_path,
+    };
+    Ok(Path::Normal(Boxed::new(words.alloc(), path)?))
 }
 
-/// A path without arguments, of this kind and with these names.
-fn mod_path(alloc: Global, kind: PathKind, names: Seq<Name>) -> Result<ModPath, TextError> {
-    Ok(ModPath::from_segments(alloc, kind, names)?)
-}
-
-/// A path.
-pub fn read_path(words: &mut Words<'_>, alloc: Global) -> Result<Path, TextError> {
-    if words.eat(b"lang(") {
-        return read_lang(words, alloc);
+impl Read for Path {
+    fn read(words: &mut Words<'_>) -> Result<Path, TextError> {
+        if words.eat(b"lang(") {
+            return read_lang(words);
+        }
+        let is_normal = words.eat(b"~");
+        let anchor = opt_anchor(words)?;
+        let (kind, has_segments) = kind_behind(words, anchor.is_some())?;
+        let (names, places) = read_segments(words, has_segments)?;
+        if is_normal || anchor.is_some() || has_args(places.as_slice()) {
+            return read_normal(words, anchor, kind, names, places);
+        }
+        Ok(Path::BarePath(ModPath::from_segments(words.alloc(), kind, names)?))
     }
-    let is_normal = words.eat(b"~");
-    let anchor = opt_anchor(words)?;
-    let (kind, has_segments) = kind_behind(words, anchor.is_some())?;
-    let segments = opt_segments(words, alloc, has_segments)?;
-    if is_normal || anchor.is_some() || has_args(segments.places.as_slice()) {
-        return normal_path(words, alloc, anchor, kind, segments);
-    }
-    let Segments { names, places: _ } = segments;
-    Ok(Path::BarePath(mod_path(alloc, kind, names)?))
 }
 
-/// A path after a space.
-pub fn next_path(words: &mut Words<'_>, alloc: Global) -> Result<Path, TextError> {
-    words.expect(b" ")?;
-    read_path(words, alloc)
+/// Writes how many modules above a path begins.
+fn join_super(answer: &mut Answer, count: u8) -> Result<(), AllocError> {
+    match count {
+        0 => answer.join("self"),
+        1 => answer.join("super"),
+        _ => {
+            join(answer, "super(", &u32::from(count))?;
+            answer.join(")")
+        }
+    }
+}
+
+/// Writes where a path begins that has names, or has none.
+fn join_kind(answer: &mut Answer, kind: PathKind, has_names: bool) -> Result<(), AllocError> {
+    match kind {
+        PathKind::Plain => return answer.join(if has_names { "" } else { "-" }),
+        PathKind::Abs => return answer.join("::"),
+        PathKind::Super(count) => join_super(answer, count)?,
+        PathKind::Crate => answer.join("crate")?,
+        PathKind::DollarCrate(krate) => {
+            join(answer, "$crate(", &krate)?;
+            answer.join(")")?;
+        }
+    }
+    answer.join(if has_names { "::" } else { "" })
+}
+
+fn join_segment(answer: &mut Answer, name: &Name) -> Result<(), AllocError> {
+    join_name(answer, name, kind_of(name.as_str().as_bytes()).is_some())
+}
+
+impl Write for ModPath {
+    fn write(&self, answer: &mut Answer) -> Result<(), AllocError> {
+        join_kind(answer, self.kind(), !self.segments().is_empty())?;
+        let mut before = "";
+        for name in self.segments() {
+            answer.join(before)?;
+            join_segment(answer, name)?;
+            before = "::";
+        }
+        Ok(())
+    }
+}
+
+/// Writes segments with their arguments, joined by `::`.
+pub fn join_segments(answer: &mut Answer, segments: PathSegments<'_>) -> Result<(), AllocError> {
+    let mut before = "";
+    for segment in segments.iter() {
+        answer.join(before)?;
+        join_segment(answer, segment.name)?;
+        match segment.args_and_bindings {
+            Some(args) => join_args(answer, args)?,
+            None => {}
+        }
+        before = "::";
+    }
+    Ok(())
+}
+
+/// Writes what a path begins at, and where. A path with neither an anchor nor arguments has `~` before it.
+fn join_start(answer: &mut Answer, path: &NormalPath) -> Result<(), AllocError> {
+    let kind = path.mod_path.kind();
+    let has_names = !path.mod_path.segments().is_empty();
+    match path.type_anchor {
+        Some(anchor) => {
+            join(answer, "<", &anchor)?;
+            if !has_names && kind == PathKind::Plain {
+                return answer.join(">");
+            }
+            answer.join(">::")?;
+        }
+        None => {
+            let has_args = has_args(path.generic_args.as_slice());
+            answer.join(if has_args { "" } else { "~" })?;
+        }
+    }
+    join_kind(answer, kind, has_names)
+}
+
+/// Writes a path that may have arguments or an anchor.
+fn join_normal(
+    answer: &mut Answer,
+    path: &NormalPath,
+    segments: PathSegments<'_>,
+) -> Result<(), AllocError> {
+    join_start(answer, path)?;
+    join_segments(answer, segments)?;
+    let places = path.generic_args.len();
+    if places == path.mod_path.segments().len() {
+        return Ok(());
+    }
+    join(answer, "/", &places)
+}
+
+fn join_lang(
+    answer: &mut Answer,
+    target: &LangItemTarget,
+    name: Option<&Boxed<Name>>,
+) -> Result<(), AllocError> {
+    join(answer, "lang(", target)?;
+    answer.join(")")?;
+    match name {
+        Some(name) => {
+            answer.join("::")?;
+            join_segment(answer, name.get())
+        }
+        None => Ok(()),
+    }
+}
+
+impl Write for Path {
+    fn write(&self, answer: &mut Answer) -> Result<(), AllocError> {
+        match self {
+            Path::BarePath(path) => path.write(answer),
+            Path::Normal(normal) => join_normal(answer, normal.get(), self.segments()),
+            Path::LangItem(target, name) => join_lang(answer, target, name.as_ref()),
+        }
+    }
 }

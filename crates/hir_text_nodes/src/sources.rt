@@ -1,32 +1,45 @@
-//! Pointers to syntax and their files, as `0:7:3-9`: file, kind, start and end.
+//! Where nodes come from, as `0:7:3-9` (file, kind, start and end), hygiene, editions and calling
+//! conventions.
 
-use crate::reading::{three, zip_ok};
-use hir_base::{AstPtr, InFile, SyntaxNodePtr, TextRange};
+use crate::forms::{Read, Write, join, next, opt_next, part};
+use hir_base::{
+    AstPtr, Edition, ExprPrecedence, ExternAbi, HygieneId, InFile, SyntaxContext, SyntaxNodePtr,
+    TextRange,
+};
 use hir_text_words::{Answer, TextError, Words};
 use std::alloc::AllocError;
 
-/// A range: start, `-` and end.
-fn read_range(words: &mut Words<'_>) -> Result<TextRange, TextError> {
-    let (start, end) = zip_ok(words.number(), words.part_number(b"-"))?;
-    Ok(TextRange { start, end })
+impl Read for InFile<SyntaxNodePtr> {
+    fn read(words: &mut Words<'_>) -> Result<InFile<SyntaxNodePtr>, TextError> {
+        let file_id = Read::read(words)?;
+        let kind = part(words)?;
+        let start = part(words)?;
+        words.expect(b"-")?;
+        let end = Read::read(words)?;
+        let range = TextRange { start, end };
+        let value = SyntaxNodePtr { kind, range };
+        Ok(InFile { file_id, value })
+    }
 }
 
-/// A kind of syntax after a colon, and after another its range.
-fn read_pointer(words: &mut Words<'_>) -> Result<SyntaxNodePtr, TextError> {
-    words.expect(b":")?;
-    let kind = words.short();
-    let colon = words.expect(b":");
-    let (kind, (), range) = three(kind, colon, read_range(words))?;
-    Ok(SyntaxNodePtr { kind, range })
+impl<K> Read for InFile<AstPtr<K>> {
+    fn read(words: &mut Words<'_>) -> Result<InFile<AstPtr<K>>, TextError> {
+        Ok(pointer(Read::read(words)?))
+    }
 }
 
-/// A source after a space.
-pub fn next_source(words: &mut Words<'_>) -> Result<InFile<SyntaxNodePtr>, TextError> {
-    let (file_id, value) = zip_ok(words.next_def(), read_pointer(words))?;
-    Ok(InFile { file_id, value })
+impl Write for InFile<SyntaxNodePtr> {
+    fn write(&self, answer: &mut Answer) -> Result<(), AllocError> {
+        let SyntaxNodePtr { kind, range } = self.value;
+        let TextRange { start, end } = range;
+        answer.join_number(self.file_id.into_raw())?;
+        join(answer, ":", &u32::from(kind))?;
+        join(answer, ":", &start)?;
+        join(answer, "-", &end)
+    }
 }
 
-/// The source as one that points to a node of the kind `K`.
+/// Returns the source as one that points to a node of the kind `K`.
 pub fn pointer<K>(source: InFile<SyntaxNodePtr>) -> InFile<AstPtr<K>> {
     InFile {
         file_id: source.file_id,
@@ -34,7 +47,7 @@ pub fn pointer<K>(source: InFile<SyntaxNodePtr>) -> InFile<AstPtr<K>> {
     }
 }
 
-/// The source without the kind of its node.
+/// Returns the source without the kind of its node.
 pub fn syntax<K>(source: InFile<AstPtr<K>>) -> InFile<SyntaxNodePtr> {
     InFile {
         file_id: source.file_id,
@@ -42,17 +55,114 @@ pub fn syntax<K>(source: InFile<AstPtr<K>>) -> InFile<SyntaxNodePtr> {
     }
 }
 
-/// Writes a source after the last word without a space.
-fn join_source(source: InFile<SyntaxNodePtr>, answer: &mut Answer) -> Result<(), AllocError> {
-    answer.join_number(source.file_id.into_raw())?;
-    answer.join_around(":", u32::from(source.value.kind), ":")?;
-    answer.join_number(source.value.range.start)?;
-    answer.join("-")?;
-    answer.join_number(source.value.range.end)
+/// The number of an expansion, or `root`.
+impl Read for HygieneId {
+    fn read(words: &mut Words<'_>) -> Result<HygieneId, TextError> {
+        if words.eat(b"root") {
+            return Ok(HygieneId::ROOT);
+        }
+        Ok(HygieneId::new(SyntaxContext::Expansion(Read::read(words)?)))
+    }
 }
 
-/// Writes a source.
-pub fn write_source(source: InFile<SyntaxNodePtr>, answer: &mut Answer) -> Result<(), AllocError> {
-    answer.word("")?;
-    join_source(source, answer)
+impl Write for HygieneId {
+    fn write(&self, answer: &mut Answer) -> Result<(), AllocError> {
+        match self.syntax_context() {
+            SyntaxContext::Root(_) => answer.join("root"),
+            SyntaxContext::Expansion(number) => answer.join_number(number),
+        }
+    }
+}
+
+/// Takes a hygiene, where one comes next: else it is that of source text.
+pub fn opt_hygiene(words: &mut Words<'_>) -> Result<HygieneId, TextError> {
+    if words.flag(b"root") {
+        return Ok(HygieneId::ROOT);
+    }
+    match words.rest() {
+        [b' ', b'0'..=b'9', ..] => next(words),
+        _ => Ok(HygieneId::ROOT),
+    }
+}
+
+impl Read for Edition {
+    fn read(words: &mut Words<'_>) -> Result<Edition, TextError> {
+        match words.keyword() {
+            b"2015" => Ok(Edition::Edition2015),
+            b"2018" => Ok(Edition::Edition2018),
+            b"2021" => Ok(Edition::Edition2021),
+            b"2024" => Ok(Edition::Edition2024),
+            _ => Err(words.reject()),
+        }
+    }
+}
+
+/// Takes the edition at the end of a line: 2021 where the line ends before it.
+pub fn opt_edition(words: &mut Words<'_>) -> Result<Edition, TextError> {
+    Ok(opt_next(words)?.unwrap_or(Edition::Edition2021))
+}
+
+/// A word that is known, or any text in quotes.
+impl Read for ExternAbi {
+    fn read(words: &mut Words<'_>) -> Result<ExternAbi, TextError> {
+        if words.is_at(b"\"") {
+            return Ok(ExternAbi::Named(Read::read(words)?));
+        }
+        match words.keyword() {
+            b"Rust" => Ok(ExternAbi::Rust),
+            b"C" => Ok(ExternAbi::C),
+            b"C-unwind" => Ok(ExternAbi::CUnwind),
+            b"system" => Ok(ExternAbi::System),
+            b"system-unwind" => Ok(ExternAbi::SystemUnwind),
+            _ => Err(words.reject()),
+        }
+    }
+}
+
+/// Takes the calling convention where `extern:` comes next: that of Rust where it doesn't. Before a number it
+/// is the name of a parameter.
+pub fn opt_abi(words: &mut Words<'_>) -> Result<ExternAbi, TextError> {
+    let mut ahead = *words;
+    if !ahead.prefix(b"extern:") || matches!(ahead.rest(), [b'0'..=b'9', ..]) {
+        return Ok(ExternAbi::Rust);
+    }
+    *words = ahead;
+    Read::read(words)
+}
+
+/// Writes a calling convention after `extern:`, and nothing for that of Rust.
+pub fn put_abi(answer: &mut Answer, abi: &ExternAbi) -> Result<(), AllocError> {
+    match abi {
+        ExternAbi::Rust => Ok(()),
+        ExternAbi::C | ExternAbi::CUnwind | ExternAbi::System | ExternAbi::SystemUnwind => {
+            answer.word("extern:")?;
+            answer.join(abi.as_str())
+        }
+        ExternAbi::Named(text) => {
+            answer.word("extern:")?;
+            answer.join_quoted(text.as_str())
+        }
+    }
+}
+
+/// Returns the name of a precedence.
+pub fn precedence_text(precedence: ExprPrecedence) -> &'static str {
+    match precedence {
+        ExprPrecedence::Jump => "Jump",
+        ExprPrecedence::Assign => "Assign",
+        ExprPrecedence::Range => "Range",
+        ExprPrecedence::LOr => "LOr",
+        ExprPrecedence::LAnd => "LAnd",
+        ExprPrecedence::Compare => "Compare",
+        ExprPrecedence::BitOr => "BitOr",
+        ExprPrecedence::BitXor => "BitXor",
+        ExprPrecedence::BitAnd => "BitAnd",
+        ExprPrecedence::Shift => "Shift",
+        ExprPrecedence::Sum => "Sum",
+        ExprPrecedence::Product => "Product",
+        ExprPrecedence::Cast => "Cast",
+        ExprPrecedence::Prefix => "Prefix",
+        ExprPrecedence::Postfix => "Postfix",
+        ExprPrecedence::Unambiguous => "Unambiguous",
+    }
 }

@@ -1,221 +1,252 @@
-//! Types, as the line after `type` has them, and the calling conventions of functions.
+//! Types, lifetimes, labels and bindings: each form is read by its word and its parts, and written as its
+//! line has it.
 
-use crate::bounds::{next_bounds, opt_binder};
-use crate::definitions::next_type_param;
-use crate::paths::next_path;
-use crate::reading::{Read, behind_spaces, in_box, three, zip_ok};
-use hir_base::{ExternAbi, Name};
-use hir_collections::{Boxed, Text};
-use hir_node::{ArrayType, ConstRef, FnType, Mutability, RefType, TypeRef, TypeRefId};
+use crate::args::{next_bounds, opt_binder, put_binder, put_bounds};
+use crate::forms::{Read, Write, each, next, put};
+use crate::sources::{opt_abi, opt_hygiene, put_abi};
+use hir_base::Name;
+use hir_node::{
+    ArrayType, Binding, BindingAnnotation, BindingProblems, ConstRef, FnType, Label, LifetimeRef,
+    Mutability, RefType, TypeRef, TypeRefId,
+};
 use hir_text_words::{Answer, TextError, Words};
-use std::alloc::{AllocError, Global};
+use std::alloc::AllocError;
 
-/// A calling convention that is known by a word.
-#[derive(Clone, Copy)]
-enum KnownAbi {
-    Rust,
-    C,
-    CUnwind,
-    System,
-    SystemUnwind,
-}
-
-const ABIS: [(&str, KnownAbi); 5] = [
-    ("Rust", KnownAbi::Rust),
-    ("C", KnownAbi::C),
-    ("C-unwind", KnownAbi::CUnwind),
-    ("system", KnownAbi::System),
-    ("system-unwind", KnownAbi::SystemUnwind),
-];
-
-fn abi_of(known: KnownAbi) -> ExternAbi {
-    match known {
-        KnownAbi::Rust => ExternAbi::Rust,
-        KnownAbi::C => ExternAbi::C,
-        KnownAbi::CUnwind => ExternAbi::CUnwind,
-        KnownAbi::System => ExternAbi::System,
-        KnownAbi::SystemUnwind => ExternAbi::SystemUnwind,
-    }
-}
-
-/// A calling convention, after `extern:`: a word that is known, or any text in quotes.
-fn read_abi(words: &mut Words<'_>, alloc: Global) -> Result<ExternAbi, TextError> {
-    if words.is_at(b"\"") {
-        return Ok(ExternAbi::Named(Text::from_string(words.string(alloc)?)));
-    }
-    Ok(abi_of(words.keyword_in(&ABIS)?))
-}
-
-/// The calling convention where `extern:` comes next: that of Rust where it doesn't. Before a number it is
-/// the name of a parameter.
-pub fn opt_abi(words: &mut Words<'_>, alloc: Global) -> Result<ExternAbi, TextError> {
-    let mut ahead = *words;
-    if !ahead.prefix(b"extern:") || matches!(ahead.rest(), [b'0'..=b'9', ..]) {
-        return Ok(ExternAbi::Rust);
-    }
-    *words = ahead;
-    read_abi(words, alloc)
-}
-
-/// Writes a calling convention after `extern:`, and nothing for that of Rust.
-pub fn write_abi(abi: &ExternAbi, answer: &mut Answer) -> Result<(), AllocError> {
-    match abi {
-        ExternAbi::Rust => Ok(()),
-        ExternAbi::C | ExternAbi::CUnwind | ExternAbi::System | ExternAbi::SystemUnwind => {
-            answer.word("extern:")?;
-            answer.join(abi.as_str())
-        }
-        ExternAbi::Named(text) => {
-            answer.word("extern:")?;
-            answer.join_quoted(text.as_str())
+/// The words after `type`.
+impl Read for TypeRef {
+    fn read(words: &mut Words<'_>) -> Result<TypeRef, TextError> {
+        match words.keyword() {
+            b"never" => Ok(TypeRef::Never),
+            b"placeholder" => Ok(TypeRef::Placeholder),
+            b"error" => Ok(TypeRef::Error),
+            b"tuple" => Ok(TypeRef::Tuple(next(words)?)),
+            b"path" => Ok(TypeRef::Path(next(words)?)),
+            b"raw" => {
+                let ty = next(words)?;
+                Ok(TypeRef::RawPtr(ty, Mutability::from_mutable(words.flag(b"mut"))))
+            }
+            b"ref" => Ok(TypeRef::Reference(Read::read(words)?)),
+            b"array" => {
+                let (ty, expr) = (next(words)?, next(words)?);
+                let len = ConstRef { expr };
+                Ok(TypeRef::Array(ArrayType { ty, len }))
+            }
+            b"slice" => Ok(TypeRef::Slice(next(words)?)),
+            b"fn" => Ok(TypeRef::Fn(Read::read(words)?)),
+            b"impl" => Ok(TypeRef::ImplTrait(next_bounds(words)?)),
+            b"dyn" => Ok(TypeRef::DynTrait(next_bounds(words)?)),
+            b"param" => Ok(TypeRef::TypeParam(next(words)?)),
+            b"pattern" => Ok(TypeRef::PatternType(next(words)?, next(words)?)),
+            _ => Err(words.reject()),
         }
     }
 }
 
-/// `mut`, where it comes next.
-fn opt_mut(words: &mut Words<'_>) -> Mutability {
-    Mutability::from_mutable(words.flag(b"mut"))
+/// The words after `ref`.
+impl Read for RefType {
+    fn read(words: &mut Words<'_>) -> Result<RefType, TextError> {
+        Ok(RefType {
+            ty: next(words)?,
+            lifetime: next(words)?,
+            mutability: Mutability::from_mutable(words.flag(b"mut")),
+        })
+    }
 }
 
-/// The name of a parameter and a colon, where they come next.
-fn opt_param_name(words: &mut Words<'_>, alloc: Global) -> Result<Option<Name>, TextError> {
+/// The words after `fn`.
+impl Read for FnType {
+    fn read(words: &mut Words<'_>) -> Result<FnType, TextError> {
+        Ok(FnType {
+            binder: opt_binder(words)?,
+            is_unsafe: words.flag(b"unsafe"),
+            abi: opt_abi(words)?,
+            is_varargs: words.flag(b"varargs"),
+            params: each(words)?,
+        })
+    }
+}
+
+/// Takes the name of a parameter and a colon, where they come next.
+fn opt_param_name(words: &mut Words<'_>) -> Result<Option<Name>, TextError> {
     if !words.is_at_name() {
         return Ok(None);
     }
-    let (name, ()) = zip_ok(words.name(alloc), words.expect(b":"))?;
+    let name = Read::read(words)?;
+    words.expect(b":")?;
     Ok(Some(name))
 }
 
 /// A parameter of a function pointer: its type, perhaps after a name.
 impl Read for (Option<Name>, TypeRefId) {
-    fn read(words: &mut Words<'_>, alloc: Global) -> Result<(Option<Name>, TypeRefId), TextError> {
-        zip_ok(opt_param_name(words, alloc), words.id())
+    fn read(words: &mut Words<'_>) -> Result<(Option<Name>, TypeRefId), TextError> {
+        Ok((opt_param_name(words)?, Read::read(words)?))
     }
 }
 
-/// The type of a function pointer.
-fn read_fn(words: &mut Words<'_>, alloc: Global) -> Result<FnType, TextError> {
-    let binder = opt_binder(words, alloc);
-    let is_unsafe = words.flag(b"unsafe");
-    let abi = opt_abi(words, alloc);
-    let is_varargs = words.flag(b"varargs");
-    let (binder, abi, params) = three(binder, abi, behind_spaces(words, alloc))?;
-    Ok(FnType {
-        binder,
-        params,
-        is_varargs,
-        is_unsafe,
-        abi,
-    })
-}
-
-/// A reference: its type, its lifetime, and whether it is mutable.
-fn read_ref(words: &mut Words<'_>) -> Result<RefType, TextError> {
-    let (ty, lifetime) = zip_ok(words.next_id(), words.next_opt_id())?;
-    Ok(RefType {
-        ty,
-        lifetime,
-        mutability: opt_mut(words),
-    })
-}
-
-/// A reference in a box.
-fn boxed_ref(words: &mut Words<'_>, alloc: Global) -> Result<Boxed<RefType>, TextError> {
-    Ok(Boxed::new(alloc, read_ref(words)?)?)
-}
-
-/// A function pointer in a box.
-fn boxed_fn(words: &mut Words<'_>, alloc: Global) -> Result<Boxed<FnType>, TextError> {
-    in_box(alloc, read_fn(words, alloc))
-}
-
-/// The form of a type.
-#[derive(Clone, Copy)]
-enum Form {
-    Simple(Simple),
-    Compound(Compound),
-}
-
-/// A type of few nodes.
-#[derive(Clone, Copy)]
-enum Simple {
-    Never,
-    Placeholder,
-    Error,
-    RawPtr,
-    Array,
-    Slice,
-    Param,
-    Pattern,
-}
-
-/// A type of any number of nodes, or with a path, or in a box.
-#[derive(Clone, Copy)]
-enum Compound {
-    Tuple,
-    Path,
-    Reference,
-    Fn,
-    Impl,
-    Dyn,
-}
-
-const FORMS: [(&str, Form); 14] = [
-    ("never", Form::Simple(Simple::Never)),
-    ("placeholder", Form::Simple(Simple::Placeholder)),
-    ("error", Form::Simple(Simple::Error)),
-    ("raw", Form::Simple(Simple::RawPtr)),
-    ("array", Form::Simple(Simple::Array)),
-    ("slice", Form::Simple(Simple::Slice)),
-    ("param", Form::Simple(Simple::Param)),
-    ("pattern", Form::Simple(Simple::Pattern)),
-    ("tuple", Form::Compound(Compound::Tuple)),
-    ("path", Form::Compound(Compound::Path)),
-    ("ref", Form::Compound(Compound::Reference)),
-    ("fn", Form::Compound(Compound::Fn)),
-    ("impl", Form::Compound(Compound::Impl)),
-    ("dyn", Form::Compound(Compound::Dyn)),
-];
-
-/// A type, after the word `type`.
-pub fn read_type(words: &mut Words<'_>, alloc: Global) -> Result<TypeRef, TextError> {
-    match words.next_in(&FORMS)? {
-        Form::Simple(form) => simple_type(form, words),
-        Form::Compound(form) => compound_type(form, words, alloc),
-    }
-}
-
-fn simple_type(form: Simple, words: &mut Words<'_>) -> Result<TypeRef, TextError> {
-    match form {
-        Simple::Never => Ok(TypeRef::Never),
-        Simple::Placeholder => Ok(TypeRef::Placeholder),
-        Simple::Error => Ok(TypeRef::Error),
-        Simple::RawPtr => Ok(TypeRef::RawPtr(words.next_id()?, opt_mut(words))),
-        Simple::Array => {
-            let (ty, expr) = zip_ok(words.next_id(), words.next_id())?;
-            let len = ConstRef { expr };
-            Ok(TypeRef::Array(ArrayType { ty, len }))
+fn put_param(answer: &mut Answer, name: Option<&Name>, ty: TypeRefId) -> Result<(), AllocError> {
+    match name {
+        Some(name) => {
+            put(answer, name)?;
+            answer.join(":")?;
+            ty.write(answer)
         }
-        Simple::Slice => Ok(TypeRef::Slice(words.next_id()?)),
-        Simple::Param => Ok(TypeRef::TypeParam(next_type_param(words)?)),
-        Simple::Pattern => {
-            let (ty, pat) = zip_ok(words.next_id(), words.next_id())?;
-            Ok(TypeRef::PatternType(ty, pat))
+        None => put(answer, &ty),
+    }
+}
+
+fn put_fn(answer: &mut Answer, function: &FnType) -> Result<(), AllocError> {
+    answer.word("fn")?;
+    put_binder(answer, &function.binder)?;
+    answer.flag(function.is_unsafe, "unsafe")?;
+    put_abi(answer, &function.abi)?;
+    answer.flag(function.is_varargs, "varargs")?;
+    for (name, ty) in function.params.as_slice() {
+        put_param(answer, name.as_ref(), *ty)?;
+    }
+    Ok(())
+}
+
+fn put_ref(answer: &mut Answer, reference: &RefType) -> Result<(), AllocError> {
+    put(answer, &("ref", reference.ty, reference.lifetime))?;
+    answer.flag(reference.mutability.is_mut(), "mut")
+}
+
+/// The line of a type.
+impl Write for TypeRef {
+    fn write(&self, answer: &mut Answer) -> Result<(), AllocError> {
+        answer.join("type")?;
+        match self {
+            TypeRef::Never => answer.word("never"),
+            TypeRef::Placeholder => answer.word("placeholder"),
+            TypeRef::Error => answer.word("error"),
+            TypeRef::Tuple(types) => put(answer, &("tuple", types)),
+            TypeRef::Path(path) => put(answer, &("path", path)),
+            TypeRef::RawPtr(ty, mutability) => {
+                put(answer, &("raw", ty))?;
+                answer.flag(mutability.is_mut(), "mut")
+            }
+            TypeRef::Reference(reference) => put_ref(answer, reference.get()),
+            TypeRef::Array(array) => put(answer, &("array", array.ty, array.len.expr)),
+            TypeRef::Slice(ty) => put(answer, &("slice", ty)),
+            TypeRef::Fn(function) => put_fn(answer, function.get()),
+            TypeRef::ImplTrait(bounds) => {
+                answer.word("impl")?;
+                put_bounds(answer, bounds.as_slice())
+            }
+            TypeRef::DynTrait(bounds) => {
+                answer.word("dyn")?;
+                put_bounds(answer, bounds.as_slice())
+            }
+            TypeRef::TypeParam(id) => put(answer, &("param", id.parent(), id.local_id())),
+            TypeRef::PatternType(ty, pat) => put(answer, &("pattern", ty, pat)),
         }
     }
 }
 
-fn compound_type(
-    form: Compound,
-    words: &mut Words<'_>,
-    alloc: Global,
-) -> Result<TypeRef, TextError> {
-    match form {
-        Compound::Tuple => Ok(TypeRef::Tuple(words.next_ids(alloc)?)),
-        Compound::Path => Ok(TypeRef::Path(next_path(words, alloc)?)),
-        Compound::Reference => Ok(TypeRef::Reference(boxed_ref(words, alloc)?)),
-        Compound::Fn => Ok(TypeRef::Fn(boxed_fn(words, alloc)?)),
-        Compound::Impl => Ok(TypeRef::ImplTrait(next_bounds(words, alloc)?)),
-        Compound::Dyn => Ok(TypeRef::DynTrait(next_bounds(words, alloc)?)),
+/// The words after `lifetime`.
+impl Read for LifetimeRef {
+    fn read(words: &mut Words<'_>) -> Result<LifetimeRef, TextError> {
+        match words.keyword() {
+            b"named" => Ok(LifetimeRef::Named(next(words)?)),
+            b"static" => Ok(LifetimeRef::Static),
+            b"placeholder" => Ok(LifetimeRef::Placeholder),
+            b"param" => Ok(LifetimeRef::Param(next(words)?)),
+            b"error" => Ok(LifetimeRef::Error),
+            _ => Err(words.reject()),
+        }
+    }
+}
+
+/// The line of a lifetime.
+impl Write for LifetimeRef {
+    fn write(&self, answer: &mut Answer) -> Result<(), AllocError> {
+        answer.join("lifetime")?;
+        match self {
+            LifetimeRef::Named(name) => put(answer, &("named", name)),
+            LifetimeRef::Static => answer.word("static"),
+            LifetimeRef::Placeholder => answer.word("placeholder"),
+            LifetimeRef::Param(id) => put(answer, &("param", id.parent, id.local_id)),
+            LifetimeRef::Error => answer.word("error"),
+        }
+    }
+}
+
+/// The word after `label`.
+impl Read for Label {
+    fn read(words: &mut Words<'_>) -> Result<Label, TextError> {
+        Ok(Label {
+            name: Read::read(words)?,
+        })
+    }
+}
+
+/// The line of a label.
+impl Write for Label {
+    fn write(&self, answer: &mut Answer) -> Result<(), AllocError> {
+        ("label", &self.name).write(answer)
+    }
+}
+
+fn read_mode(words: &mut Words<'_>) -> BindingAnnotation {
+    if words.flag(b"mut") {
+        BindingAnnotation::Mutable
+    } else if words.flag(b"ref") {
+        BindingAnnotation::Ref
+    } else if words.flag(b"refmut") {
+        BindingAnnotation::RefMut
+    } else {
+        BindingAnnotation::Unannotated
+    }
+}
+
+fn opt_problem(words: &mut Words<'_>) -> Option<BindingProblems> {
+    if words.flag(b"BoundMoreThanOnce") {
+        Some(BindingProblems::BoundMoreThanOnce)
+    } else if words.flag(b"BoundInconsistently") {
+        Some(BindingProblems::BoundInconsistently)
+    } else if words.flag(b"NotBoundAcrossAll") {
+        Some(BindingProblems::NotBoundAcrossAll)
+    } else {
+        None
+    }
+}
+
+/// The words after `bind`.
+impl Read for Binding {
+    fn read(words: &mut Words<'_>) -> Result<Binding, TextError> {
+        Ok(Binding {
+            name: Read::read(words)?,
+            mode: read_mode(words),
+            hygiene: opt_hygiene(words)?,
+            problems: opt_problem(words),
+        })
+    }
+}
+
+fn problem_text(problem: &BindingProblems) -> &'static str {
+    match problem {
+        BindingProblems::BoundMoreThanOnce => "BoundMoreThanOnce",
+        BindingProblems::BoundInconsistently => "BoundInconsistently",
+        BindingProblems::NotBoundAcrossAll => "NotBoundAcrossAll",
+    }
+}
+
+/// The line of a binding.
+impl Write for Binding {
+    fn write(&self, answer: &mut Answer) -> Result<(), AllocError> {
+        ("bind", &self.name).write(answer)?;
+        match self.mode {
+            BindingAnnotation::Unannotated => {}
+            BindingAnnotation::Mutable => answer.word("mut")?,
+            BindingAnnotation::Ref => answer.word("ref")?,
+            BindingAnnotation::RefMut => answer.word("refmut")?,
+        }
+        if !self.hygiene.is_root() {
+            put(answer, &self.hygiene)?;
+        }
+        match &self.problems {
+            Some(problem) => answer.word(problem_text(problem)),
+            None => Ok(()),
+        }
     }
 }

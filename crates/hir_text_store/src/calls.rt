@@ -1,82 +1,116 @@
-//! Questions on the child calls of nodes and of their parts, as a visitor gets them.
+//! The child calls of nodes and of their parts, as a visitor gets them.
 #![tactic(auto, using(hir_node::proofs::RunLemmas::freely))]
 
-use crate::ends::last_node;
-use crate::missing::answer_unknown;
-use crate::recorder::{Recorder, write_same};
-use hir_node::{GenericArgs, Path, StoreVisitorExt, TypeBound, visit_generic_args};
+use crate::refusals::{answer_unknown, differs};
+use hir_collections::Idx;
+use hir_node::{
+    ExprId, GenericArgs, LifetimeRefId, PatId, Path, StoreVisitor, StoreVisitorExt, TypeBound,
+    TypeRefId, visit_generic_args,
+};
 use hir_store::ExpressionStore;
-use hir_text_nodes::{Answer, Node, TextError, Words, next_args, next_bound, next_path};
-use std::alloc::Global;
+use hir_text_nodes::{Answer, Node, put, put_prefixed};
+use std::alloc::{AllocError, Global};
 
-/// A part of a node that a visitor is called for.
-trait Part: Sized + Drop {
-    fn read(alloc: Global, words: &mut Words<'_>) -> Result<Self, TextError>;
-
-    fn visit(&self, recorder: &mut Recorder);
-
-    /// The same by the other way to the calls, where there are two.
-    fn visit_again(&self, recorder: &mut Recorder);
+/// What a visitor is called with, in the order of the calls, or what a walk visits.
+#[derive(Drop)]
+pub(crate) struct Recorder {
+    text: Answer,
+    /// The last refusal of memory, after which the text isn't all of it.
+    outcome: Result<(), AllocError>,
 }
 
-impl Part for Path {
-    fn read(alloc: Global, words: &mut Words<'_>) -> Result<Path, TextError> {
-        next_path(words, alloc)
+impl Recorder {
+    /// No calls.
+    pub(crate) fn new(alloc: Global) -> Recorder {
+        Recorder {
+            text: Answer::new(alloc),
+            outcome: Ok(()),
+        }
     }
 
-    fn visit(&self, recorder: &mut Recorder) {
-        recorder.on_path(self);
+    fn call<K>(&mut self, kind: &str, id: Idx<K>) {
+        if let Err(refused) = put_prefixed(&mut self.text, kind, &Some(id)) {
+            self.outcome = Err(refused);
+        }
     }
 
-    fn visit_again(&self, recorder: &mut Recorder) {
-        self.visit(recorder);
-    }
-}
-
-impl Part for TypeBound {
-    fn read(alloc: Global, words: &mut Words<'_>) -> Result<TypeBound, TextError> {
-        next_bound(words, alloc)
+    /// Notes an id.
+    pub(crate) fn visit<K>(&mut self, id: Idx<K>) {
+        if let Err(refused) = put(&mut self.text, &id) {
+            self.outcome = Err(refused);
+        }
     }
 
-    fn visit(&self, recorder: &mut Recorder) {
-        recorder.on_type_bound(self);
-    }
-
-    fn visit_again(&self, recorder: &mut Recorder) {
-        self.visit(recorder);
-    }
-}
-
-impl Part for GenericArgs {
-    fn read(alloc: Global, words: &mut Words<'_>) -> Result<GenericArgs, TextError> {
-        next_args(words, alloc)
-    }
-
-    fn visit(&self, recorder: &mut Recorder) {
-        visit_generic_args(recorder, self);
-    }
-
-    fn visit_again(&self, recorder: &mut Recorder) {
-        recorder.on_generic_args(self);
+    /// Returns what was noted, or that an allocation failed.
+    pub(crate) fn as_str(&self) -> Result<&str, AllocError> {
+        match &self.outcome {
+            Ok(()) => Ok(self.text.as_str()),
+            Err(refused) => Err(*refused),
+        }
     }
 }
 
-/// `calls path PATH`, `calls bound BOUND`, `calls args ARGS`
-fn of_part<T: Part>(
-    alloc: Global,
-    words: &mut Words<'_>,
+/// Writes what was noted, where both ways to it give the same.
+pub(crate) fn put_same(
     answer: &mut Answer,
-) -> Result<(), TextError> {
-    let part = T::read(alloc, words)?;
-    words.end()?;
-    let mut first = Recorder::new(alloc);
-    part.visit(&mut first);
-    let mut second = Recorder::new(alloc);
-    part.visit_again(&mut second);
-    Ok(write_same(&first, &second, answer)?)
+    first: &Recorder,
+    second: &Recorder,
+) -> Result<(), AllocError> {
+    let noted = first.as_str()?;
+    if noted != second.as_str()? {
+        return differs(answer);
+    }
+    answer.join(noted)
 }
 
-/// Visits the children of a node, by the store and by the node alone; returns whether the node is there. A
+impl StoreVisitor for Recorder {
+    ghost step = { λ _ _ _. Unit {0} };
+
+    fn on_expr(&mut self, expr: ExprId) {
+        self.call("expr:", expr);
+    }
+
+    fn on_anon_const_expr(&mut self, expr: ExprId) {
+        self.call("const:", expr);
+    }
+
+    fn on_pat(&mut self, pat: PatId) {
+        self.call("pat:", pat);
+    }
+
+    fn on_type(&mut self, type_ref: TypeRefId) {
+        self.call("type:", type_ref);
+    }
+
+    fn on_lifetime(&mut self, lifetime: LifetimeRefId) {
+        self.call("lifetime:", lifetime);
+    }
+}
+
+/// `calls path PATH`
+pub(crate) fn put_of_path(answer: &mut Answer, path: &Path) -> Result<(), AllocError> {
+    let mut calls = Recorder::new(answer.alloc());
+    calls.on_path(path);
+    answer.join(calls.as_str()?)
+}
+
+/// `calls bound BOUND`
+pub(crate) fn put_of_bound(answer: &mut Answer, bound: &TypeBound) -> Result<(), AllocError> {
+    let mut calls = Recorder::new(answer.alloc());
+    calls.on_type_bound(bound);
+    answer.join(calls.as_str()?)
+}
+
+/// `calls args ARGS`, by both ways to them.
+pub(crate) fn put_of_args(answer: &mut Answer, args: &GenericArgs) -> Result<(), AllocError> {
+    let mut first = Recorder::new(answer.alloc());
+    visit_generic_args(&mut first, args);
+    let mut second = Recorder::new(answer.alloc());
+    second.on_generic_args(args);
+    put_same(answer, &first, &second)
+}
+
+/// Visits the children of a node, by the store and by the node alone; returns whether the node exists. A
 /// binding, a label and a lifetime have no children.
 fn visit(
     store: &ExpressionStore,
@@ -108,36 +142,15 @@ fn visit(
 }
 
 /// `calls NODE`
-fn of_node(
-    alloc: Global,
-    store: &ExpressionStore,
-    words: &mut Words<'_>,
+pub(crate) fn put_of_node(
     answer: &mut Answer,
-) -> Result<(), TextError> {
-    let node = last_node(words)?;
-    let mut by_store = Recorder::new(alloc);
-    let mut by_node = Recorder::new(alloc);
-    let is_there = visit(store, node, &mut by_store, &mut by_node);
-    if !is_there {
-        return Ok(answer_unknown(answer)?);
-    }
-    Ok(write_same(&by_store, &by_node, answer)?)
-}
-
-/// Answers `calls ..`.
-pub(crate) fn ask(
-    alloc: Global,
     store: &ExpressionStore,
-    words: &mut Words<'_>,
-    answer: &mut Answer,
-) -> Result<(), TextError> {
-    if words.flag(b"path") {
-        of_part::<Path>(alloc, words, answer)
-    } else if words.flag(b"args") {
-        of_part::<GenericArgs>(alloc, words, answer)
-    } else if words.flag(b"bound") {
-        of_part::<TypeBound>(alloc, words, answer)
-    } else {
-        of_node(alloc, store, words, answer)
+    node: Node,
+) -> Result<(), AllocError> {
+    let mut by_store = Recorder::new(answer.alloc());
+    let mut by_node = Recorder::new(answer.alloc());
+    if !visit(store, node, &mut by_store, &mut by_node) {
+        return answer_unknown(answer);
     }
+    put_same(answer, &by_store, &by_node)
 }

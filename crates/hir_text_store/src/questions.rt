@@ -1,242 +1,442 @@
-//! All questions that a store and its source map answer.
+//! Questions on a store and its source map.
 
-use crate::ends::last_node;
-use crate::walks::Walk;
-use crate::{
-    ancestors, calls, lines, nodes, numbers, paths, places, saved, searches, sources, walks,
+use crate::calls;
+use crate::expansions::put_expansions;
+use crate::refusals::{answer_unknown, differs};
+use crate::saved::{put_arena, put_labels, put_store};
+use crate::walks::{Walk, put_child_pats, put_visited};
+use hir_base::{
+    AstPtr, ExprSource, InFile, MacroCallPtr, PatSource, SyntheticSyntax, TypeSource, ast,
 };
-use hir_store::{ExpressionStore, ExpressionStoreSourceMap};
-use hir_text_nodes::{Answer, TextError, Words};
-use hir_text_words::value_of;
-use std::alloc::Global;
+use hir_collections::TryClone;
+use hir_node::{
+    BindingId, Expr, ExprId, ExprOrPatId, GenericArgs, LabelId, NodeId, PatId, Path, PathId,
+    TraitBoundModifier, TypeBound, TypeRefId,
+};
+use hir_store::{ExpressionStore, ExpressionStoreSourceMap, TypeBoundExt};
+use hir_text_nodes::{
+    Answer, Node, Read, TextError, Words, Write, next, precedence_text, prefixed, put, put_each,
+    put_found, put_literal, put_yes_or_no, syntax,
+};
+use std::alloc::AllocError;
 
-/// What a question asks.
+/// An arena of a store.
 #[derive(Clone, Copy)]
-enum Question {
-    Nodes(nodes::Kind),
-    Has,
-    Hygiene,
-    Numbers(numbers::Question),
-    Root,
-    Around(ancestors::Question),
-    Line,
-    Lines,
+pub enum Arena {
+    Exprs,
+    Pats,
+    Bindings,
+    Labels,
+    Types,
+    Lifetimes,
+}
+
+/// A question on a store and its source map.
+#[derive(Drop)]
+pub enum Question {
+    Counts,
+    Roots,
+    Line(Node),
+    Lines(Arena),
     StoreLines,
-    OfStore(OfStore),
-    OfSources(OfSources),
-}
-
-/// What a store is asked that takes memory.
-#[derive(Clone, Copy)]
-enum OfStore {
-    Calls,
-    Walk(Walk),
-    ChildPats,
-    Sound,
-    BoundPath,
-}
-
-/// What a source map is asked.
-#[derive(Clone, Copy)]
-enum OfSources {
-    Syntax,
-    Source(sources::Question),
+    Has(Node),
+    HasPath(PathId),
+    Calls(Node),
+    CallsOfPath(Path),
+    CallsOfArgs(GenericArgs),
+    CallsOfBound(TypeBound),
+    Visited(Walk),
+    ChildPats(PatId),
+    RootOf(Node),
+    Parent(NodeId),
+    Ancestors(NodeId),
+    EnclosingClosure(ExprId),
+    EnclosingLoop(ExprId),
+    JumpTarget(ExprId),
+    Precedence(ExprId),
+    Negate(ExprId),
+    OwnerOf(BindingId),
+    HygieneOf(ExprOrPatId),
+    CoroutineForClosure(ExprId),
+    ClosureForCoroutine(ExprId),
+    Sound(Path),
+    BoundPath(TypeBound),
+    Syntax(ExprOrPatId),
+    ExprSyntax(ExprId),
+    PatSyntax(PatId),
+    TypeSyntax(TypeRefId),
+    LabelSyntax(LabelId),
+    FieldSyntax(ExprId),
+    PatFieldSyntax(PatId),
+    PatternsFor(BindingId),
     Diagnostics,
-    Meaning(places::Question),
+    NodeExpr(ExprSource),
+    NodePat(PatSource),
+    NodeType(TypeSource),
+    NodeLabel(InFile<AstPtr<ast::Label>>),
+    MacroExpansionExpr(InFile<AstPtr<ast::MacroExpr>>),
+    NodeMacroFile(InFile<MacroCallPtr>),
+    ExpansionOf(InFile<MacroCallPtr>),
     Expansions,
 }
 
-/// The first words of questions.
-const QUESTIONS: [(&str, Question); 45] = [
-    ("nodes", Question::Nodes(nodes::Kind::Counts)),
-    ("list-roots", Question::Nodes(nodes::Kind::Roots)),
-    ("has", Question::Has),
-    ("precedence", Question::Nodes(nodes::Kind::Precedence)),
-    ("negate", Question::Nodes(nodes::Kind::Negate)),
-    ("owner-of", Question::Nodes(nodes::Kind::Owner)),
-    ("hygiene-of", Question::Hygiene),
-    (
-        "coroutine-for-closure",
-        Question::Numbers(numbers::Question::CoroutineForClosure),
-    ),
-    (
-        "closure-for-coroutine",
-        Question::Numbers(numbers::Question::ClosureForCoroutine),
-    ),
-    ("root-of", Question::Root),
-    ("node-parent", Question::Around(ancestors::Question::Parent)),
-    (
-        "ancestors",
-        Question::Around(ancestors::Question::Ancestors),
-    ),
-    (
-        "enclosing-closure",
-        Question::Around(ancestors::Question::EnclosingClosure),
-    ),
-    (
-        "enclosing-loop",
-        Question::Around(ancestors::Question::EnclosingLoop),
-    ),
-    (
-        "jump-target",
-        Question::Around(ancestors::Question::JumpTarget),
-    ),
-    ("line", Question::Line),
-    ("lines", Question::Lines),
-    ("store-lines", Question::StoreLines),
-    ("calls", Question::OfStore(OfStore::Calls)),
-    ("children", Question::OfStore(OfStore::Walk(Walk::Children))),
-    (
-        "children-without-pats",
-        Question::OfStore(OfStore::Walk(Walk::ChildrenWithoutPats)),
-    ),
-    ("walk-pats", Question::OfStore(OfStore::Walk(Walk::Pats))),
-    (
-        "walk-pats-shallow",
-        Question::OfStore(OfStore::Walk(Walk::PatsShallow)),
-    ),
-    (
-        "bindings-in",
-        Question::OfStore(OfStore::Walk(Walk::Bindings)),
-    ),
-    ("exprs-in", Question::OfStore(OfStore::Walk(Walk::Exprs))),
-    ("child-pats", Question::OfStore(OfStore::ChildPats)),
-    ("sound", Question::OfStore(OfStore::Sound)),
-    ("bound-path", Question::OfStore(OfStore::BoundPath)),
-    ("syntax", Question::OfSources(OfSources::Syntax)),
-    (
-        "expr-syntax",
-        Question::OfSources(OfSources::Source(sources::Question::Expr)),
-    ),
-    (
-        "pat-syntax",
-        Question::OfSources(OfSources::Source(sources::Question::Pat)),
-    ),
-    (
-        "type-syntax",
-        Question::OfSources(OfSources::Source(sources::Question::Type)),
-    ),
-    (
-        "label-syntax",
-        Question::OfSources(OfSources::Source(sources::Question::Label)),
-    ),
-    (
-        "field-syntax",
-        Question::OfSources(OfSources::Source(sources::Question::Field)),
-    ),
-    (
-        "pat-field-syntax",
-        Question::OfSources(OfSources::Source(sources::Question::PatField)),
-    ),
-    (
-        "patterns-for",
-        Question::OfSources(OfSources::Source(sources::Question::PatternsFor)),
-    ),
-    ("diagnostics", Question::OfSources(OfSources::Diagnostics)),
-    (
-        "node-expr",
-        Question::OfSources(OfSources::Meaning(places::Question::Expr)),
-    ),
-    (
-        "node-pat",
-        Question::OfSources(OfSources::Meaning(places::Question::Pat)),
-    ),
-    (
-        "macro-expansion-expr",
-        Question::OfSources(OfSources::Meaning(places::Question::MacroExpr)),
-    ),
-    (
-        "node-type",
-        Question::OfSources(OfSources::Meaning(places::Question::Type)),
-    ),
-    (
-        "node-label",
-        Question::OfSources(OfSources::Meaning(places::Question::Label)),
-    ),
-    (
-        "node-macro-file",
-        Question::OfSources(OfSources::Meaning(places::Question::MacroFile)),
-    ),
-    (
-        "expansion-of",
-        Question::OfSources(OfSources::Meaning(places::Question::Expansion)),
-    ),
-    ("expansions", Question::OfSources(OfSources::Expansions)),
-];
-
-/// Writes the answer to what a store is asked that takes memory.
-fn ask_store(
-    alloc: Global,
-    store: &ExpressionStore,
-    question: OfStore,
-    words: &mut Words<'_>,
-    answer: &mut Answer,
-) -> Result<(), TextError> {
-    match question {
-        OfStore::Calls => calls::ask(alloc, store, words, answer),
-        OfStore::Walk(walk) => walks::ask(alloc, store, walk, words, answer),
-        OfStore::ChildPats => walks::ask_child_pats(alloc, store, words, answer),
-        OfStore::Sound => paths::ask_sound(alloc, store, words, answer),
-        OfStore::BoundPath => paths::ask_bound_path(alloc, store, words, answer),
-    }
-}
-
-/// Writes the answer to what a source map is asked.
-fn ask_sources(
-    alloc: Global,
-    sources: &ExpressionStoreSourceMap,
-    question: OfSources,
-    words: &mut Words<'_>,
-    answer: &mut Answer,
-) -> Result<(), TextError> {
-    match question {
-        OfSources::Syntax => sources::ask_of_node(sources, words, answer),
-        OfSources::Source(question) => sources::ask(sources, question, words, answer),
-        OfSources::Diagnostics => sources::ask_diagnostics(sources, words, answer),
-        OfSources::Meaning(question) => places::ask(sources, question, words, answer),
-        OfSources::Expansions => places::ask_expansions(alloc, sources, words, answer),
-    }
-}
-
-/// Writes the answer to a question.
-fn answer_question(
-    alloc: Global,
-    store: &ExpressionStore,
-    sources: &ExpressionStoreSourceMap,
-    question: Question,
-    words: &mut Words<'_>,
-    answer: &mut Answer,
-) -> Result<(), TextError> {
-    match question {
-        Question::Nodes(kind) => nodes::ask(store, kind, words, answer),
-        Question::Has => nodes::ask_has(store, words, answer),
-        Question::Hygiene => nodes::ask_hygiene(store, words, answer),
-        Question::Numbers(question) => numbers::ask(question, words, answer),
-        Question::Root => searches::ask(store, words, answer),
-        Question::Around(question) => ancestors::ask(store, question, words, answer),
-        Question::Line => lines::ask_line(store, last_node(words)?, answer),
-        Question::Lines => lines::ask_lines(store, words, answer),
-        Question::StoreLines => {
-            words.end()?;
-            saved::ask(alloc, store, sources, answer)
+impl Read for Arena {
+    fn read(words: &mut Words<'_>) -> Result<Arena, TextError> {
+        match words.keyword() {
+            b"exprs" => Ok(Arena::Exprs),
+            b"pats" => Ok(Arena::Pats),
+            b"bindings" => Ok(Arena::Bindings),
+            b"labels" => Ok(Arena::Labels),
+            b"types" => Ok(Arena::Types),
+            b"lifetimes" => Ok(Arena::Lifetimes),
+            _ => Err(words.reject()),
         }
-        Question::OfStore(question) => ask_store(alloc, store, question, words, answer),
-        Question::OfSources(question) => ask_sources(alloc, sources, question, words, answer),
     }
 }
 
-/// Writes the answer to a question on a store and its source map; returns whether it is such a question.
-pub fn ask(
-    alloc: Global,
-    store: &ExpressionStore,
-    sources: &ExpressionStoreSourceMap,
-    word: &[u8],
-    words: &mut Words<'_>,
+fn read_has(words: &mut Words<'_>) -> Result<Question, TextError> {
+    match prefixed(words, b"path:")? {
+        Some(id) => Ok(Question::HasPath(PathId::from_type_ref_unchecked(id))),
+        None => Ok(Question::Has(next(words)?)),
+    }
+}
+
+fn read_calls(words: &mut Words<'_>) -> Result<Question, TextError> {
+    if words.flag(b"path") {
+        Ok(Question::CallsOfPath(next(words)?))
+    } else if words.flag(b"args") {
+        Ok(Question::CallsOfArgs(next(words)?))
+    } else if words.flag(b"bound") {
+        Ok(Question::CallsOfBound(next(words)?))
+    } else {
+        Ok(Question::Calls(next(words)?))
+    }
+}
+
+/// Takes what comes after the word `root-of`: a node of the kinds that are made for a root.
+fn read_root_of(words: &mut Words<'_>) -> Result<Question, TextError> {
+    let node = next(words)?;
+    match node {
+        Node::Expr(_) | Node::Pat(_) | Node::Binding(_) => Ok(Question::RootOf(node)),
+        Node::Type(_) | Node::Label(_) | Node::Lifetime(_) => Err(words.reject()),
+    }
+}
+
+fn read_on_sources(word: &[u8], words: &mut Words<'_>) -> Result<Option<Question>, TextError> {
+    Ok(Some(match word {
+        b"syntax" => Question::Syntax(next(words)?),
+        b"expr-syntax" => Question::ExprSyntax(next(words)?),
+        b"pat-syntax" => Question::PatSyntax(next(words)?),
+        b"type-syntax" => Question::TypeSyntax(next(words)?),
+        b"label-syntax" => Question::LabelSyntax(next(words)?),
+        b"field-syntax" => Question::FieldSyntax(next(words)?),
+        b"pat-field-syntax" => Question::PatFieldSyntax(next(words)?),
+        b"patterns-for" => Question::PatternsFor(next(words)?),
+        b"diagnostics" => Question::Diagnostics,
+        b"node-expr" => Question::NodeExpr(next(words)?),
+        b"node-pat" => Question::NodePat(next(words)?),
+        b"node-type" => Question::NodeType(next(words)?),
+        b"node-label" => Question::NodeLabel(next(words)?),
+        b"macro-expansion-expr" => Question::MacroExpansionExpr(next(words)?),
+        b"node-macro-file" => Question::NodeMacroFile(next(words)?),
+        b"expansion-of" => Question::ExpansionOf(next(words)?),
+        b"expansions" => Question::Expansions,
+        _ => return Ok(None),
+    }))
+}
+
+/// Returns how many labels a store has, of which it has no list.
+fn count_labels(store: &ExpressionStore) -> usize {
+    let mut count: usize = 0;
+    for number in 0..u32::MAX {
+        if !store.has_label(LabelId::from_raw(number)) {
+            break;
+        }
+        count = count.saturating_add(1);
+    }
+    count
+}
+
+/// `nodes`
+fn put_counts(answer: &mut Answer, store: &ExpressionStore) -> Result<(), AllocError> {
+    put(answer, &("exprs", store.exprs().len()))?;
+    put(answer, &("pats", store.pats().len()))?;
+    put(answer, &("bindings", store.bindings().len()))?;
+    put(answer, &("labels", count_labels(store)))?;
+    put(answer, &("types", store.types().len()))?;
+    put(answer, &("lifetimes", store.lifetimes().len()))
+}
+
+/// Writes the line of a node, where it exists.
+fn put_opt_line<T: Write>(answer: &mut Answer, node: Option<&T>) -> Result<(), AllocError> {
+    match node {
+        Some(node) => put(answer, node),
+        None => answer_unknown(answer),
+    }
+}
+
+/// `line NODE`
+fn put_line(answer: &mut Answer, store: &ExpressionStore, node: Node) -> Result<(), AllocError> {
+    match node {
+        Node::Expr(id) => put_opt_line(answer, store.get(id)),
+        Node::Pat(id) => put_opt_line(answer, store.get(id)),
+        Node::Type(id) => put_opt_line(answer, store.get(id)),
+        Node::Binding(id) => put_opt_line(answer, store.get(id)),
+        Node::Label(id) => put_opt_line(answer, store.get(id)),
+        Node::Lifetime(id) => put_opt_line(answer, store.get(id)),
+    }
+}
+
+/// `lines ARENA`
+fn put_lines(answer: &mut Answer, store: &ExpressionStore, arena: Arena) -> Result<(), AllocError> {
+    match arena {
+        Arena::Exprs => put_arena(answer, store.exprs()),
+        Arena::Pats => put_arena(answer, store.pats()),
+        Arena::Bindings => put_arena(answer, store.bindings()),
+        Arena::Labels => put_labels(answer, store),
+        Arena::Types => put_arena(answer, store.types()),
+        Arena::Lifetimes => put_arena(answer, store.lifetimes()),
+    }
+}
+
+/// Returns whether the store has a node.
+pub fn has_node(store: &ExpressionStore, node: Node) -> bool {
+    match node {
+        Node::Expr(id) => store.has_expr(id),
+        Node::Pat(id) => store.has_pat(id),
+        Node::Type(id) => store.has_type(id),
+        Node::Binding(id) => store.has_binding(id),
+        Node::Label(id) => store.has_label(id),
+        Node::Lifetime(id) => store.has_lifetime(id),
+    }
+}
+
+/// Returns the root that a node was made for, where it has one.
+fn root_of(store: &ExpressionStore, node: Node) -> Option<ExprId> {
+    match node {
+        Node::Expr(id) if store.covers_expr(id) => Some(store.find_root_for_expr(id)),
+        Node::Pat(id) if store.covers_pat(id) => Some(store.find_root_for_pat(id)),
+        Node::Binding(id) if store.covers_binding(id) => Some(store.find_root_for_binding(id)),
+        Node::Expr(_)
+        | Node::Pat(_)
+        | Node::Binding(_)
+        | Node::Type(_)
+        | Node::Label(_)
+        | Node::Lifetime(_) => None,
+    }
+}
+
+/// `negate E`: a literal.
+fn put_negative(
     answer: &mut Answer,
-) -> Result<bool, TextError> {
-    let Some(question) = value_of(&QUESTIONS, word) else {
-        return Ok(false);
+    store: &ExpressionStore,
+    id: ExprId,
+) -> Result<(), AllocError> {
+    let Some(expr) = store.get(id) else {
+        return answer_unknown(answer);
     };
-    answer_question(alloc, store, sources, question, words, answer)?;
-    Ok(true)
+    let Expr::Literal(literal) = expr else {
+        return answer.word("none");
+    };
+    match literal.try_clone()?.negate() {
+        Some(negative) => put_literal(answer, &negative),
+        None => answer.word("none"),
+    }
+}
+
+/// `hygiene-of NODE`: by the call for its kind of node, where the call for either gives the same.
+fn put_hygiene(
+    answer: &mut Answer,
+    store: &ExpressionStore,
+    id: ExprOrPatId,
+) -> Result<(), AllocError> {
+    let found = match id {
+        ExprOrPatId::ExprId(id) => store.expr_path_hygiene(id),
+        ExprOrPatId::PatId(id) => store.pat_path_hygiene(id),
+    };
+    if store.expr_or_pat_path_hygiene(id) != found {
+        return differs(answer);
+    }
+    put(answer, &found)
+}
+
+/// `coroutine-for-closure E`: the first expression has none before it.
+fn put_coroutine(answer: &mut Answer, id: ExprId) -> Result<(), AllocError> {
+    if id.into_raw() == 0 {
+        return answer_unknown(answer);
+    }
+    put(answer, &ExpressionStore::coroutine_for_closure(id))
+}
+
+/// `closure-for-coroutine E`: the last number has none after it.
+fn put_closure(answer: &mut Answer, id: ExprId) -> Result<(), AllocError> {
+    if id.into_raw() == u32::MAX {
+        return answer_unknown(answer);
+    }
+    put(answer, &ExpressionStore::closure_for_coroutine(id))
+}
+
+/// `bound-path BOUND`
+fn put_bound_path(
+    answer: &mut Answer,
+    store: &ExpressionStore,
+    bound: &TypeBound,
+) -> Result<(), AllocError> {
+    if !store.has_bound(bound) {
+        return answer_unknown(answer);
+    }
+    if !store.bound_names_path(bound) {
+        return answer.word("none");
+    }
+    match bound.as_path(store) {
+        Some((path, modifier)) => {
+            put(answer, path)?;
+            match modifier {
+                TraitBoundModifier::None => Ok(()),
+                TraitBoundModifier::Maybe => answer.word("maybe"),
+            }
+        }
+        None => answer.word("none"),
+    }
+}
+
+/// Writes a source, or `none`.
+fn put_syntax<K>(
+    answer: &mut Answer,
+    found: Result<InFile<AstPtr<K>>, SyntheticSyntax>,
+) -> Result<(), AllocError> {
+    match found {
+        Ok(source) => put(answer, &syntax(source)),
+        Err(SyntheticSyntax) => answer.word("none"),
+    }
+}
+
+/// `diagnostics`: each in a line.
+fn put_diagnostics(
+    answer: &mut Answer,
+    sources: &ExpressionStoreSourceMap,
+) -> Result<(), AllocError> {
+    for diagnostic in sources.diagnostics() {
+        answer.next_line()?;
+        put(answer, diagnostic)?;
+    }
+    Ok(())
+}
+
+impl Question {
+    /// Reads a question, after its first word; `None` where no such question begins with it.
+    pub fn read(word: &[u8], words: &mut Words<'_>) -> Result<Option<Question>, TextError> {
+        Ok(Some(match word {
+            b"nodes" => Question::Counts,
+            b"list-roots" => Question::Roots,
+            b"line" => Question::Line(next(words)?),
+            b"lines" => Question::Lines(next(words)?),
+            b"store-lines" => Question::StoreLines,
+            b"has" => read_has(words)?,
+            b"calls" => read_calls(words)?,
+            b"children" => Question::Visited(Walk::Children(next(words)?)),
+            b"children-without-pats" => {
+                Question::Visited(Walk::ChildrenWithoutPats(next(words)?))
+            }
+            b"walk-pats" => Question::Visited(Walk::Pats(next(words)?)),
+            b"walk-pats-shallow" => Question::Visited(Walk::PatsShallow(next(words)?)),
+            b"bindings-in" => Question::Visited(Walk::Bindings(next(words)?)),
+            b"exprs-in" => Question::Visited(Walk::Exprs(next(words)?)),
+            b"child-pats" => Question::ChildPats(next(words)?),
+            b"root-of" => read_root_of(words)?,
+            b"node-parent" => Question::Parent(next(words)?),
+            b"ancestors" => Question::Ancestors(next(words)?),
+            b"enclosing-closure" => Question::EnclosingClosure(next(words)?),
+            b"enclosing-loop" => Question::EnclosingLoop(next(words)?),
+            b"jump-target" => Question::JumpTarget(next(words)?),
+            b"precedence" => Question::Precedence(next(words)?),
+            b"negate" => Question::Negate(next(words)?),
+            b"owner-of" => Question::OwnerOf(next(words)?),
+            b"hygiene-of" => Question::HygieneOf(next(words)?),
+            b"coroutine-for-closure" => Question::CoroutineForClosure(next(words)?),
+            b"closure-for-coroutine" => Question::ClosureForCoroutine(next(words)?),
+            b"sound" => Question::Sound(next(words)?),
+            b"bound-path" => Question::BoundPath(next(words)?),
+            _ => return read_on_sources(word, words),
+        }))
+    }
+
+    /// Writes the answer of a store and its source map.
+    pub fn ask(
+        &self,
+        store: &ExpressionStore,
+        sources: &ExpressionStoreSourceMap,
+        answer: &mut Answer,
+    ) -> Result<(), AllocError> {
+        match self {
+            Question::Counts => put_counts(answer, store),
+            Question::Roots => {
+                for root in store.expr_roots() {
+                    put(answer, &root)?;
+                }
+                Ok(())
+            }
+            Question::Line(node) => put_line(answer, store, *node),
+            Question::Lines(arena) => put_lines(answer, store, *arena),
+            Question::StoreLines => put_store(answer, store, sources),
+            Question::Has(node) => put_yes_or_no(answer, has_node(store, *node)),
+            Question::HasPath(id) => put_yes_or_no(answer, store.has_path(*id)),
+            Question::Calls(node) => calls::put_of_node(answer, store, *node),
+            Question::CallsOfPath(path) => calls::put_of_path(answer, path),
+            Question::CallsOfArgs(args) => calls::put_of_args(answer, args),
+            Question::CallsOfBound(bound) => calls::put_of_bound(answer, bound),
+            Question::Visited(walk) => put_visited(answer, store, *walk),
+            Question::ChildPats(id) => put_child_pats(answer, store, *id),
+            Question::RootOf(node) => put_found(answer, &root_of(store, *node)),
+            Question::Parent(node) => put_found(answer, &store.parent(*node)),
+            Question::Ancestors(node) => {
+                for ancestor in store.ancestors(*node) {
+                    put(answer, &ancestor)?;
+                }
+                Ok(())
+            }
+            Question::EnclosingClosure(id) => put_found(answer, &store.enclosing_closure(*id)),
+            Question::EnclosingLoop(id) => put_found(answer, &store.enclosing_loop(*id)),
+            Question::JumpTarget(id) => put_found(answer, &store.jump_target(*id)),
+            Question::Precedence(id) => match store.get(*id) {
+                Some(expr) => answer.word(precedence_text(expr.precedence())),
+                None => answer_unknown(answer),
+            },
+            Question::Negate(id) => put_negative(answer, store, *id),
+            Question::OwnerOf(id) => put_found(answer, &store.binding_owner(*id)),
+            Question::HygieneOf(id) => put_hygiene(answer, store, *id),
+            Question::CoroutineForClosure(id) => put_coroutine(answer, *id),
+            Question::ClosureForCoroutine(id) => put_closure(answer, *id),
+            Question::Sound(path) => put_yes_or_no(answer, store.path_is_sound(path)),
+            Question::BoundPath(bound) => put_bound_path(answer, store, bound),
+            Question::Syntax(id) => put_syntax(answer, sources.expr_or_pat_syntax(*id)),
+            Question::ExprSyntax(id) => put_syntax(answer, sources.expr_syntax(*id)),
+            Question::PatSyntax(id) => put_syntax(answer, sources.pat_syntax(*id)),
+            Question::TypeSyntax(id) => put_syntax(answer, sources.type_syntax(*id)),
+            Question::LabelSyntax(id) if sources.has_label_syntax(*id) => {
+                put(answer, &syntax(sources.label_syntax(*id)))
+            }
+            Question::FieldSyntax(id) if sources.has_field_syntax(*id) => {
+                put(answer, &syntax(sources.field_syntax(*id)))
+            }
+            Question::PatFieldSyntax(id) if sources.has_pat_field_syntax(*id) => {
+                put(answer, &syntax(sources.pat_field_syntax(*id)))
+            }
+            Question::LabelSyntax(_) | Question::FieldSyntax(_) | Question::PatFieldSyntax(_) => {
+                answer.word("none")
+            }
+            Question::PatternsFor(id) => put_each(answer, sources.patterns_for_binding(*id)),
+            Question::Diagnostics => put_diagnostics(answer, sources),
+            Question::NodeExpr(source) => put_found(answer, &sources.node_expr(*source)),
+            Question::NodePat(source) => put_found(answer, &sources.node_pat(*source)),
+            Question::NodeType(source) => put_found(answer, &sources.node_type(*source)),
+            Question::NodeLabel(source) => put_found(answer, &sources.node_label(*source)),
+            Question::MacroExpansionExpr(source) => {
+                put_found(answer, &sources.macro_expansion_expr(*source))
+            }
+            Question::NodeMacroFile(call) => put_found(answer, &sources.node_macro_file(*call)),
+            Question::ExpansionOf(call) => put_found(answer, &sources.expansion(*call)),
+            Question::Expansions => put_expansions(answer, sources),
+        }
+    }
 }

@@ -1,90 +1,88 @@
 //! A store and its source map, written as the lines that make them.
 
-use crate::lines::write_all;
-use crate::places::write_expansion_lines;
-use hir_base::{AstPtr, BlockId, HygieneId, InFile, SyntaxNodePtr, SyntheticSyntax};
-use hir_node::{BindingId, Expr, ExprId, ExprOrPatId, LabelId, PatId, TypeRefId};
+use crate::expansions::expansions_by_place;
+use hir_base::{BlockId, HygieneId, InFile, SyntaxNodePtr};
+use hir_collections::{ArenaIter, Idx};
+use hir_node::{Expr, ExprId, LabelId, PatId};
 use hir_store::{ExpressionStore, ExpressionStoreSourceMap};
 use hir_store_core::Missing;
-use hir_text_nodes::{
-    Answer, Node, TextError, pointer, syntax, write_diagnostic, write_hygiene, write_node,
-    write_source,
-};
+use hir_text_nodes::{Answer, Write, pointer, put, syntax};
 use std::alloc::{AllocError, Global};
 use std::collections::BTreeMap;
 
-/// Writes the roots, in their order.
-fn write_roots(store: &ExpressionStore, answer: &mut Answer) -> Result<(), AllocError> {
+/// Writes words in a line of their own.
+fn put_line<T: Write>(answer: &mut Answer, words: &T) -> Result<(), AllocError> {
     answer.next_line()?;
-    answer.word("roots")?;
-    for root in store.expr_roots() {
-        answer.next_line()?;
-        answer.word("root")?;
-        answer.id(root)?;
+    put(answer, words)
+}
+
+/// Writes the lines of an arena.
+pub(crate) fn put_arena<K, T: Write>(
+    answer: &mut Answer,
+    nodes: ArenaIter<'_, K, T>,
+) -> Result<(), AllocError> {
+    for (_, node) in nodes {
+        put_line(answer, node)?;
     }
     Ok(())
 }
 
-/// Writes a hygiene that isn't that of no expansion.
-fn write_hygiene_line(
-    word: &str,
-    number: u32,
-    hygiene: HygieneId,
+/// Writes the lines of the labels, of which a store has no list.
+pub(crate) fn put_labels(answer: &mut Answer, store: &ExpressionStore) -> Result<(), AllocError> {
+    for number in 0..u32::MAX {
+        match store.get(LabelId::from_raw(number)) {
+            Some(label) => put_line(answer, label)?,
+            None => break,
+        }
+    }
+    Ok(())
+}
+
+/// Writes the lines of the nodes of all arenas, and of the roots in their order.
+fn put_nodes(answer: &mut Answer, store: &ExpressionStore) -> Result<(), AllocError> {
+    put_arena(answer, store.bindings())?;
+    put_labels(answer, store)?;
+    put_arena(answer, store.lifetimes())?;
+    put_arena(answer, store.types())?;
+    put_arena(answer, store.pats())?;
+    put_arena(answer, store.exprs())?;
+    put_line(answer, &"roots")?;
+    for root in store.expr_roots() {
+        put_line(answer, &("root", root))?;
+    }
+    Ok(())
+}
+
+/// Writes a hygiene that isn't that of source text.
+fn put_hygiene<K>(
     answer: &mut Answer,
+    word: &str,
+    id: Idx<K>,
+    hygiene: HygieneId,
 ) -> Result<(), AllocError> {
     if hygiene == HygieneId::ROOT {
         return Ok(());
     }
-    answer.next_line()?;
-    answer.word(word)?;
-    answer.number(number)?;
-    write_hygiene(hygiene, answer)
+    put_line(answer, &(word, id, hygiene))
 }
 
-/// Writes the hygiene of expressions and patterns.
-fn write_hygienes(store: &ExpressionStore, answer: &mut Answer) -> Result<(), AllocError> {
+/// Writes the hygiene of expressions and patterns, and the owners of bindings.
+fn put_side_tables(answer: &mut Answer, store: &ExpressionStore) -> Result<(), AllocError> {
     for (id, _) in store.exprs() {
-        write_hygiene_line(
-            "hygiene",
-            id.into_raw(),
-            store.expr_path_hygiene(id),
-            answer,
-        )?;
+        put_hygiene(answer, "hygiene", id, store.expr_path_hygiene(id))?;
     }
     for (id, _) in store.pats() {
-        write_hygiene_line(
-            "pat-hygiene",
-            id.into_raw(),
-            store.pat_path_hygiene(id),
-            answer,
-        )?;
+        put_hygiene(answer, "pat-hygiene", id, store.pat_path_hygiene(id))?;
     }
-    Ok(())
-}
-
-/// Writes the owner of a binding, where it has one.
-fn write_owner(
-    store: &ExpressionStore,
-    id: BindingId,
-    answer: &mut Answer,
-) -> Result<(), AllocError> {
-    let Some(owner) = store.binding_owner(id) else {
-        return Ok(());
-    };
-    answer.next_line()?;
-    answer.word("owner")?;
-    answer.id(id)?;
-    answer.id(owner)
-}
-
-fn write_owners(store: &ExpressionStore, answer: &mut Answer) -> Result<(), AllocError> {
     for (id, _) in store.bindings() {
-        write_owner(store, id, answer)?;
+        match store.binding_owner(id) {
+            Some(owner) => put_line(answer, &("owner", id, owner))?,
+            None => {}
+        }
     }
     Ok(())
 }
 
-/// Returns the blocks of expressions.
 fn blocks_of_exprs(
     alloc: Global,
     store: &ExpressionStore,
@@ -114,17 +112,15 @@ fn missing_block(missing: &Missing) -> Option<BlockId> {
 }
 
 /// Writes the blocks that may hold items, where each of them is known. Returns the first that isn't.
-fn write_known_blocks(
+fn put_known_blocks(
+    answer: &mut Answer,
     store: &ExpressionStore,
     known: &BTreeMap<BlockId, u32>,
-    answer: &mut Answer,
 ) -> Result<Option<BlockId>, AllocError> {
     match store.blocks(known) {
         Ok(blocks) => {
             for (block, _) in blocks {
-                answer.next_line()?;
-                answer.word("block-scope")?;
-                answer.number(block.into_raw())?;
+                put_line(answer, &("block-scope", block))?;
             }
             Ok(None)
         }
@@ -134,14 +130,10 @@ fn write_known_blocks(
 
 /// Writes the blocks that may hold items, in their order. A store gives them to those who know them, and
 /// names the first that is missing; nearly all are blocks of expressions.
-fn write_blocks(
-    alloc: Global,
-    store: &ExpressionStore,
-    answer: &mut Answer,
-) -> Result<(), AllocError> {
-    let mut known = blocks_of_exprs(alloc, store)?;
+fn put_blocks(answer: &mut Answer, store: &ExpressionStore) -> Result<(), AllocError> {
+    let mut known = blocks_of_exprs(answer.alloc(), store)?;
     for _ in 0..u32::MAX {
-        let Some(block) = write_known_blocks(store, &known, answer)? else {
+        let Some(block) = put_known_blocks(answer, store, &known)? else {
             break;
         };
         let _ = known.insert(block, 0)?;
@@ -149,190 +141,124 @@ fn write_blocks(
     Ok(())
 }
 
-/// Writes a word, a node and its source.
-fn write_back(
-    word: &str,
-    number: u32,
-    source: &InFile<SyntaxNodePtr>,
+/// Writes where a node comes from, and what that became, where it became something.
+fn put_source<A, B: Write>(
     answer: &mut Answer,
+    words: (&str, &str),
+    id: Idx<A>,
+    source: InFile<SyntaxNodePtr>,
+    meaning: &Option<B>,
 ) -> Result<(), AllocError> {
-    answer.next_line()?;
-    answer.word(word)?;
-    answer.number(number)?;
-    write_source(*source, answer)
-}
-
-/// Writes a word, a source and the expression or pattern that it became, where it became one.
-fn write_meaning(
-    word: &str,
-    source: &InFile<SyntaxNodePtr>,
-    meaning: Option<ExprOrPatId>,
-    answer: &mut Answer,
-) -> Result<(), AllocError> {
-    let Some(meaning) = meaning else {
-        return Ok(());
-    };
-    answer.next_line()?;
-    answer.word(word)?;
-    write_source(*source, answer)?;
+    let (back, forth) = words;
+    put_line(answer, &(back, id, source))?;
     match meaning {
-        ExprOrPatId::ExprId(id) => write_node(Node::Expr(id), answer),
-        ExprOrPatId::PatId(id) => write_node(Node::Pat(id), answer),
+        Some(meaning) => put_line(answer, &(forth, source, meaning)),
+        None => Ok(()),
     }
 }
 
-/// Writes a word, a source and a number, where there is one.
-fn write_numbered(
-    word: &str,
-    source: &InFile<SyntaxNodePtr>,
-    number: Option<u32>,
+fn put_expr_sources(
     answer: &mut Answer,
-) -> Result<(), AllocError> {
-    let Some(number) = number else {
-        return Ok(());
-    };
-    answer.next_line()?;
-    answer.word(word)?;
-    write_source(*source, answer)?;
-    answer.number(number)
-}
-
-/// Returns the source without the kind of its node, where there is one.
-fn known<K>(source: Result<InFile<AstPtr<K>>, SyntheticSyntax>) -> Option<InFile<SyntaxNodePtr>> {
-    match source {
-        Ok(source) => Some(syntax(source)),
-        Err(SyntheticSyntax) => None,
-    }
-}
-
-fn write_expr_sources(
     sources: &ExpressionStoreSourceMap,
     id: ExprId,
-    answer: &mut Answer,
 ) -> Result<(), AllocError> {
-    if let Some(source) = &known(sources.expr_syntax(id)) {
-        write_back("map-expr-back", id.into_raw(), source, answer)?;
-        let meaning = sources.node_expr(pointer(*source));
-        write_meaning("map-expr", source, meaning, answer)?;
+    if let Ok(source) = sources.expr_syntax(id) {
+        let source = syntax(source);
+        let meaning = sources.node_expr(pointer(source));
+        put_source(answer, ("map-expr-back", "map-expr"), id, source, &meaning)?;
     }
     if sources.has_field_syntax(id) {
         let source = syntax(sources.field_syntax(id));
-        write_back("map-field-back", id.into_raw(), &source, answer)?;
+        put_line(answer, &("map-field-back", id, source))?;
     }
     Ok(())
 }
 
-fn write_pat_sources(
+fn put_pat_sources(
+    answer: &mut Answer,
     sources: &ExpressionStoreSourceMap,
     id: PatId,
-    answer: &mut Answer,
 ) -> Result<(), AllocError> {
-    if let Some(source) = &known(sources.pat_syntax(id)) {
-        write_back("map-pat-back", id.into_raw(), source, answer)?;
-        let meaning = sources.node_pat(pointer(*source));
-        write_meaning("map-pat", source, meaning, answer)?;
+    if let Ok(source) = sources.pat_syntax(id) {
+        let source = syntax(source);
+        let meaning = sources.node_pat(pointer(source));
+        put_source(answer, ("map-pat-back", "map-pat"), id, source, &meaning)?;
     }
     if sources.has_pat_field_syntax(id) {
         let source = syntax(sources.pat_field_syntax(id));
-        write_back("map-pat-field-back", id.into_raw(), &source, answer)?;
+        put_line(answer, &("map-pat-field-back", id, source))?;
     }
     Ok(())
 }
 
-fn write_type_sources(
-    sources: &ExpressionStoreSourceMap,
-    id: TypeRefId,
+fn put_label_sources(
     answer: &mut Answer,
-) -> Result<(), AllocError> {
-    if let Some(source) = &known(sources.type_syntax(id)) {
-        write_back("map-type-back", id.into_raw(), source, answer)?;
-        let meaning = sources.node_type(pointer(*source));
-        write_numbered("map-type", source, meaning.map(|id| id.into_raw()), answer)?;
-    }
-    Ok(())
-}
-
-fn write_label_sources(
-    sources: &ExpressionStoreSourceMap,
-    id: LabelId,
-    answer: &mut Answer,
-) -> Result<(), AllocError> {
-    if !sources.has_label_syntax(id) {
-        return Ok(());
-    }
-    let source = &syntax(sources.label_syntax(id));
-    write_back("map-label-back", id.into_raw(), source, answer)?;
-    let meaning = sources.node_label(pointer(*source));
-    write_numbered("map-label", source, meaning.map(|id| id.into_raw()), answer)
-}
-
-fn write_definitions(
-    sources: &ExpressionStoreSourceMap,
-    id: BindingId,
-    answer: &mut Answer,
-) -> Result<(), AllocError> {
-    for pat in sources.patterns_for_binding(id) {
-        answer.next_line()?;
-        answer.word("definition")?;
-        answer.id(id)?;
-        answer.id(*pat)?;
-    }
-    Ok(())
-}
-
-/// Writes where nodes come from, and the patterns of bindings.
-fn write_node_sources(
     store: &ExpressionStore,
     sources: &ExpressionStoreSourceMap,
-    answer: &mut Answer,
 ) -> Result<(), AllocError> {
-    for (id, _) in store.exprs() {
-        write_expr_sources(sources, id, answer)?;
-    }
-    for (id, _) in store.pats() {
-        write_pat_sources(sources, id, answer)?;
-    }
-    for (id, _) in store.types() {
-        write_type_sources(sources, id, answer)?;
-    }
-    for (id, _) in store.bindings() {
-        write_definitions(sources, id, answer)?;
-    }
     for number in 0..u32::MAX {
         let id = LabelId::from_raw(number);
         if !store.has_label(id) {
             break;
         }
-        write_label_sources(sources, id, answer)?;
+        if sources.has_label_syntax(id) {
+            let source = syntax(sources.label_syntax(id));
+            let meaning = sources.node_label(pointer(source));
+            put_source(
+                answer,
+                ("map-label-back", "map-label"),
+                id,
+                source,
+                &meaning,
+            )?;
+        }
     }
     Ok(())
 }
 
-fn write_diagnostics(
-    sources: &ExpressionStoreSourceMap,
+/// Writes where nodes come from, and the patterns of bindings.
+fn put_sources(
     answer: &mut Answer,
+    store: &ExpressionStore,
+    sources: &ExpressionStoreSourceMap,
 ) -> Result<(), AllocError> {
-    for diagnostic in sources.diagnostics() {
-        answer.next_line()?;
-        answer.word("diagnostic")?;
-        write_diagnostic(diagnostic, answer)?;
+    for (id, _) in store.exprs() {
+        put_expr_sources(answer, sources, id)?;
     }
-    Ok(())
+    for (id, _) in store.pats() {
+        put_pat_sources(answer, sources, id)?;
+    }
+    for (id, _) in store.types() {
+        if let Ok(source) = sources.type_syntax(id) {
+            let source = syntax(source);
+            let meaning = sources.node_type(pointer(source));
+            put_source(answer, ("map-type-back", "map-type"), id, source, &meaning)?;
+        }
+    }
+    for (id, _) in store.bindings() {
+        for pat in sources.patterns_for_binding(id) {
+            put_line(answer, &("definition", id, pat))?;
+        }
+    }
+    put_label_sources(answer, store, sources)
 }
 
 /// `store-lines`: the lines that make the store and its source map.
-pub(crate) fn ask(
-    alloc: Global,
+pub(crate) fn put_store(
+    answer: &mut Answer,
     store: &ExpressionStore,
     sources: &ExpressionStoreSourceMap,
-    answer: &mut Answer,
-) -> Result<(), TextError> {
-    write_all(store, answer)?;
-    write_roots(store, answer)?;
-    write_hygienes(store, answer)?;
-    write_owners(store, answer)?;
-    write_blocks(alloc, store, answer)?;
-    write_node_sources(store, sources, answer)?;
-    write_expansion_lines(alloc, sources, answer)?;
-    Ok(write_diagnostics(sources, answer)?)
+) -> Result<(), AllocError> {
+    put_nodes(answer, store)?;
+    put_side_tables(answer, store)?;
+    put_blocks(answer, store)?;
+    put_sources(answer, store, sources)?;
+    let places = expansions_by_place(answer.alloc(), sources)?;
+    for (place, expansion) in places.iter() {
+        put_line(answer, &("expansion", place.source(), expansion))?;
+    }
+    for diagnostic in sources.diagnostics() {
+        put_line(answer, &("diagnostic", diagnostic))?;
+    }
+    Ok(())
 }

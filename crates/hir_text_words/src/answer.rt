@@ -2,14 +2,16 @@
 
 ghost use Rattle.std.specs.Prelude.{◌≡◌, string_bytes};
 
-use crate::{names, quotes};
-use hir_collections::Idx;
+use crate::quotes;
+use crate::words::is_bare;
 use itoa::Buffer;
 use std::alloc::{AllocError, Global};
+use std::fmt::Display;
 
 /// The answer to a question, while it is written.
 #[derive(Drop)]
 pub struct Answer {
+    alloc: Global,
     text: String,
     /// Whether a word comes before what comes next, in its line.
     is_behind: bool,
@@ -17,23 +19,29 @@ pub struct Answer {
 }
 
 impl Answer {
-    /// An empty answer.
+    /// Returns an empty answer. What is computed for it is allocated where it is.
     pub fn new(alloc: Global) -> Answer {
         Answer {
+            alloc,
             text: String::new(alloc),
             is_behind: false,
             is_refusal: false,
         }
     }
 
-    /// What was written.
+    /// Returns where the answer is allocated.
+    pub fn alloc(&self) -> Global {
+        self.alloc
+    }
+
+    /// Returns what was written.
     pub fn as_str(&self) -> &str
         ensures { result.now ≡ string_bytes self.now.text }
     {
         self.text.as_str()
     }
 
-    /// Whether the answer is a refusal.
+    /// Returns whether the answer is a refusal.
     pub fn is_refusal(&self) -> bool
         ensures { result ≡ self.now.is_refusal }
     {
@@ -47,8 +55,8 @@ impl Answer {
         self.is_refusal = true;
     }
 
-    /// Begins a word: with a space, where one comes before it.
-    fn begin(&mut self) -> Result<(), AllocError> {
+    /// Writes the space before a word, where one comes before it in its line.
+    pub fn space(&mut self) -> Result<(), AllocError> {
         if self.is_behind {
             self.text.push(' ')?;
         }
@@ -56,121 +64,13 @@ impl Answer {
         Ok(())
     }
 
-    /// A word.
+    /// Writes a word.
     pub fn word(&mut self, word: &str) -> Result<(), AllocError> {
-        self.begin()?;
+        self.space()?;
         self.text.push_str(word)
     }
 
-    /// What comes after the last word without a space.
-    pub fn join(&mut self, part: &str) -> Result<(), AllocError> {
-        self.is_behind = true;
-        self.text.push_str(part)
-    }
-
-    /// A number after the last word without a space.
-    pub fn join_number(&mut self, number: u32) -> Result<(), AllocError> {
-        self.join(Buffer::new().format(number))
-    }
-
-    /// A number between these, after the last word without a space.
-    pub fn join_around(
-        &mut self,
-        before: &str,
-        number: u32,
-        behind: &str,
-    ) -> Result<(), AllocError> {
-        self.join(before)?;
-        self.join_number(number)?;
-        self.join(behind)
-    }
-
-    /// A number.
-    pub fn number(&mut self, number: u32) -> Result<(), AllocError> {
-        self.word(Buffer::new().format(number))
-    }
-
-    /// The size of something.
-    pub fn size(&mut self, number: usize) -> Result<(), AllocError> {
-        self.word(Buffer::new().format(number))
-    }
-
-    /// The size of something, after the last word without a space.
-    pub fn join_size(&mut self, number: usize) -> Result<(), AllocError> {
-        self.join(Buffer::new().format(number))
-    }
-
-    /// A number of 64 bits, after the last word without a space.
-    pub fn join_long(&mut self, number: u64) -> Result<(), AllocError> {
-        self.join(Buffer::new().format(number))
-    }
-
-    /// A number of 128 bits.
-    pub fn big(&mut self, number: u128) -> Result<(), AllocError> {
-        self.word(Buffer::new().format(number))
-    }
-
-    /// A number of 128 bits with a sign.
-    pub fn int(&mut self, number: i128) -> Result<(), AllocError> {
-        self.word(Buffer::new().format(number))
-    }
-
-    /// The number of a node.
-    pub fn id<K>(&mut self, id: Idx<K>) -> Result<(), AllocError> {
-        self.number(id.into_raw())
-    }
-
-    /// The number of a node, or `none`.
-    pub fn opt_id<K>(&mut self, id: Option<Idx<K>>) -> Result<(), AllocError> {
-        match id {
-            Some(id) => self.id(id),
-            None => self.word("none"),
-        }
-    }
-
-    /// The number of a node, or `-`.
-    pub fn id_or_dash<K>(&mut self, id: Option<Idx<K>>) -> Result<(), AllocError> {
-        self.begin()?;
-        self.join_id_or_dash(id)
-    }
-
-    /// The number of a node, or `-`, after the last word without a space.
-    pub fn join_id_or_dash<K>(&mut self, id: Option<Idx<K>>) -> Result<(), AllocError> {
-        match id {
-            Some(id) => self.join_number(id.into_raw()),
-            None => self.join("-"),
-        }
-    }
-
-    /// The numbers of nodes, joined by `,`, or `-`.
-    pub fn ids<K>(&mut self, ids: &[Idx<K>]) -> Result<(), AllocError> {
-        self.begin()?;
-        if ids.is_empty() {
-            return self.join("-");
-        }
-        let mut before = "";
-        for id in ids {
-            // (an id of a kind that isn't known is no `Copy` to the borrow checker)
-            let id = id.clone()?;
-            self.join(before)?;
-            self.join_number(id.into_raw())?;
-            before = ",";
-        }
-        Ok(())
-    }
-
-    /// A word and the number of a node that it is joined to, where there is one.
-    pub fn prefixed_id<K>(&mut self, start: &str, id: Option<Idx<K>>) -> Result<(), AllocError> {
-        match id {
-            Some(id) => {
-                self.word(start)?;
-                self.join_number(id.into_raw())
-            }
-            None => Ok(()),
-        }
-    }
-
-    /// A word, where this says so.
+    /// Writes a word, where this says so.
     pub fn flag(&mut self, is_set: bool, word: &str) -> Result<(), AllocError> {
         if is_set {
             self.word(word)?;
@@ -178,43 +78,42 @@ impl Answer {
         Ok(())
     }
 
-    /// `yes` or `no`.
-    pub fn yes_or_no(&mut self, is_so: bool) -> Result<(), AllocError> {
-        self.word(if is_so { "yes" } else { "no" })
-    }
-
-    /// A name: bare, or in quotes.
-    pub fn name(&mut self, name: &str) -> Result<(), AllocError> {
-        self.begin()?;
-        self.join_name(name)
-    }
-
-    /// A name after the last word without a space.
-    pub fn join_name(&mut self, name: &str) -> Result<(), AllocError> {
+    /// Writes what comes after the last word without a space; so do the calls that follow.
+    pub fn join(&mut self, part: &str) -> Result<(), AllocError> {
         self.is_behind = true;
-        if names::is_bare(name.as_bytes()) {
-            self.text.push_str(name)
+        self.text.push_str(part)
+    }
+
+    /// Writes a number.
+    pub fn join_number(&mut self, number: u32) -> Result<(), AllocError> {
+        self.join(Buffer::new().format(number))
+    }
+
+    /// Writes a name: bare, or in quotes.
+    pub fn join_name(&mut self, name: &str) -> Result<(), AllocError> {
+        if is_bare(name.as_bytes()) {
+            self.join(name)
         } else {
-            quotes::write_quoted(name, &mut self.text)
+            self.join_quoted(name)
         }
     }
 
-    /// A text in quotes.
-    pub fn quote(&mut self, text: &str) -> Result<(), AllocError> {
-        self.begin()?;
-        quotes::write_quoted(text, &mut self.text)
-    }
-
-    /// A text in quotes after the last word without a space.
+    /// Writes a text in quotes.
     pub fn join_quoted(&mut self, text: &str) -> Result<(), AllocError> {
         self.is_behind = true;
         quotes::write_quoted(text, &mut self.text)
     }
 
-    /// Bytes in quotes.
-    pub fn bytes(&mut self, bytes: &[u8]) -> Result<(), AllocError> {
-        self.begin()?;
+    /// Writes bytes in quotes.
+    pub fn join_bytes(&mut self, bytes: &[u8]) -> Result<(), AllocError> {
+        self.is_behind = true;
         quotes::write_bytes(bytes, &mut self.text)
+    }
+
+    /// Writes what is shown of a value.
+    pub fn join_shown<T: Display>(&mut self, value: &T) -> Result<(), AllocError> {
+        self.is_behind = true;
+        write!(self.text, "{value}")
     }
 
     /// Ends a line.

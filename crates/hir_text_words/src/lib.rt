@@ -1,17 +1,12 @@
-//! Words of a line that is read, and the text of an answer that is written: numbers, names, quoted texts,
-//! lists and tables of words.
+//! The words of a line that is read, and the text of an answer that is written.
 #![tactic(auto)]
 
 mod answer;
-mod names;
-mod numbers;
-mod parts;
 mod quotes;
-mod tables;
 mod text_error;
+mod values;
 mod words;
 
 pub use answer::Answer;
-pub use tables::value_of;
 pub use text_error::TextError;
-pub use words::Words;
+pub use words::{Part, Words};

@@ -1,53 +1,22 @@
 //! Texts in quotes: read with their escapes, and written with them.
 
-use crate::numbers::number_of;
 use crate::text_error::TextError;
+use crate::values::number_of;
 use crate::words::Words;
-use std::alloc::{AllocError, Global};
+use std::alloc::AllocError;
 
-/// The letters after a backslash, each with the byte that it stands for.
-const ESCAPES: [(u8, u8); 6] = [
-    (b'n', b'\n'),
-    (b'r', b'\r'),
-    (b't', b'\t'),
-    (b'0', 0),
-    (b'\\', b'\\'),
-    (b'"', b'"'),
-];
-
-/// The byte that this letter stands for.
-fn escape_of(letter: u8) -> Option<u8> {
-    for (other, byte) in &ESCAPES {
-        if *other == letter {
-            return Some(*byte);
-        }
-    }
-    None
-}
-
-/// The letter that stands for this character.
-fn letter_of(c: char) -> Option<char> {
-    for (letter, byte) in &ESCAPES {
-        if char::from(*byte) == c {
-            return Some(char::from(*letter));
-        }
-    }
-    None
-}
-
-/// Two hexadecimal digits.
 fn read_byte(words: &mut Words<'_>) -> Result<u8, TextError> {
     let digits = words.take(2);
     if digits.len() < 2 {
         return Err(words.reject());
     }
     match number_of(digits, 16) {
-        Some(number) => Ok(u8::try_from(number)?),
+        Some(number) => words.known(u8::try_from(number).ok()),
         None => Err(words.reject()),
     }
 }
 
-/// The character of this number, in hexadecimal; none where there is no such character.
+/// Returns the character of a number in hexadecimal; none where there is no such character.
 fn char_of(digits: &[u8]) -> Option<char> {
     match u32::try_from(number_of(digits, 16)?) {
         Ok(number) => char::from_u32(number),
@@ -55,7 +24,7 @@ fn char_of(digits: &[u8]) -> Option<char> {
     }
 }
 
-/// A character's number in braces, in hexadecimal.
+/// Takes a character's number in braces, in hexadecimal.
 fn read_char(words: &mut Words<'_>) -> Result<char, TextError> {
     words.expect(b"{")?;
     let digits = words.keyword();
@@ -63,28 +32,29 @@ fn read_char(words: &mut Words<'_>) -> Result<char, TextError> {
     if digits.is_empty() {
         return Err(words.reject());
     }
-    match char_of(digits) {
-        Some(c) => Ok(c),
-        None => Err(words.reject()),
-    }
+    words.known(char_of(digits))
 }
 
-/// What is left after a backslash: the bytes that it stands for are put after the others.
+/// Takes what comes after a backslash, and puts the bytes that it stands for after the others.
 fn read_escape(words: &mut Words<'_>, bytes: &mut Vec<u8>) -> Result<(), TextError> {
     if words.eat(b"u") {
         let c = read_char(words)?;
         return Ok(bytes.extend_from_slice(c.encode_utf8(&mut [0u8; 4]).as_bytes())?);
     }
-    match words.take(1) {
-        [letter] => match escape_of(*letter) {
-            Some(byte) => Ok(bytes.push(byte)?),
-            None => Err(words.reject()),
-        },
-        _ => Err(words.reject_next()),
-    }
+    let byte = match words.take(1) {
+        [b'n'] => b'\n',
+        [b'r'] => b'\r',
+        [b't'] => b'\t',
+        [b'0'] => 0,
+        [b'\\'] => b'\\',
+        [b'"'] => b'"',
+        [] => return Err(words.reject_next()),
+        _ => return Err(words.reject()),
+    };
+    Ok(bytes.push(byte)?)
 }
 
-/// The next byte or escape, which is put after the others: false at the closing quote.
+/// Takes the next byte or escape, and puts it after the others: false at the closing quote.
 fn read_next(
     words: &mut Words<'_>,
     bytes: &mut Vec<u8>,
@@ -103,15 +73,11 @@ fn read_next(
     Ok(true)
 }
 
-/// The text in quotes, in which bytes may be written as `\xHH` where this says so.
-fn read_quoted(
-    words: &mut Words<'_>,
-    alloc: Global,
-    has_bytes: bool,
-) -> Result<Vec<u8>, TextError> {
+/// Takes the text in quotes, in which bytes may be written as `\xHH` where this says so.
+pub(crate) fn read_quoted(words: &mut Words<'_>, has_bytes: bool) -> Result<Vec<u8>, TextError> {
     words.expect(b"\"")?;
-    let mut bytes = Vec::new(alloc);
-    for _ in 0..words.rest().len() {
+    let mut bytes = Vec::new(words.alloc());
+    for _ in 0..words.most_items() {
         if !read_next(words, &mut bytes, has_bytes)? {
             return Ok(bytes);
         }
@@ -119,20 +85,6 @@ fn read_quoted(
     Err(words.reject_next())
 }
 
-/// Bytes in quotes.
-pub(crate) fn read_bytes(words: &mut Words<'_>, alloc: Global) -> Result<Vec<u8>, TextError> {
-    read_quoted(words, alloc, true)
-}
-
-/// A text in quotes.
-pub(crate) fn read_string(words: &mut Words<'_>, alloc: Global) -> Result<String, TextError> {
-    match String::from_utf8(read_quoted(words, alloc, false)?) {
-        Ok(text) => Ok(text),
-        Err(_) => Err(words.reject()),
-    }
-}
-
-/// A hexadecimal digit.
 fn hex(digit: u8) -> char {
     match digit {
         0..=9 => char::from(b'0' + digit),
@@ -140,29 +92,27 @@ fn hex(digit: u8) -> char {
     }
 }
 
-/// Writes a byte as two hexadecimal digits.
-fn write_hex(byte: u8, out: &mut String) -> Result<(), AllocError> {
+/// Writes a byte as two hexadecimal digits, between these.
+fn write_hex(before: &str, byte: u8, behind: &str, out: &mut String) -> Result<(), AllocError> {
+    out.push_str(before)?;
     out.push(hex(byte / 16))?;
-    out.push(hex(byte % 16))
+    out.push(hex(byte % 16))?;
+    out.push_str(behind)
 }
 
-/// Writes a character in its quoted form.
 fn write_char(c: char, out: &mut String) -> Result<(), AllocError> {
-    if let Some(letter) = letter_of(c) {
-        out.push('\\')?;
-        return out.push(letter);
-    }
     match c {
-        '\0'..='\u{1f}' | '\u{7f}' => write_code(u32::from(c).to_le_bytes()[0], out),
+        '\n' => out.push_str("\\n"),
+        '\r' => out.push_str("\\r"),
+        '\t' => out.push_str("\\t"),
+        '\0' => out.push_str("\\0"),
+        '\\' => out.push_str("\\\\"),
+        '"' => out.push_str("\\\""),
+        '\u{1}'..='\u{1f}' | '\u{7f}' => {
+            write_hex("\\u{", u32::from(c).to_le_bytes()[0], "}", out)
+        }
         _ => out.push(c),
     }
-}
-
-/// Writes the number of a character that has no other form.
-fn write_code(number: u8, out: &mut String) -> Result<(), AllocError> {
-    out.push_str("\\u{")?;
-    write_hex(number, out)?;
-    out.push('}')
 }
 
 /// Writes a text in quotes.
@@ -174,22 +124,14 @@ pub(crate) fn write_quoted(text: &str, out: &mut String) -> Result<(), AllocErro
     out.push('"')
 }
 
-/// Writes a byte in its quoted form.
-fn write_byte(byte: u8, out: &mut String) -> Result<(), AllocError> {
-    match byte {
-        0 | b'\t' | b'\n' | b'\r' | b' '..=b'~' => write_char(char::from(byte), out),
-        _ => {
-            out.push_str("\\x")?;
-            write_hex(byte, out)
-        }
-    }
-}
-
 /// Writes bytes in quotes.
 pub(crate) fn write_bytes(bytes: &[u8], out: &mut String) -> Result<(), AllocError> {
     out.push('"')?;
     for byte in bytes {
-        write_byte(*byte, out)?;
+        match *byte {
+            0 | b'\t' | b'\n' | b'\r' | b' '..=b'~' => write_char(char::from(*byte), out)?,
+            _ => write_hex("\\x", *byte, "", out)?,
+        }
     }
     out.push('"')
 }

@@ -2,8 +2,6 @@
 
 use hir_collections::ArenaFault;
 use std::alloc::{AllocError, AllocFailed};
-use std::num::TryFromIntError;
-use std::str::Utf8Error;
 
 /// Why a line can't be read or answered.
 #[derive(Clone, Copy, PartialEq, Eq, Debug, Drop)]
@@ -29,19 +27,5 @@ impl<T: Drop> From<AllocFailed<T>> for TextError {
 impl<T: Drop> From<(ArenaFault, T)> for TextError {
     fn from(_: (ArenaFault, T)) -> TextError {
         TextError::Memory
-    }
-}
-
-/// A number that is too large for its place.
-impl From<TryFromIntError> for TextError {
-    fn from(_: TryFromIntError) -> TextError {
-        TextError::Syntax
-    }
-}
-
-/// Bytes that are no text.
-impl From<Utf8Error> for TextError {
-    fn from(_: Utf8Error) -> TextError {
-        TextError::Syntax
     }
 }

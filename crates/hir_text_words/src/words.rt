@@ -1,12 +1,69 @@
 //! What is left of a line: words and their parts, taken one after the other.
 
-use crate::parts::Part;
-use crate::tables::value_of;
 use crate::text_error::TextError;
+use std::alloc::Global;
+
+/// What a part of a line is of.
+#[derive(Clone, Copy)]
+pub enum Part {
+    /// Letters, digits, `-` and `_`.
+    Keyword,
+    /// Letters, digits and `_`.
+    Name,
+    /// Digits.
+    Digits,
+    /// Digits and `.`.
+    Decimal,
+    /// All but a space.
+    Word,
+}
+
+impl Part {
+    fn has(self, byte: u8) -> bool {
+        match self {
+            Part::Keyword => byte.is_ascii_alphanumeric() || byte == b'-' || byte == b'_',
+            Part::Name => byte.is_ascii_alphanumeric() || byte == b'_',
+            Part::Digits => byte.is_ascii_digit(),
+            Part::Decimal => byte.is_ascii_digit() || byte == b'.',
+            Part::Word => byte != b' ',
+        }
+    }
+
+    /// Returns how many bytes at the front are of this.
+    pub(crate) fn len_in(self, bytes: &[u8]) -> usize {
+        for (at, byte) in bytes.iter().enumerate() {
+            if !self.has(*byte) {
+                return at;
+            }
+        }
+        bytes.len()
+    }
+
+    /// Returns whether a text is of this, and not empty.
+    pub fn is_all(self, bytes: &[u8]) -> bool {
+        !bytes.is_empty() && self.len_in(bytes) == bytes.len()
+    }
+}
+
+/// Returns how many bytes the bare name at the front has.
+fn bare_len(bytes: &[u8]) -> usize {
+    match bytes {
+        [first, behind @ ..] if first.is_ascii_alphabetic() || matches!(*first, b'_' | b'\'') => {
+            Part::Name.len_in(behind).saturating_add(1)
+        }
+        _ => 0,
+    }
+}
+
+/// Returns whether a text is a name that is written without quotes.
+pub(crate) fn is_bare(text: &[u8]) -> bool {
+    !text.is_empty() && bare_len(text) == text.len()
+}
 
 /// What is left of a line.
 #[derive(Clone, Copy)]
 pub struct Words<'a> {
+    alloc: Global,
     rest: &'a [u8],
     /// What is left from where the word begins that is being read; once reading stopped, from there.
     stop: &'a [u8],
@@ -14,28 +71,39 @@ pub struct Words<'a> {
 }
 
 impl<'a> Words<'a> {
-    /// The words of a line.
-    pub fn new(line: &'a [u8]) -> Words<'a> {
+    /// Returns the words of a line. What is read of it is allocated here.
+    pub fn new(alloc: Global, line: &'a [u8]) -> Words<'a> {
         Words {
+            alloc,
             rest: line,
             stop: line,
             is_stopped: false,
         }
     }
 
-    /// What is left.
+    /// Returns where what is read is allocated.
+    pub fn alloc(&self) -> Global {
+        self.alloc
+    }
+
+    /// Returns what is left.
     pub fn rest(&self) -> &'a [u8] {
         self.rest
     }
 
-    /// What is left from where reading stopped first, after a call that couldn't read: from the beginning of
-    /// the word that isn't what is wanted, or from the first byte of it that isn't.
+    /// Returns how many items what is left has at most: each takes a byte, or is the one that isn't there.
+    pub fn most_items(&self) -> usize {
+        self.rest.len().saturating_add(1)
+    }
+
+    /// Returns what is left from where reading stopped first, after a call that couldn't read: from the
+    /// beginning of the word that isn't what is wanted, or from the first byte of it that isn't.
     pub fn stop(&self) -> &'a [u8] {
         self.stop
     }
 
     /// A word begins here, or a part of one.
-    pub(crate) fn begin_word(&mut self) {
+    fn begin_word(&mut self) {
         if !self.is_stopped {
             self.stop = self.rest;
         }
@@ -53,6 +121,14 @@ impl<'a> Words<'a> {
         self.reject()
     }
 
+    /// Returns what the word that was read last stands for; without a value it isn't what is wanted.
+    pub fn known<T: Drop>(&mut self, value: Option<T>) -> Result<T, TextError> {
+        match value {
+            Some(value) => Ok(value),
+            None => Err(self.reject()),
+        }
+    }
+
     /// Takes as many bytes as this, or all.
     pub fn take(&mut self, count: usize) -> &'a [u8] {
         let (taken, left) = self.rest.split_at(count.min(self.rest.len()));
@@ -61,7 +137,7 @@ impl<'a> Words<'a> {
     }
 
     /// Takes what is of this at the front.
-    pub(crate) fn part(&mut self, part: Part) -> &'a [u8] {
+    pub fn take_of(&mut self, part: Part) -> &'a [u8] {
         let taken = self.take(part.len_in(self.rest));
         if taken.is_empty() {
             self.begin_word();
@@ -69,12 +145,12 @@ impl<'a> Words<'a> {
         taken
     }
 
-    /// Whether the line goes on with these bytes.
+    /// Returns whether the line goes on with these bytes.
     pub fn is_at(&self, text: &[u8]) -> bool {
         self.rest.starts_with(text)
     }
 
-    /// Whether the line goes on with these bytes, which are then taken.
+    /// Returns whether the line goes on with these bytes, which are then taken.
     pub fn eat(&mut self, text: &[u8]) -> bool {
         let is_there = self.rest.starts_with(text);
         if is_there {
@@ -83,7 +159,7 @@ impl<'a> Words<'a> {
         is_there
     }
 
-    /// These bytes. A word begins after a space.
+    /// Takes these bytes. A word begins after a space.
     pub fn expect(&mut self, text: &[u8]) -> Result<(), TextError> {
         if !self.eat(text) {
             return Err(self.reject_next());
@@ -94,17 +170,17 @@ impl<'a> Words<'a> {
         Ok(())
     }
 
-    /// Whether nothing is left.
+    /// Returns whether nothing is left.
     pub fn is_end(&self) -> bool {
         self.rest.is_empty()
     }
 
-    /// Whether a word ends here.
+    /// Returns whether a word ends here.
     pub fn is_word_end(&self) -> bool {
         self.is_end() || self.is_at(b" ")
     }
 
-    /// The end of the line.
+    /// Takes the end of the line.
     pub fn end(&mut self) -> Result<(), TextError> {
         if self.is_end() {
             Ok(())
@@ -113,59 +189,18 @@ impl<'a> Words<'a> {
         }
     }
 
-    /// The letters, digits, `-` and `_` that come next.
+    /// Takes the letters, digits, `-` and `_` that come next.
     pub fn keyword(&mut self) -> &'a [u8] {
-        self.part(Part::Keyword)
+        self.take_of(Part::Keyword)
     }
 
-    /// The keyword after a space.
+    /// Takes the keyword after a space.
     pub fn next_keyword(&mut self) -> Result<&'a [u8], TextError> {
         self.expect(b" ")?;
         Ok(self.keyword())
     }
 
-    /// The word after a space: all up to the next space, or to the line's end.
-    pub fn next_word(&mut self) -> Result<&'a [u8], TextError> {
-        self.expect(b" ")?;
-        Ok(self.part(Part::Word))
-    }
-
-    /// What the next keyword stands for in a table.
-    pub fn keyword_in<T: Copy>(&mut self, table: &[(&str, T)]) -> Result<T, TextError> {
-        let word = self.keyword();
-        match value_of(table, word) {
-            Some(value) => Ok(value),
-            None => Err(self.reject()),
-        }
-    }
-
-    /// The same after a space.
-    pub fn next_in<T: Copy>(&mut self, table: &[(&str, T)]) -> Result<T, TextError> {
-        self.expect(b" ")?;
-        self.keyword_in(table)
-    }
-
-    /// What the first of these stands for that the line goes on with, which is then taken.
-    pub fn eat_in<T: Copy>(&mut self, table: &[(&str, T)]) -> Result<T, TextError> {
-        for (text, value) in table {
-            if self.eat(text.as_bytes()) {
-                return Ok(*value);
-            }
-        }
-        Err(self.reject())
-    }
-
-    /// What the next word stands for, where it is one of these, which is then taken.
-    pub fn flag_in<T: Copy>(&mut self, table: &[(&str, T)]) -> Option<T> {
-        for (text, value) in table {
-            if self.flag(text.as_bytes()) {
-                return Some(*value);
-            }
-        }
-        None
-    }
-
-    /// Whether the next word is this one, which is then taken.
+    /// Returns whether the next word is this one, which is then taken.
     pub fn flag(&mut self, word: &[u8]) -> bool {
         let mut ahead = *self;
         let is_there = ahead.prefix(word) && ahead.is_word_end();
@@ -175,7 +210,7 @@ impl<'a> Words<'a> {
         is_there
     }
 
-    /// Whether the next word begins with this, which is then taken.
+    /// Returns whether the next word begins with this, which is then taken.
     pub fn prefix(&mut self, start: &[u8]) -> bool {
         let mut ahead = *self;
         let is_there = ahead.expect(b" ").is_ok() && ahead.eat(start);
@@ -183,5 +218,19 @@ impl<'a> Words<'a> {
             *self = ahead;
         }
         is_there
+    }
+
+    /// Returns whether a name, bare or in quotes, comes next.
+    pub fn is_at_name(&self) -> bool {
+        self.is_at(b"\"") || bare_len(self.rest) > 0
+    }
+
+    /// Takes the bytes of a bare name; none where no such name comes next.
+    pub fn bare_name(&mut self) -> &'a [u8] {
+        let name = self.take(bare_len(self.rest));
+        if name.is_empty() {
+            self.begin_word();
+        }
+        name
     }
 }

@@ -9,7 +9,7 @@ use hir_node::{ExprId, PatId, Path};
 use hir_pretty::{PrintFault, print_expr_hir, print_pat_hir, print_path};
 use hir_pretty_nodes::{Printer, Token};
 use hir_store::ExpressionStore;
-use hir_text_nodes::{Answer, TextError, Words, read_path};
+use hir_text_nodes::{Answer, Read, TextError, Words};
 use hir_text_store::refuse_missing;
 use std::alloc::Global;
 
@@ -103,7 +103,7 @@ fn is_text(alloc: Global, printed: Printed, wanted: &str) -> Result<bool, TextEr
         Ok(text) => Ok(text.as_slice() == wanted.as_bytes()),
         Err(PrintFault::Missing(missing)) => {
             let mut answer = Answer::new(alloc);
-            refuse_missing(missing, &mut answer)?;
+            refuse_missing(&mut answer, missing)?;
             Ok(answer.as_str() == wanted)
         }
         Err(PrintFault::Memory) => Err(TextError::Memory),
@@ -157,8 +157,8 @@ fn is_path_text(
     path: &str,
     wanted: &str,
 ) -> Result<bool, TextError> {
-    let mut words = Words::new(path.as_bytes());
-    let path = read_path(&mut words, alloc)?;
+    let mut words = Words::new(alloc, path.as_bytes());
+    let path = Path::read(&mut words)?;
     let by_page = page_of_path(alloc, store, tables, &path);
     let by_list = list_of_path(alloc, store, tables, &path);
     are_text(alloc, by_page, by_list, wanted)

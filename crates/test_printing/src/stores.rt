@@ -1,7 +1,7 @@
 //! Stores of nodes that lines make.
 use hir_store::{ExpressionStore, ExpressionStoreBuilder};
 use hir_text_nodes::{TextError, Words};
-use hir_text_store::make;
+use hir_text_store::Change;
 use std::alloc::Global;
 use std::test::Fail;
 
@@ -11,12 +11,13 @@ fn add_line(
     builder: &mut ExpressionStoreBuilder,
     line: &str,
 ) -> Result<(), TextError> {
-    let mut words = Words::new(line.as_bytes());
+    let mut words = Words::new(alloc, line.as_bytes());
     let word = words.keyword();
-    if make(alloc, builder, word, &mut words)? {
-        return Ok(());
-    }
-    Err(TextError::Syntax)
+    let Some(change) = Change::read(word, &mut words)? else {
+        return Err(TextError::Syntax);
+    };
+    words.end()?;
+    change.make(builder)
 }
 
 /// The store of the nodes that these lines make. In a box, since it is dropped wherever a later call fails.

@@ -1,0 +1,61 @@
+//! The store that questions ask.
+
+use crate::grammar::OfStore;
+use hir_base::ExpressionStoreOwnerId;
+use hir_defs::{Body, StoreOf, Tables};
+use hir_store::{ExpressionStore, ExpressionStoreSourceMap};
+use hir_text_defs::{Subject, asked_body};
+use hir_text_nodes::{Answer, TextError};
+
+/// The store that questions ask, with its source map, its owner where it has one, and the tables.
+#[derive(Clone, Copy, Drop)]
+pub struct Asked<'a> {
+    /// The tables.
+    pub tables: &'a Tables,
+    /// The store.
+    pub store: &'a ExpressionStore,
+    /// The source map of the store.
+    pub sources: &'a ExpressionStoreSourceMap,
+    /// The owner of the store, where it has one.
+    pub owner: Option<ExpressionStoreOwnerId>,
+}
+
+impl<'a> Asked<'a> {
+    /// Returns the store that questions ask, where there is one.
+    pub(crate) fn new(tables: &'a Tables, subject: &'a Subject) -> Option<Asked<'a>> {
+        match subject {
+            Subject::Store(finished) => Some(Asked {
+                tables,
+                store: &finished.0,
+                sources: &finished.1,
+                owner: None,
+            }),
+            Subject::Owner(owner) => match ExpressionStore::with_source_map(tables, *owner) {
+                Ok((store, sources)) => Some(Asked {
+                    tables,
+                    store,
+                    sources,
+                    owner: Some(*owner),
+                }),
+                Err(_) => None,
+            },
+            Subject::None => None,
+        }
+    }
+
+    /// Returns the body whose store is asked, where it is a body's.
+    pub fn body(&self) -> Option<&'a Body> {
+        asked_body(self.tables, self.owner)
+    }
+}
+
+impl OfStore {
+    /// Writes the answer of a store.
+    pub(crate) fn ask(&self, asked: &Asked<'_>, answer: &mut Answer) -> Result<(), TextError> {
+        match self {
+            OfStore::Store(question) => { Ok(question.ask(asked.store, asked.sources, answer)?) }
+            OfStore::Body(question) => Ok(question.ask(asked.body(), answer)?),
+            OfStore::Text(text) => text.ask(asked, answer),
+        }
+    }
+}
