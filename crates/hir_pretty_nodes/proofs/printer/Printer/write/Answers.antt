@@ -32,13 +32,13 @@ pub nodes-preserved : goal.nodes-preserved
 nodes-preserved g c =
     let next = rw c.in-Some.is at c.in_ok-node.ensures.ok in
     comes_expanded c.nodes.invariant next.comes c.in_ok-expand.ensures
-    (λ before items n d. c.in_ok-push_deferred.ensures before items (n ∙ sym c.len-below.ensures) d)
+    (λ before items n d. c.in_ok-push_deferred.ensures.ok before items (n ∙ sym c.len-below.ensures) d)
 
 pub nodes-smaller : goal.nodes-smaller
 nodes-smaller g c =
     let next = rw c.in-Some.is at c.in_ok-node.ensures.ok in
     less_expanded c.nodes.invariant next.comes c.in_ok-expand.ensures
-    (λ before items n d. c.in_ok-push_deferred.ensures before items (n ∙ sym c.len-below.ensures) d)
+    (λ before items n d. c.in_ok-push_deferred.ensures.ok before items (n ∙ sym c.len-below.ensures) d)
 
 pub returns-clause-ok : goal.returns-clause-ok
 returns-clause-ok g c =

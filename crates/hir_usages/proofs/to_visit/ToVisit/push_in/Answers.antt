@@ -7,4 +7,4 @@ use Rattle.hir_usages.proofs.to_visit.ToVisit.push_in.Goals as goal
 pub returns : goal.returns
 returns c =
     let put = (defers_all c.visit_form.ensures).1 in
-    ap (λ (s : StackItems Task). s.items) (c.in_ok-push_deferred.ensures c.args.self.now.stack _ (sym c.len-below.ensures) put)
+    ap (λ (s : StackItems Task). s.items) (c.in_ok-push_deferred.ensures.ok c.args.self.now.stack _ (sym c.len-below.ensures) put)
