@@ -1,4 +1,4 @@
-//! The labels that are in scope at an expression.
+//! The labels around an expression.
 ghost use Rattle.std.specs.Prelude.{◌≡◌, ◌++◌, IfOk, OnOk};
 ghost use Rattle.std.specs.FinMap as map;
 ghost use Rattle.std.specs.Option.{option_to_list};
@@ -24,7 +24,8 @@ fn add_label(found: &mut Vec<LabelId>, label: Option<LabelId>) -> Result<(), All
 }
 
 /// Returns the labels of the blocks and loops around an expression, innermost first; none where the
-/// expression has no scope.
+/// expression has no scope. Those outside a closure are among them, though no `break` in it may name one:
+/// what a jump leaves is `jump_target` of the store.
 ///
 /// Fails with `AllocError` where an allocation fails. It takes time in the number of scopes of the chain.
 pub fn labels_at(
