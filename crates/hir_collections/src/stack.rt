@@ -92,13 +92,13 @@ impl<T> Stack<T> {
 
     /// Reverses all items but the lowest `below`, so that of what was put on these the first is on top.
     ///
-    /// Fails with `AllocError` where the allocation for an item that was put failed. The stack is of no use
-    /// then.
+    /// Fails with `AllocError` where the allocation for an item that was put failed, and fails again when it
+    /// is called again: nothing has changed then, and the stack is of no use.
     pub fn push_deferred(&mut self, below: usize) -> Result<(), AllocError>
         ensures ok { OnOk result ((before : StackItems T) (items : List T)
             → length before.items ≡ below → Defers before items self.old
             → self.new ≡ record { items = items ++ before.items; refused = false }) }
-        ensures err { OnErr result (self.old.refused ≡ true) }
+        ensures err { OnErr result ((self.old.refused ≡ true) × (self.new ≡ self.old)) }
     {
         match self.refused {
             Some(refused) => Err(refused),
