@@ -7,6 +7,7 @@ pub use Rattle.hir_collections.specs.Boxed
 pub use Rattle.hir_collections.specs.Codes
 pub use Rattle.hir_collections.specs.Laws
 pub use Rattle.hir_collections.specs.Seq
+pub use Rattle.hir_collections.specs.Stacks
 pub use Rattle.hir_collections.specs.Table
 pub use Rattle.hir_collections.specs.TableLends
 pub use Rattle.hir_collections.specs.declared.arena.ArenaFault
@@ -131,6 +132,7 @@ pub use Rattle.hir_scope.specs.Paths as ScopePaths
 pub use Rattle.hir_scope.specs.Resolution
 pub use Rattle.hir_scope.specs.Scopes
 pub use Rattle.hir_scope.specs.ChildContexts
+pub use Rattle.hir_scope.specs.declared.form.Form
 pub use Rattle.hir_scope.specs.declared.macros.Expansion
 -- captures
 pub use Rattle.hir_captures.specs.Captures
@@ -142,6 +144,7 @@ pub use Rattle.hir_usages.specs.Visible
 pub use Rattle.hir_usages.specs.Renamed
 pub use Rattle.hir_usages.specs.Renames
 pub use Rattle.hir_usages.specs.Kept
+pub use Rattle.hir_usages.specs.Labels
 pub use Rattle.hir_usages.specs.declared.usage.Usage
 pub use Rattle.hir_usages.specs.declared.rename_fault.RenameFault
 -- what nodes are printed as

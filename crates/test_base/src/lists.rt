@@ -1,7 +1,7 @@
 //! Lists, texts and names, once each on the happy path.
 use crate::same;
 use hir_base::{ModPath, Name};
-use hir_collections::{ExactEq, Idx, Seq, ShortList, Text, TryClone};
+use hir_collections::{ExactEq, Idx, Seq, ShortList, Stack, Text, TryClone};
 use std::alloc::{AllocError, Global};
 use std::mem::{drop, size_of};
 use std::process::Abort;
@@ -331,5 +331,18 @@ fn a_name_in_ascii_is_its_text(rt: HostRuntime) -> Result<(), Fail> {
     drop(inside);
     drop(outside);
     assert!(rt; are_named);
+    Ok(())
+}
+
+#[test]
+fn a_stack_with_room_is_popped_from_the_top(rt: HostRuntime) -> Result<(), Fail> {
+    let mut stack = Stack::with_capacity(rt.alloc(), 2)?;
+    stack.push(1u32)?;
+    let below = stack.len();
+    stack.defer(2);
+    stack.defer(3);
+    stack.push_deferred(below)?;
+    let popped = [stack.pop(), stack.pop(), stack.pop(), stack.pop()];
+    assert!(&rt; popped == [Some(2), Some(3), Some(1), None]);
     Ok(())
 }

@@ -5,7 +5,8 @@ use hir_body::Body;
 use hir_collections::{Seq, ShortList};
 use hir_error::HirError;
 use hir_make::{
-    assign, bind, block, body, closure, if_, int, let_, let_else, local, tuple, tuple_pat,
+    assign, bind, block, body, closure, if_, int, label, let_, let_else, local, loop_, tuple,
+    tuple_pat,
 };
 use hir_node::{
     Array, Binding, BindingAnnotation, BindingId, Expr, ExprId, MatchArm, Mutability, Pat, PatId,
@@ -224,4 +225,19 @@ pub fn constant_alone(alloc: Global) -> Result<Body, HirError> {
         repeat,
     }))?;
     body(alloc, builder, &[a], value)
+}
+
+/// `fn f(x) { 'a: loop { |y| 'b: loop { x } } }`: `'a` is label 0, `'b` is 1. The expressions have the numbers
+/// 0 for `x`, 1 for the inner loop, 2 for the closure, 3 for the outer loop.
+pub fn labelled_loops(alloc: Global) -> Result<Body, HirError> {
+    let mut builder = Builder::new(alloc);
+    let x = bind(alloc, &mut builder, "x")?;
+    let y = bind(alloc, &mut builder, "y")?;
+    let a = label(alloc, &mut builder, "'a")?;
+    let b = label(alloc, &mut builder, "'b")?;
+    let read = local(alloc, &mut builder, "x")?;
+    let inner = loop_(&mut builder, Some(b), read)?;
+    let code = closure(alloc, &mut builder, &[y], inner)?;
+    let outer = loop_(&mut builder, Some(a), code)?;
+    body(alloc, builder, &[x], outer)
 }

@@ -4,7 +4,7 @@ use hir_body::Body;
 use hir_error::HirError;
 use hir_node::{BindingId, ExprId, ExprOrPatId};
 use hir_scope::ExprScopes;
-use hir_usages::{Usage, Usages, visible_names};
+use hir_usages::{Usage, Usages, labels_at, visible_names};
 use std::alloc::Global;
 use std::test::Fail;
 
@@ -147,5 +147,26 @@ fn shadowed_names_are_not_visible(rt: HostRuntime) -> Result<(), Fail> {
     assert!(&rt; visible(alloc, &body, 2)?.as_slice() == [2, 1].as_slice());
     let body = bodies::or_pattern(alloc)?;
     assert!(&rt; visible(alloc, &body, 0)?.as_slice() == [0].as_slice());
+    Ok(())
+}
+
+/// The numbers of the labels around an expression.
+fn labels(alloc: Global, body: &Body, expr: u32) -> Result<Vec<u32>, HirError> {
+    let scopes = ExprScopes::new_body(alloc, body)?;
+    let mut numbers = Vec::new(alloc);
+    for label in labels_at(alloc, &scopes, ExprId::from_raw(expr))?.iter() {
+        numbers.push(label.into_raw())?;
+    }
+    Ok(numbers)
+}
+
+#[test]
+fn labels_are_those_around(rt: HostRuntime) -> Result<(), Fail> {
+    let alloc = rt.alloc();
+    let body = bodies::labelled_loops(alloc)?;
+    assert!(&rt; labels(alloc, &body, 0)?.as_slice() == [1, 0].as_slice());
+    assert!(&rt; labels(alloc, &body, 1)?.as_slice() == [0].as_slice());
+    assert!(&rt; labels(alloc, &body, 3)?.as_slice().is_empty());
+    assert!(&rt; labels(alloc, &body, 4)?.as_slice().is_empty());
     Ok(())
 }
