@@ -14,7 +14,7 @@ use crate::fault::CapturesFault;
 use crate::tasks::{Task, Tasks};
 use hir_base::HygieneId;
 use hir_node::{Expr, ExprId, Pat, PatId, Path};
-use hir_scope::{ExprScopes, Form, local_name};
+use hir_scope::{BorrowedByForm, ExprScopes, Form, local_name};
 use hir_store_core::ExpressionStore;
 use hir_store_core::laws::rank_decreases;
 
@@ -119,6 +119,7 @@ impl<'a> Code<'a> {
         rank_decreases();
         self.ask_expr(found, id)?;
         let expr = &self.store[id];
+        let _borrowed: BorrowedByForm<'_> = None;
         let form = Form::of_expr(expr);
         unread.push_in(&form, if_assignment(id, expr))?;
         Ok(())
@@ -143,6 +144,7 @@ impl<'a> Code<'a> {
         // (a copy: the prover's borrow checker takes an option that was passed on for one without a value)
         let target = assignment;
         self.ask_pat(found, id, assignment)?;
+        let _borrowed: BorrowedByForm<'_> = None;
         let form = Form::of_pat(&self.store[id]);
         unread.push_in(&form, target)?;
         Ok(())

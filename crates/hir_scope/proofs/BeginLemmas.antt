@@ -4,9 +4,9 @@ use Rattle.std.proofs.Common.{◌≡◌, ℕ, ◌+◌, ◌<◌, List, [], ◌∷
 use Rattle.std.proofs.Common.{Option, Some, None, Contains, length-append}
 use Rattle.std.proofs.lemmas.Grind.{get_or_default_zero}
 use Rattle.std.proofs.lemmas.List.{append-nil, length-map}
-use Rattle.std.proofs.lemmas.List.Sums.{sum_by-cons}
+use Rattle.std.proofs.lemmas.List.Sums.{sum_by-append, sum_by-cons}
 use Rattle.std.specs.List.{flat_map, sum_by}
-use Rattle.std.specs.{Option.option_to_list, Option.option_map, Prelude.IfSome, Prelude.slice_index}
+use Rattle.std.specs.{Option.option_to_list, Option.option_map, Prelude.IfSome, Prelude.replicate, Prelude.slice_index}
 use Rattle.hir_node.specs.ChildCalls.{Call, e, p, opt}
 use Rattle.hir_node.specs.declared.node_id.NodeId.{NodeId}
 use Rattle.hir_forest.specs.Faults.{root_nodes}
@@ -17,8 +17,9 @@ use Rattle.hir_body.specs.Bodies as body
 use Rattle.hir_signature.specs.{Signatures.root_entry_nodes, Signatures.signature_nodes}
 use Rattle.hir_body.specs.{declared.formals.Param.Param}
 use Rattle.hir_scope.specs.BodyScopes.{entry_nodes_of_body, entry_nodes_of_signature, limit, BodyIsTooLarge, SignatureIsTooLarge}
+use Rattle.hir_scope.specs.BodyScopes.{body_frames, signature_frames}
 use Rattle.hir_scope.specs.Chains.{InContext}
-use Rattle.hir_scope.specs.Counts.{count_if_some, form_scopes, node_entries, body_scope_count, body_entry_count, signature_scope_count}
+use Rattle.hir_scope.specs.Counts.{count_if_some, frames_opened, frames_of_nodes, form_scopes, node_entries, body_scope_count, body_entry_count, signature_scope_count}
 use Rattle.hir_scope.specs.Counts.{signature_entry_count}
 use Rattle.hir_scope.specs.ScopingForms.{form_of}
 use Rattle.hir_scope.specs.Frames.{Frame, Chain, entry_at, binds, empty}
@@ -30,12 +31,12 @@ use Rattle.hir_scope.specs.internal.WalkState.{IsReady, AreInRange, LeavesWithin
 use Rattle.hir_scope.specs.internal.WalkState.{node_frames, one, count_entries, total, weight, weight_left}
 use Rattle.hir_scope.specs.internal.Pending.{tasks_of, task_frames, future}
 use Rattle.hir_scope.specs.internal.ContextsUnder.{exprs_under}
-use Rattle.hir_scope.proofs.CountLemmas.{bound_by, calls_open, form_ones, frame_entries, reached_total}
+use Rattle.hir_scope.proofs.CountLemmas.{bound_by, calls_open, form_ones, form_opens, frame_entries, reached_total}
 use Rattle.hir_scope.proofs.DoneLemmas.{in_range_all, leaves_calls}
 use Rattle.hir_scope.proofs.EntryLemmas.{entries_of_node, entries_total, no_around, one_entry}
 use Rattle.hir_scope.proofs.FutureLemmas.{body_future, body_top_nodes, signature_future, signature_top_nodes, top_children}
 use Rattle.hir_scope.proofs.ChildLemmas.{about_calls}
-use Rattle.hir_scope.proofs.MemberLemmas.{In, in_contains, contains_in, in_map, sum_same, sum_mapped, sum_none, sum_ones}
+use Rattle.hir_scope.proofs.MemberLemmas.{In, in_contains, contains_in, in_map, sum_flat, sum_same, sum_mapped, sum_none, sum_ones}
 use Rattle.hir_scope.proofs.MovingLemmas.{scopes_weigh, entries_weigh}
 
 -- the roots of a store exist
@@ -58,6 +59,15 @@ scopes_total s sound nodes in_range =
     sym (reached_total s sound.fall sound.under (λ n. sum_by one (node_frames s n)) nodes in_range)
     ∙ sum_same (λ n. sum_by one (node_frames s n)) (λ n. form_scopes (form_of s n)) (reached_nodes s nodes)
     (λ n i. form_ones s no_around (form_of s n))
+
+frames_total : (s : Nodes) → IsSound s → (w : Frame → ℕ) (nodes : List NodeId) → ((n : NodeId) → In n nodes → Has s n) →
+    sum_by (total s (λ n. sum_by w (node_frames s n))) nodes ≡ sum_by w (frames_of_nodes s (reached_nodes s nodes))
+frames_total s sound w nodes in_range =
+    let reached = reached_nodes s nodes in
+    sym (reached_total s sound.fall sound.under (λ n. sum_by w (node_frames s n)) nodes in_range)
+    ∙ (sum_same (λ n. sum_by w (node_frames s n)) (λ n. sum_by w (frames_opened s (form_of s n))) reached
+    (λ n i. form_opens s w no_around (form_of s n))
+    ∙ sym (sum_flat w (λ n. frames_opened s (form_of s n)) reached))
 
 entries_under : (s : Nodes) → IsSound s → (nodes : List NodeId) → ((n : NodeId) → In n nodes → Has s n) →
     sum_by (bound_by s) nodes + sum_by (total s (entries_of_node s)) nodes
@@ -130,6 +140,15 @@ module _ (b : BodyContents) where
               (λ (ns : List NodeId). sum_by (total s (λ n. sum_by w (node_frames s n))) ns) about_entry_nodes,
         )
 
+    pub body_frames_weigh : (w : Frame → ℕ) → weight s w (body_begins b) ≡ sum_by w (body_frames b)
+    body_frames_weigh w =
+        omega (
+          arith,
+          body_left w,
+          frames_total s sound.nodes w (body.entry_nodes b) entry_nodes_in_range,
+          sum_by-cons w (frame_of (body_root b)) (frames_of_nodes s (body_nodes b)),
+        )
+
     pub body_scopes_weigh : weight s one (body_begins b) ≡ body_scope_count s (body_nodes b)
     body_scopes_weigh =
         omega (
@@ -188,6 +207,17 @@ first_root_chain = refl
 bound_roots : (s : Nodes) (roots : List ℕ) → sum_by (bound_by s) (map NodeId.Expr roots) ≡ 0
 bound_roots s roots = sum_mapped (bound_by s) NodeId.Expr roots ∙ sum_none (λ root. bound_by s (NodeId.Expr root)) roots (λ root. refl)
 
+-- an empty frame for each root
+repeated : (w : Frame → ℕ) (roots : List ℕ) → sum_by w (replicate (length roots) empty) ≡ sum_by (λ (root : ℕ). sum_by w (empty ∷ [])) roots
+repeated w [] = refl
+repeated w (root ∷ roots) =
+    omega (
+      arith,
+      repeated w roots,
+      sum_by-cons w empty (replicate (length roots) empty),
+      sum_by-cons (λ (r : ℕ). sum_by w (empty ∷ [])) root roots,
+    )
+
 module _ (c : Contents) where
   abbrev t : Nodes
   t = c.nodes
@@ -223,6 +253,21 @@ module _ (c : Contents) where
         ≡ sum_by (λ (root : ℕ). sum_by w (empty ∷ [])) roots =
         sum_mapped (λ (x : Task). sum_by w (task_frames t x)) Task.Root roots in
         omega (arith, a, ap (λ (ns : List NodeId). sum_by (total t (λ n. sum_by w (node_frames t n))) ns) (about_roots roots))
+
+    pub signature_frames_weigh : (w : Frame → ℕ) → weight t w (signature_begins c) ≡ sum_by w (signature_frames c)
+    signature_frames_weigh w =
+        let own = replicate (length c.roots) empty in
+        let under = frames_of_nodes t (signature_nodes c) in
+        let a : sum_by w own ≡ sum_by (λ (root : ℕ). sum_by w (empty ∷ [])) roots =
+        ap (λ (n : ℕ). sum_by w (replicate n empty)) (sym (length-map c.roots (λ r. r.node))) ∙ repeated w roots in
+        omega (
+          arith,
+          roots_left w,
+          frames_total t sound.nodes w (root_entry_nodes c) roots_in,
+          a,
+          sum_by-cons w empty (own ++ under),
+          sum_by-append w own under,
+        )
 
     pub signature_scopes_weigh : weight t one (signature_begins c) ≡ signature_scope_count t (length c.roots) (signature_nodes c)
     signature_scopes_weigh =

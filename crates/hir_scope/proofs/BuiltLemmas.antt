@@ -5,6 +5,7 @@ use Rattle.std.proofs.lemmas.{List.length-map, List.Elements.All-contains}
 use Rattle.std.specs.Cmp.{nat_cmp_total, tied_itself}
 use Rattle.std.specs.FinMap.{get-insert, get-empty, nat_cmp-IsAntisymmetric}
 use Rattle.std.specs.FinMap as finmap
+use Rattle.std.specs.List.{sum_by, Sorted.IsPermutation}
 use Rattle.std.specs.Ordering.{nat_cmp, is_eq, eq_by_cmp}
 use Rattle.std.specs.{Prelude.IsSome, declared.cmp.Ordering.Ordering}
 use Rattle.hir_node.specs.declared.node_id.NodeId.{NodeId}
@@ -14,7 +15,8 @@ use Rattle.hir_store_core.specs.{Contents.Contents, Under.IsReached, Under.reach
 use Rattle.hir_body.specs.{Bodies.BodyContents, Bodies.body_nodes, Bodies.entry_nodes}
 use Rattle.hir_signature.specs.{Signatures.root_entry_nodes}
 use Rattle.hir_scope.specs.BodyScopes.{ChainsAreFrames, expr_count, entry_nodes_of_body, entry_nodes_of_signature, AreBodyScopes}
-use Rattle.hir_scope.specs.BodyScopes.{AreSignatureScopes, BodyIsTooLarge, SignatureIsTooLarge, limit}
+use Rattle.hir_scope.specs.BodyScopes.{AreSignatureScopes, body_frames, signature_frames, BodyIsTooLarge, SignatureIsTooLarge, limit}
+use Rattle.hir_scope.specs.{Counts.frames_of_scopes, Frames.Frame}
 use Rattle.hir_scope.specs.{Chains.InContext, Chains.Occurs, Chains.within_own, ScopingForms.form_of, Scopes.entry_count}
 use Rattle.hir_scope.specs.internal.Begins.{IsSound, IsSoundBody, IsSoundStore, root_entries, body_begins, signature_begins}
 use Rattle.hir_scope.specs.internal.WalkState.{ScopeAssigned, write_all, WalkState, WalkSteps, IsRight, context_assigned, future_of}
@@ -22,10 +24,11 @@ use Rattle.hir_scope.specs.internal.WalkState.{chain_of, IsReady, Exceeds, one, 
 use Rattle.hir_scope.specs.internal.Pending.{future}
 use Rattle.hir_scope.specs.internal.ContextsUnder.{exprs_under}
 use Rattle.hir_scope.proofs.BeginLemmas.{body_ready, body_exceeds, root_exceeds, signature_ready, signature_exceeds, body_same}
-use Rattle.hir_scope.proofs.BeginLemmas.{body_whole, body_scopes_weigh, body_entries_weigh, signature_same, signature_whole}
-use Rattle.hir_scope.proofs.BeginLemmas.{signature_scopes_weigh, signature_entries_weigh, roots_in, entry_nodes_in_range}
+use Rattle.hir_scope.proofs.BeginLemmas.{body_whole, body_frames_weigh, body_scopes_weigh, body_entries_weigh, signature_same, signature_whole}
+use Rattle.hir_scope.proofs.BeginLemmas.{signature_frames_weigh, signature_scopes_weigh, signature_entries_weigh, roots_in, entry_nodes_in_range}
 use Rattle.hir_scope.proofs.CountLemmas.{exprs_counted}
 use Rattle.hir_scope.proofs.MemberLemmas.{In, contains_in, in_map, map_in}
+use Rattle.hir_scope.proofs.SameFramesLemmas.{same_frames}
 use Rattle.hir_scope.proofs.{MovingLemmas.scopes_weigh, MovingLemmas.entries_weigh, SameLemmas.at_or_before}
 use Rattle.hir_scope.proofs.UnderLemmas.{reached_occurs, occurs_reached, exprs_stand, standing_exprs}
 
@@ -172,6 +175,13 @@ module _ (s : Nodes) (sound : IsSound s) (entry_nodes : List InContext) (nodes :
 
 -- at the end all that was weighed is in scopes
 module _ (s : Nodes) (old new : WalkState) (done : new.tasks ≡ []) where
+  all_frames : (frames : List Frame) → ((w : Frame → ℕ) → weight s w old ≡ weight s w new) →
+      ((w : Frame → ℕ) → weight s w old ≡ sum_by w frames) → IsPermutation frames (frames_of_scopes new.scopes.scopes)
+  all_frames frames e is =
+      same_frames frames (frames_of_scopes new.scopes.scopes) (λ w.
+      let l : weight_left s w new.tasks ≡ 0 = ap (weight_left s w) done in
+      let a = e w in let b = is w in omega (arith, a, b, l))
+
   all_scopes : weight s one old ≡ weight s one new → length new.scopes.scopes ≡ weight s one old
   all_scopes e =
       let l : weight_left s one new.tasks ≡ 0 = ap (weight_left s one) done in
@@ -224,6 +234,8 @@ module _ (b : BodyContents) (sound : IsSoundBody b) where
             (entry_nodes_in_range b sound) start new before after gone whole none done;
         chains = chains nodes sound.nodes (entry_nodes_of_body b) (entry_nodes b) (body_same b)
             (entry_nodes_in_range b sound) start new before after gone whole none done;
+        frames = all_frames nodes start new done (body_frames b) gone.weights
+            (λ w. ap (weight nodes w) is ∙ body_frames_weigh b sound w);
         scopes = all_scopes nodes start new done (gone.weights one) ∙ (ap (weight nodes one) is ∙ body_scopes_weigh b sound);
         entries = all_entries nodes start new done (gone.weights count_entries)
             ∙ (ap (weight nodes count_entries) is ∙ body_entries_weigh b sound);
@@ -249,6 +261,8 @@ module _ (c : Contents) (sound : IsSoundStore c) (start : WalkState) (is : start
           (roots_in c sound) start new before after gone met_all no_scope done;
       chains = chains c.nodes sound.nodes (entry_nodes_of_signature c) (root_entry_nodes c) (signature_same c)
           (roots_in c sound) start new before after gone met_all no_scope done;
+      frames = all_frames c.nodes start new done (signature_frames c) gone.weights
+          (λ w. ap (weight c.nodes w) is ∙ signature_frames_weigh c sound w);
       scopes = all_scopes c.nodes start new done (gone.weights one) ∙ (ap (weight c.nodes one) is ∙ signature_scopes_weigh c sound);
       entries = all_entries c.nodes start new done (gone.weights count_entries)
           ∙ (ap (weight c.nodes count_entries) is ∙ signature_entries_weigh c sound);

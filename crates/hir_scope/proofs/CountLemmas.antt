@@ -20,11 +20,11 @@ use Rattle.hir_validate.proofs.RecursionLemmas.{fold_down_at}
 use Rattle.hir_store_core.specs.Under.{nodes_under, reached_nodes}
 use Rattle.hir_scope.specs.BodyScopes.{expr_count, is_expr}
 use Rattle.hir_scope.specs.Chains.{InContext, child_in_context, children_in_context}
-use Rattle.hir_scope.specs.Counts.{count_if_some, statement_scopes, form_scopes}
+use Rattle.hir_scope.specs.Counts.{count_if_some, statement_frames, frames_opened, statement_scopes, form_scopes}
 use Rattle.hir_scope.specs.ScopingForms.{ScopingForm, expr_form, type_form, form_of}
 use Rattle.hir_scope.specs.ScopingForms as form
 use Rattle.hir_scope.specs.{Frames.Frame, Frames.binds, Frames.frame, Order.met_in_closure, Order.met_in_form}
-use Rattle.hir_scope.specs.ChildContexts.{ChildContext, child_contexts, block_const_frames}
+use Rattle.hir_scope.specs.ChildContexts.{ChildContext, child_contexts, own_frame, block_const_frames}
 use Rattle.hir_scope.specs.declared.tasks.{CurrentScopes.CurrentScopes, Task.Task}
 use Rattle.hir_scope.specs.internal.WalkState.{total, about, one, count_entries, total_step, tasks_weight, node_tasks, node_frames}
 use Rattle.hir_scope.specs.internal.WalkState.{weight_left, task_turns, node_turns, turns_left}
@@ -220,75 +220,112 @@ frames_split s w current x =
     let b = sum_by-append w (opened_frames s x ++ opened_const_frames x) (flat_map (task_frames s) (form_tasks current x)) in
     omega (arith, b, sum_by-append w (opened_frames s x) (opened_const_frames x), sum_flat w (task_frames s) (form_tasks current x))
 
+-- Each frame
+
+-- what the frames that a task opens itself weigh
+abbrev weigh : Nodes → (Frame → ℕ) → Task → ℕ
+weigh s w x = sum_by w (task_frames s x)
+
+module _ (s : Nodes) (w : Frame → ℕ) where
+  -- the tasks of calls open nothing
+  call_opens : (c : Call) → sum_by (weigh s w) (task_of c) ≡ 0
+  call_opens (OnLifetime x) = refl
+  call_opens _ = refl
+
+  pub calls_open : (cs : List Call) → sum_by (λ x. sum_by w (task_frames s x)) (tasks_of cs) ≡ 0
+  calls_open cs = sum_flat (weigh s w) task_of cs ∙ sum_none (λ c. sum_by (weigh s w) (task_of c)) cs call_opens
+
+  statement_opens : (x : Statement) → sum_by (weigh s w) (statement_tasks x) ≡ sum_by w (statement_frames s x)
+  statement_opens (Statement.Let pat ty x y) =
+      let cs = opt t ty ++ opt e x ++ opt e y in
+      omega (arith, sum_by-append (weigh s w) (tasks_of cs) (Task.Bound pat ∷ []), calls_open cs)
+  statement_opens (Statement.Expr x semi) = refl
+  statement_opens (Statement.Item (Item.MacroDef id)) = omega arith
+  statement_opens (Statement.Item Item.Other) = refl
+
+  statements_open : (xs : List Statement) → sum_by (weigh s w) (flat_map statement_tasks xs) ≡ sum_by w (flat_map (statement_frames s) xs)
+  statements_open xs =
+      sum_flat (weigh s w) statement_tasks xs
+      ∙ (sum_same (λ x. sum_by (weigh s w) (statement_tasks x)) (λ x. sum_by w (statement_frames s x)) xs (λ x i. statement_opens x)
+      ∙ sym (sum_flat w (statement_frames s) xs))
+
+  guarded_opens : (pat expr : ℕ) (guard : Option ℕ) → weigh s w (guarded_task pat expr guard) ≡ w (frame s (pat ∷ []))
+  guarded_opens pat expr None = omega arith
+  guarded_opens pat expr (Some guard) = omega arith
+
+  arms_open : (arms : List MatchArm) → sum_by (weigh s w) (flat_map one_arm arms) ≡ sum_by w (map (λ arm. frame s (arm.pat ∷ [])) arms)
+  arms_open arms =
+      sum_flat (weigh s w) one_arm arms
+      ∙ (sum_same (λ arm. sum_by (weigh s w) (one_arm arm)) (λ arm. w (frame s (arm.pat ∷ []))) arms
+      (λ arm i. let r = guarded_opens arm.pat arm.expr arm.guard in omega (arith, r))
+      ∙ sym (sum_mapped w (λ arm. frame s (arm.pat ∷ [])) arms))
+
+  -- what a form opens as it is met, and by its tasks
+  tasks_open : (current : CurrentScopes) (x : ScopingForm) →
+      (sum_by w (opened_frames s x) + sum_by w (opened_const_frames x)) + sum_by (weigh s w) (form_tasks current x)
+      ≡ sum_by w (frames_opened s x)
+  tasks_open current (form.If c y f) =
+      let b = sum_by-append (weigh s w) (tasks_of (e c ++ e y)) (leave current ∷ tasks_of (opt e f)) in
+      omega (arith, b, sum_by-cons (weigh s w) (leave current) (tasks_of (opt e f)), calls_open (e c ++ e y), calls_open (opt e f))
+  tasks_open current (form.Let pat x) = omega arith
+  tasks_open current (form.Block id label xs tail) =
+      let b = sum_by-append (weigh s w) (flat_map statement_tasks xs) (tasks_of (opt e tail) ++ leave current ∷ []) in
+      let opened = block_const_frames id ++ flat_map (statement_frames s) xs in
+      omega (
+        arith,
+        b,
+        sum_by-append (weigh s w) (tasks_of (opt e tail)) (leave current ∷ []),
+        statements_open xs,
+        calls_open (opt e tail),
+        sum_by-cons w (own_frame id label) opened,
+        sum_by-append w (block_const_frames id) (flat_map (statement_frames s) xs),
+      )
+  tasks_open current (form.Loop label body) = omega arith
+  tasks_open current (form.Closure types ret args body) =
+      let b = sum_by-append (weigh s w) (tasks_of (met_in_closure types ret args body)) (leave current ∷ []) in
+      omega (arith, b, calls_open (met_in_closure types ret args body))
+  tasks_open current (form.Match x arms) = omega (arith, sum_by-cons (weigh s w) (Task.Expr x) (flat_map one_arm arms), arms_open arms)
+  tasks_open current (form.Assignment target value) = omega arith
+  tasks_open current (form.PatternType ty pat) = omega arith
+  tasks_open current (form.InTurn cs) = let r = calls_open cs in omega (arith, r)
+
+  -- a node opens the frames that its form says
+  pub form_opens : (current : CurrentScopes) (x : ScopingForm) → sum_by w (form_frames s current x) ≡ sum_by w (frames_opened s x)
+  form_opens current x = frames_split s w current x ∙ tasks_open current x
+
 -- As scopes
 
-abbrev ones : Nodes → Task → ℕ
-ones s x = sum_by one (task_frames s x)
-
 module _ (s : Nodes) where
-  -- the tasks of calls open nothing
-  call_opens : (w : Frame → ℕ) (c : Call) → sum_by (λ x. sum_by w (task_frames s x)) (task_of c) ≡ 0
-  call_opens w (OnLifetime x) = refl
-  call_opens w _ = refl
-
-  pub calls_open : (w : Frame → ℕ) (cs : List Call) → sum_by (λ x. sum_by w (task_frames s x)) (tasks_of cs) ≡ 0
-  calls_open w cs =
-      sum_flat (λ x. sum_by w (task_frames s x)) task_of cs
-      ∙ sum_none (λ c. sum_by (λ x. sum_by w (task_frames s x)) (task_of c)) cs (call_opens w)
-
-  statement_ones : (x : Statement) → sum_by (ones s) (statement_tasks x) ≡ statement_scopes x
-  statement_ones (Statement.Let pat ty x y) =
-      let cs = opt t ty ++ opt e x ++ opt e y in
-      omega (arith, sum_by-append (ones s) (tasks_of cs) (Task.Bound pat ∷ []), calls_open one cs)
+  statement_ones : (x : Statement) → sum_by one (statement_frames s x) ≡ statement_scopes x
+  statement_ones (Statement.Let pat ty x y) = refl
   statement_ones (Statement.Expr x semi) = refl
   statement_ones (Statement.Item (Item.MacroDef id)) = refl
   statement_ones (Statement.Item Item.Other) = refl
-
-  statements_ones : (xs : List Statement) → sum_by (ones s) (flat_map statement_tasks xs) ≡ sum_by statement_scopes xs
-  statements_ones xs =
-      sum_flat (ones s) statement_tasks xs ∙ sum_same (λ x. sum_by (ones s) (statement_tasks x)) statement_scopes xs
-      (λ x i. statement_ones x)
-
-  guarded_one : (pat expr : ℕ) (guard : Option ℕ) → ones s (guarded_task pat expr guard) ≡ 1
-  guarded_one pat expr None = refl
-  guarded_one pat expr (Some guard) = refl
-
-  arms_ones : (arms : List MatchArm) → sum_by (ones s) (flat_map one_arm arms) ≡ length arms
-  arms_ones arms =
-      sum_flat (ones s) one_arm arms ∙ sum_ones (λ arm. sum_by (ones s) (one_arm arm)) arms
-      (λ arm i. let r = guarded_one arm.pat arm.expr arm.guard in omega (arith, r))
 
   constants_one : (id : Option ℕ) → sum_by one (block_const_frames id) ≡ count_if_some id
   constants_one None = refl
   constants_one (Some id) = refl
 
-  -- the tasks of a form and what it opens as it is met, counted
-  tasks_ones : (current : CurrentScopes) (x : ScopingForm) →
-      (sum_by one (opened_frames s x) + sum_by one (opened_const_frames x)) + sum_by (ones s) (form_tasks current x)
-      ≡ form_scopes x
-  tasks_ones current (form.If c y f) =
-      let b = sum_by-append (ones s) (tasks_of (e c ++ e y)) (leave current ∷ tasks_of (opt e f)) in
-      omega (arith, b, sum_by-cons (ones s) (leave current) (tasks_of (opt e f)), calls_open one (e c ++ e y), calls_open one (opt e f))
-  tasks_ones current (form.Block id label xs tail) =
-      let b = sum_by-append (ones s) (flat_map statement_tasks xs) (tasks_of (opt e tail) ++ leave current ∷ []) in
+  opened_ones : (x : ScopingForm) → sum_by one (frames_opened s x) ≡ form_scopes x
+  opened_ones (form.Block id label xs tail) =
+      let all = flat_map (statement_frames s) xs in
+      let b = sum_flat one (statement_frames s) xs in
+      let d = sum_same (λ x. sum_by one (statement_frames s x)) statement_scopes xs (λ x i. statement_ones x) in
       omega (
         arith,
-        b,
-        sum_by-append (ones s) (tasks_of (opt e tail)) (leave current ∷ []),
-        statements_ones xs,
-        calls_open one (opt e tail),
+        sum_by-cons one (own_frame id label) (block_const_frames id ++ all),
+        sum_by-append one (block_const_frames id) all,
         constants_one id,
+        b,
+        d,
       )
-  tasks_ones current (form.Closure types ret args body) =
-      let b = sum_by-append (ones s) (tasks_of (met_in_closure types ret args body)) (leave current ∷ []) in
-      omega (arith, b, calls_open one (met_in_closure types ret args body))
-  tasks_ones current (form.Match x arms) = omega (arith, sum_by-cons (ones s) (Task.Expr x) (flat_map one_arm arms), arms_ones arms)
-  tasks_ones current (form.InTurn cs) = let r = calls_open one cs in omega (arith, r)
-  tasks_ones current _ = refl
+  opened_ones (form.Match x arms) =
+      sum_mapped one (λ arm. frame s (arm.pat ∷ [])) arms ∙ sum_ones (λ arm. one (frame s (arm.pat ∷ []))) arms (λ arm i. refl)
+  opened_ones _ = refl
 
   -- a node opens as many scopes as its form says
   pub form_ones : (current : CurrentScopes) (x : ScopingForm) → sum_by one (form_frames s current x) ≡ form_scopes x
-  form_ones current x = frames_split s one current x ∙ tasks_ones current x
+  form_ones current x = form_opens s one current x ∙ opened_ones x
 
 -- No pattern is among the calls of a node that is no scoping form, a pattern aside
 

@@ -12,4 +12,5 @@ pub mod BuiltLemmas
 pub mod CountLemmas
 pub mod EntryLemmas
 pub mod MemberLemmas
+mod SameFramesLemmas
 pub mod UniqueLemmas

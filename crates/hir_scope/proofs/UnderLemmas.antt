@@ -6,7 +6,7 @@ use Rattle.std.proofs.lemmas.List.Sorted.{IsPermutation-sym, Contains-permutatio
 use Rattle.std.specs.List.{flat_map, filter}
 use Rattle.hir_node.specs.ChildCalls.{Call, OnExpr, OnPat, OnLifetime, opt, e, children}
 use Rattle.hir_node.specs.declared.node_id.NodeId.{NodeId}
-use Rattle.hir_validate.specs.Recursion.{RankDecreases, fold_down, AgreeOn, DependsOnChildren, rank}
+use Rattle.hir_validate.specs.Recursion.{RankDecreases, AgreeOn, DependsOnChildren, rank}
 use Rattle.hir_validate.specs.Nodes.{Has, children_of}
 use Rattle.hir_validate.specs.declared.node_arenas.Nodes.{Nodes}
 use Rattle.hir_validate.proofs.RecursionLemmas.{agree_from_members, fold_down_at}

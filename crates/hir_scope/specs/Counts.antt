@@ -1,8 +1,44 @@
--- The counts of scopes and entries: sums over the nodes that a body or a signature reaches.
-use Rattle.std.specs.Prelude.{◌+◌}
-use Rattle.hir_scope.specs.Prelude.{sum_by, ℕ, List, Option, Some, None, length, Item, Statement, NodeId, Nodes, bindings_at}
+-- The frames of the scopes that the nodes of a body or a signature open, and the counts of scopes and entries.
+use Rattle.std.specs.Prelude.{◌+◌, ◌∷◌, ◌++◌}
+use Rattle.hir_scope.specs.Prelude.{flat_map, sum_by, ℕ, List, [], Option, Some, None, length, map, Item, Statement, NodeId, Nodes, bindings_at}
 use Rattle.hir_scope.specs.ScopingForms.{ScopingForm, form_of}
 use Rattle.hir_scope.specs.ScopingForms as form
+use Rattle.hir_scope.specs.Frames.{Frame, frame, of_kind, empty}
+use Rattle.hir_scope.specs.Scopes.{Scope, frame_of}
+use Rattle.hir_scope.specs.ChildContexts.{loop_kind, own_frame, block_const_frames, item_frames}
+
+-- 1. Frames
+
+-- the frames of the scopes that a statement opens: a `let` one with what its pattern binds, a macro's
+-- definition one for what follows and one for the constants in it
+abbrev pub statement_frames : Nodes → Statement → List Frame
+statement_frames s (Statement.Let pat type_ref initializer else_branch) = frame s (pat ∷ []) ∷ []
+statement_frames s (Statement.Expr expr has_semi) = []
+statement_frames s (Statement.Item item) = item_frames item ++ item_frames item
+
+-- the frames of the scopes that a node opens: a block its own, with an id one more for the constants in it,
+-- and those of its statements; a match one for each arm
+abbrev pub frames_opened : Nodes → ScopingForm → List Frame
+frames_opened s (form.Block id label statements tail) =
+    own_frame id label ∷ (block_const_frames id ++ flat_map (statement_frames s) statements)
+frames_opened s (form.Match scrutinee arms) = map (λ arm. frame s (arm.pat ∷ [])) arms
+frames_opened s (form.If condition then_branch else_branch) = empty ∷ []
+frames_opened s (form.Let pat expr) = frame s (pat ∷ []) ∷ []
+frames_opened s (form.Loop label body) = of_kind (loop_kind label) ∷ []
+frames_opened s (form.Closure arg_types ret_type args body) = frame s args ∷ []
+frames_opened s (form.Assignment target value) = frame s (target ∷ []) ∷ []
+frames_opened s (form.PatternType type pat) = frame s (pat ∷ []) ∷ []
+frames_opened s (form.InTurn calls) = []
+
+-- the frames of the scopes that these nodes open
+abbrev pub frames_of_nodes : Nodes → List NodeId → List Frame
+frames_of_nodes s nodes = flat_map (λ n. frames_opened s (form_of s n)) nodes
+
+-- the frames of scopes
+abbrev pub frames_of_scopes : List Scope → List Frame
+frames_of_scopes scopes = map frame_of scopes
+
+-- 2. Counts
 
 abbrev pub count_if_some : {X : Type 0} → Option X → ℕ
 count_if_some None = 0

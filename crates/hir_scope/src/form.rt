@@ -36,6 +36,20 @@ pub enum Form<'a> {
     TypeRef(&'a TypeRef),
 }
 
+/// What forms borrow, or nothing: a function that owns a form has a local of this type beside it.
+// It is there for the prover's borrow checker alone, which has to be told of these types.
+pub type BorrowedByForm<'a> = Option<
+    (
+        &'a [Statement],
+        &'a [Option<TypeRefId>],
+        &'a [PatId],
+        &'a [MatchArm],
+        &'a Expr,
+        &'a Pat,
+        &'a TypeRef,
+    ),
+>;
+
 impl<'a> Form<'a> {
     /// Returns the form of an expression.
     // One arm a variant: split, the function would name variants twice.

@@ -23,7 +23,7 @@ mod walk;
 
 pub use expr_scopes::{ExprScopes, ScopeData};
 pub use fault::ScopesFault;
-pub use form::Form;
+pub use form::{BorrowedByForm, Form};
 pub use macros::Expansion;
 pub use order::{visit_form, visit_in_scope_order};
 pub use resolve::local_name;

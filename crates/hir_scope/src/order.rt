@@ -8,7 +8,7 @@ ghost use Rattle.hir_node.specs.Runs.{Runs, MayRun};
 ghost use Rattle.hir_scope.specs.ScopingForms.{expr_form, form_model};
 ghost use Rattle.hir_scope.specs.Order.{met_in_form};
 
-use crate::form::Form;
+use crate::form::{BorrowedByForm, Form};
 use hir_node::{Expr, MatchArm, Statement, StoreVisitor, StoreVisitorExt, TypeRefId};
 
 /// A part of an expression whose children are visited.
@@ -129,6 +129,7 @@ pub fn visit_in_scope_order<V: StoreVisitor>(expr: &Expr, visitor: &mut V)
     requires { MayRun V.may V.step visitor.old (met_in_form (expr_form expr.now)) }
     ensures { Runs V.step visitor.old (met_in_form (expr_form expr.now)) visitor.new }
 {
+    let _borrowed: BorrowedByForm<'_> = None;
     let form = Form::of_expr(expr);
     visit_form(&form, visitor);
 }

@@ -7,7 +7,7 @@ ghost use Rattle.hir_scope.specs.internal.WalkState.{with_next, walk_state, stat
 
 use crate::expr_scopes::ExprScopes;
 use crate::fault::ScopesFault;
-use crate::form::Form;
+use crate::form::{BorrowedByForm, Form};
 use crate::scope::{ScopeEntry, ScopeId, ScopeKind};
 use crate::tasks::{CurrentScopes, Task, Tasks};
 use hir_base::Steps;
@@ -48,6 +48,7 @@ impl Walk {
         store.has_no_fault();
         rank_decreases();
         let outside = self.current.scope;
+        let _borrowed: BorrowedByForm<'_> = None;
         let form = Form::of_expr(&store[expr]);
         if let Form::Leaf = form {
             return Ok(outside);
@@ -80,6 +81,7 @@ impl Walk {
     {
         store.has_no_fault();
         rank_decreases();
+        let _borrowed: BorrowedByForm<'_> = None;
         let form = Form::of_pat(&store[pat]);
         self.tasks.push_in(&form, self.current)?;
         Ok(())
@@ -101,6 +103,7 @@ impl Walk {
         let CurrentScopes { scope, const_scope } = self.current;
         self.tasks.push(Task::Leave(scope, const_scope))?;
         self.current.scope = const_scope;
+        let _borrowed: BorrowedByForm<'_> = None;
         let form = Form::of_type(&store[type_ref]);
         self.tasks.push_in(&form, self.current)?;
         Ok(())
@@ -117,6 +120,7 @@ impl Walk {
     {
         store.has_no_fault();
         rank_decreases();
+        let _borrowed: BorrowedByForm<'_> = None;
         let form = Form::of_pat(&store[bound]);
         self.tasks.push_in(&form, self.current)?;
         self.open(store, ScopeKind::None, &[bound])?;

@@ -17,7 +17,7 @@ use crate::usage::Usage;
 use hir_base::HygieneId;
 use hir_captures::if_assignment;
 use hir_node::{BindingId, Expr, ExprId, ExprOrPatId, Pat, PatId, TypeRefId};
-use hir_scope::{ExprScopes, Form, local_name};
+use hir_scope::{BorrowedByForm, ExprScopes, Form, local_name};
 use hir_store_core::ExpressionStore;
 use hir_store_core::laws::rank_decreases;
 use std::alloc::AllocError;
@@ -170,6 +170,7 @@ impl<'a> Walk<'a> {
             self.add_expr(found, id, name)?;
             return Ok(());
         }
+        let _borrowed: BorrowedByForm<'_> = None;
         let form = Form::of_expr(expr);
         unread.push_in(&form, if_assignment(id, expr))?;
         Ok(())
@@ -195,6 +196,7 @@ impl<'a> Walk<'a> {
         let target = assignment;
         self.add_target(found, id, assignment)?;
         self.add_bound(found, id)?;
+        let _borrowed: BorrowedByForm<'_> = None;
         let form = Form::of_pat(&self.store[id]);
         unread.push_in(&form, target)?;
         Ok(())
@@ -213,6 +215,7 @@ impl<'a> Walk<'a> {
     {
         self.store.has_no_fault();
         rank_decreases();
+        let _borrowed: BorrowedByForm<'_> = None;
         let form = Form::of_type(&self.store[id]);
         unread.push_in(&form, None)?;
         Ok(())

@@ -1,4 +1,4 @@
-use Rattle.std.proofs.Common.{rules, ℕ, ◌≡◌, ◌++◌, map, refl, sym, ap, ◌∙◌, subst}
+use Rattle.std.proofs.Common.{rules, ℕ, ◌++◌, map, refl, sym, ap, ◌∙◌, subst}
 use Rattle.hir_node.specs.ChildCalls.{children}
 use Rattle.hir_node.specs.declared.node_id.NodeId.{NodeId}
 use Rattle.hir_scope.specs.{Chains.within_own, Order.met_in_form, Scopes.frame_of}

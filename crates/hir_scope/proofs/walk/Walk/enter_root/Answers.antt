@@ -1,4 +1,4 @@
-use Rattle.std.proofs.Common.{rules, ◌≡◌, [], ◌∷◌, ◌++◌, map, sym, subst}
+use Rattle.std.proofs.Common.{rules, ◌≡◌, [], ◌∷◌, ◌++◌, map, subst}
 use Rattle.hir_scope.specs.{Frames.empty, Scopes.frame_of}
 use Rattle.hir_scope.specs.declared.tasks.CurrentScopes.{CurrentScopes}
 use Rattle.hir_scope.specs.internal.Pending.{both}
