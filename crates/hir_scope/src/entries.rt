@@ -11,8 +11,8 @@ use hir_node::{BindingId, PatId};
 use hir_store_core::ExpressionStore;
 
 /// Appends the entry of a binding, where the store has it.
-// Always inlined, as `add_pat` below and `new_scope` are: their calls for each binding are 2 % of what it takes
-// to build a small body and its scopes.
+// Always inlined, as `add_pat` below and `new_scope` are: their calls for each binding are 2 % of what it
+// takes to build a small body and its scopes, which is to take no more than plain Rust does.
 #[inline(always)]
 pub(crate) fn add_entry(
     entries: &mut Vec<ScopeEntry>,

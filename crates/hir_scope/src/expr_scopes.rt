@@ -79,8 +79,8 @@ impl ExprScopes {
         ensures err { OnErr result (result ≡ Err ScopesFault.Memory) }
     {
         Ok(ExprScopes {
-            // Scopes aren't counted beforehand. Code has about one for each binding, beside that of the root and
-            // that of a body's block; where it has more, their list grows.
+            // Scopes aren't counted beforehand. Code has about one for each binding, beside that of the root
+            // and that of a body's block; where it has more, their list grows.
             scopes: Vec::with_capacity(alloc, entries.saturating_add(2))?,
             entries: Vec::with_capacity(alloc, entries)?,
             scope_by_expr: ArenaMap::with_capacity(alloc, exprs)?,
