@@ -109,6 +109,15 @@ fn add_variant<'a>(
     add_fields(tokens, fields.shape(), fields.fields())
 }
 
+/// Adds what is missing first where the fields are, in the head or the fields themselves.
+fn add_without_fields(tokens: &mut Tokens<'_>, tables: &Tables, owner: &VariantId)
+    ensures { Adds tokens.old.stack
+        (λ s. without_fields s (parents tables.now) owner.now) tokens.new.stack }
+{
+    add_variant_head(tokens, tables, owner);
+    tokens.add(&[Token::Missing(Missing::Fields(*owner))])
+}
+
 /// The text of a variant with these fields.
 fn print_fields(
     alloc: Global,
@@ -127,7 +136,7 @@ fn print_fields(
     printer.print()
 }
 
-/// The text of a variant whose fields are missing: what is missing first, in the head, or the fields.
+/// What is printed of a variant whose fields are missing: what is missing first.
 fn print_without_fields(
     alloc: Global,
     tables: &Tables,
@@ -140,10 +149,7 @@ fn print_without_fields(
 {
     let store = ExpressionStore::empty(alloc);
     let mut printer = Printer::new(alloc, &store, tables, edition, false);
-    add_variant_head(&mut printer.tokens, tables, owner);
-    printer
-        .tokens
-        .add(&[Token::Missing(Missing::Fields(*owner))]);
+    add_without_fields(&mut printer.tokens, tables, owner);
     printer.print()
 }
 

@@ -86,7 +86,8 @@ fn add_types_and_consts<'a>(tokens: &mut Tokens<'a>, params: &'a GenericParams, 
 /// Adds all parameters in `<` and `>`.
 fn add_in_angles<'a>(tokens: &mut Tokens<'a>, params: &'a GenericParams)
     ensures { Adds tokens.old.stack
-        (λ s. text (codes "<") ++ comma_joined (each_param s params.now) ++ text (codes ">")) tokens.new.stack }
+        (λ s. text (codes "<") ++ comma_joined (each_param s params.now) ++ text (codes ">"))
+        tokens.new.stack }
 {
     tokens.add(&[Token::Text("<")]);
     add_lifetimes(tokens, params);

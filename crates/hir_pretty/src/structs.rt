@@ -23,7 +23,8 @@ fn add_attribute_if(tokens: &mut Tokens<'_>, holds: bool, attribute: &'static st
 /// Adds an attribute with this many bytes, where there are any.
 fn add_bytes(tokens: &mut Tokens<'_>, before: &'static str, bytes: Option<u64>)
     ensures { Adds tokens.old.stack
-        (λ s. opt (λ n. text before.now ++ text (decimal n) ++ text (codes "))]") ++ br) bytes) tokens.new.stack }
+        (λ s. opt (λ n. text before.now ++ text (decimal n) ++ text (codes "))]") ++ br) bytes)
+        tokens.new.stack }
 {
     match bytes {
         None => {}

@@ -8,5 +8,5 @@ pub use Rattle.hir_pretty_docs.proofs.AddLemmas.{checked, deferred_more, adds, a
 pub use Rattle.hir_pretty_docs.proofs.ArgsDocs.{assoc_docs_is}
 pub use Rattle.hir_pretty_docs.proofs.FieldLemmas.{field_step, no_fields, param_step, no_args, no_types, record_rest, record_plain}
 pub use Rattle.hir_pretty_docs.proofs.ListLemmas.{each_step, each_ends, parts, following_joined, following_step, following_ends}
-pub use Rattle.hir_pretty_docs.proofs.OrderLemmas.{none_is, no_statements, without_tail, with_tail, no_arguments, some_arguments, no_elements, some_elements, rest_is, braces_after, bounds_is, slice_is, segment_alone, segment_with, no_segments, supers_more, supers_last, filled, args_is, bound_to, plain_body, barred_header, not_rust}
+pub use Rattle.hir_pretty_docs.proofs.OrderLemmas.{none_is, no_statements, without_tail, with_tail, no_arguments, some_arguments, no_elements, some_elements, rest_is, braces_after, bounds_is, slice_is, segment_alone, segment_with, no_segments, supers_more, supers_last, filled, args_is, bound_to, barred_header}
 pub use Rattle.hir_pretty_docs.proofs.SignatureLemmas.{signature_is}

@@ -2,15 +2,12 @@
 use Rattle.std.proofs.Common.{◌≡◌, ℕ, zero, suc, ◌+◌, ◌-◌, ◌<◌, ◌≤◌, Bool, true, false, List, [], ◌∷◌, ◌++◌, codes, map, take, drop, length, get_or, Option, Some, None, refl, sym, ap, ap₂, ◌∙◌, arith, append_assoc, append-nil, inl, inr, ◌==◌, ◌&&◌, not, IsTrue, is_none, is_some, flat_map, option_to_list}
 use Rattle.std.proofs.lemmas.{Bool.cases_lt, Bool.Decides.nat_tests, List.take-map, List.drop-map, List.take_all, List.drop_all}
 use Rattle.std.proofs.lemmas.List.{length-map, Concat.flat_map-append}
-use Rattle.hir_base.specs.{Abi.abi_text, declared.abi.ExternAbi.ExternAbi}
-use Rattle.hir_base.specs.declared.abi.ExternAbi.TheVariants as abi
 use Rattle.hir_node.specs.declared.{expr_types.Array.TheVariants.ElementList, expr_types.Statement.Statement}
 use Rattle.hir_node.specs.declared.expr_types.{ClosureKind.ClosureKind, CoroutineKind.CoroutineKind, CoroutineSource.CoroutineSource}
 use Rattle.hir_node.specs.declared.expr_types.ClosureKind.TheVariants as closure
-use Rattle.hir_validate.specs.declared.node_arenas.Nodes.{Nodes}
 use Rattle.hir_path.specs.declared.{bound.TypeBound.TypeBound, path.GenericArg.GenericArg}
 use Rattle.hir_path.specs.declared.path.GenericArgs.{GenericArgs, out-GenericArgs}
-use Rattle.hir_pretty_docs.specs.Prelude.{PrintEnv, name_docs, Doc, text, sp, into, out, br, e, p, opt, when, join, comma_joined, arguments, array_docs, statement_docs, inside_block, with_rest, arg_docs, each_arg, args_docs, assoc_docs, turbofish, segments_from, bounds_docs, bounds_after, supers, following, printed_body, header, extern_docs}
+use Rattle.hir_pretty_docs.specs.Prelude.{PrintEnv, name_docs, Doc, text, sp, into, out, br, e, p, opt, when, join, comma_joined, arguments, array_docs, statement_docs, inside_block, with_rest, arg_docs, each_arg, args_docs, assoc_docs, turbofish, segments_from, bounds_docs, bounds_after, supers, following, header}
 use Rattle.hir_pretty_docs.proofs.ListLemmas.{drop_item, is_cons, following_joined, following_append}
 use Rattle.hir_pretty_docs.proofs.ArgsDocs.{args_docs_is}
 
@@ -171,19 +168,9 @@ pub braces_after : (before inside : List Doc) → before ++ (text (codes "{") ++
 braces_after before inside =
     sym (append_assoc (before ++ text (codes "{")) inside (text (codes "}")) ∙ append_assoc before (text (codes "{")) (inside ++ text (codes "}")))
 
--- 8. Forms that most of a kind have
-
-pub plain_body : (s : Nodes) (kind : ClosureKind) (body : ℕ) → ((k : CoroutineKind) → kind ≡ closure.CoroutineClosure k → ⊥)
-    → e body ≡ e (printed_body s kind body)
-plain_body s (closure.CoroutineClosure k) body h = absurd (h k refl)
-plain_body s kind body h = refl
+-- 8. The header of a closure that is no coroutine
 
 pub barred_header : (kind : ClosureKind) (xs : List (List Doc)) (ret : Option ℕ)
     → ((k : CoroutineKind) (source : CoroutineSource) → kind ≡ closure.Coroutine k source → ⊥) → header closure.Closure xs ret ≡ header kind xs ret
 barred_header (closure.Coroutine k source) xs ret h = absurd (h k source refl)
 barred_header kind xs ret h = refl
-
-pub not_rust : (x : ExternAbi) → (x ≡ abi.Rust → ⊥)
-    → text (codes "extern ") ++ text (abi_text x) ++ text (codes " ") ≡ extern_docs x
-not_rust abi.Rust h = absurd (h refl)
-not_rust other h = refl

@@ -109,7 +109,8 @@ impl<'a> Tokens<'a> {
         generic_args: &'a Option<Boxed<GenericArgs>>,
     )
         ensures { Adds self.old.stack
-            (λ s. expr_docs s (of_expr.MethodCall receiver name.now args.now generic_args.now)) self.new.stack }
+            (λ s. expr_docs s (of_expr.MethodCall receiver name.now args.now generic_args.now))
+            self.new.stack }
     {
         self.add(&[
             Token::ExprIn(receiver, ExprPrecedence::Postfix),

@@ -1,7 +1,7 @@
 //! The tokens that are still to be printed, and what is added to them.
 #![tactic(auto, using(crate::proofs::AddLemmas::adding))]
 
-ghost use Rattle.std.specs.Prelude.{◌≡◌, ◌∷◌, [], false, Ok, OnOk, codes, option_copied};
+ghost use Rattle.std.specs.Prelude.{◌≡◌, ◌∷◌, [], true, false, Ok, OnErr, OnOk, codes, option_copied};
 ghost use Rattle.hir_collections.specs.Stacks.{Defers};
 ghost use Rattle.hir_pretty_docs.specs.Prelude.{text, when, with_number, found_name, type_param_docs, binding_docs, Adds, AddsTokens};
 
@@ -39,7 +39,8 @@ impl<'a> Tokens<'a> {
 
     /// Returns that an allocation failed, where one did.
     pub fn check(&mut self) -> Result<(), AllocError>
-        ensures { OnOk result ((self.old.stack.refused ≡ false) × (self.new.stack ≡ self.old.stack)) }
+        ensures ok { OnOk result ((self.old.stack.refused ≡ false) × (self.new.stack ≡ self.old.stack)) }
+        ensures err { OnErr result ((self.old.stack.refused ≡ true) × (self.new.stack ≡ self.old.stack)) }
     {
         let all = self.stack.len();
         self.stack.push_deferred(all)
@@ -79,7 +80,8 @@ impl<'a> Tokens<'a> {
 
     /// Adds the name of a definition, or `<missing>` where it has none.
     pub fn add_named(&mut self, def: NamedDef)
-        ensures { Adds self.old.stack (λ s. found_name (codes "<missing>") (s.tables.name def)) self.new.stack }
+        ensures { Adds self.old.stack (λ s. found_name (codes "<missing>") (s.tables.name def))
+            self.new.stack }
     {
         self.add(&[Token::LookUp(Lookup::Def(def))])
     }

@@ -10,7 +10,7 @@ use Rattle.hir_pretty_layout.specs.{Page.Page, Page.empty_page, Page.page_text, 
 use Rattle.hir_pretty_docs.proofs.AddLemmas.{meant-append, is_false}
 use Rattle.hir_pretty_docs.specs.declared.token.Token.{Token}
 use Rattle.hir_pretty_docs.specs.declared.token.Token.TheVariants as token
-use Rattle.hir_pretty_nodes.specs.Prelude.{NodeId, Missing, PrintEnv, Doc, MissingDoc, ExprDoc, ExprIn, DocPiece, Present, PrintsPieces, WritesPieces, opt, format_of, first_missing, docs_of, pieces, doc_list_pieces, stands_in_parentheses, precedence_found, DocsDecrease, size, stands_for, docs_of_tokens, above, Adds, Printing, env_of, printing_of, on_page, AddsTo, printing, Stacked, all_printed, enclose, AddsAt, PrintsAlike, FindsAt, WritesToken, ExpandsToken, ComesTo}
+use Rattle.hir_pretty_nodes.specs.Prelude.{NodeId, Missing, PrintEnv, Doc, MissingDoc, ExprDoc, ExprIn, DocPiece, Present, PrintsPieces, WritesPieces, opt, format_of, first_missing, layout, docs_of, pieces, doc_list_pieces, stands_in_parentheses, precedence_found, DocsDecrease, size, stands_for, docs_of_tokens, above, Adds, Printing, env_of, printing_of, on_page, AddsTo, printing, Stacked, all_printed, enclose, AddsAt, PrintsAlike, FindsAt, WritesToken, ExpandsToken, ComesTo}
 use Rattle.hir_pretty_nodes.specs.declared.{printer.Printer.Printer, lookups.Found.Found, fault.PrintFault.PrintFault}
 use Rattle.hir_pretty_nodes.specs.declared.fault.PrintFault.TheVariants as fault
 use Rattle.hir_pretty_nodes.proofs.PieceLemmas.{printed-append, enclosed_printed, pieces_alike, missing_is, value_of_pieces, nothing_left, is_missing}
@@ -140,14 +140,14 @@ module _ {W : Type 0} {step : Layout → W → W} where
   pub comes_same : (old : Stacked W) → ComesTo step old old.tokens.items old
   comes_same old = record { from = refl; same = refl; most = omega arith }
 
-  -- the next token was taken from the stack
-  pub comes_taken : {old now taken : Stacked W} {w : Token} → ComesTo step old now.tokens.items now → now.tokens.items ≡ w ∷ taken.tokens.items → taken.from ≡ now.from → taken.value ≡ now.value
-      → ComesTo step old (w ∷ taken.tokens.items) taken
-  comes_taken {old} {now} {taken} {w} c next from value =
+  -- these tokens are left once the next was taken from the stack
+  pub comes_taken : {old now taken : Stacked W} {left : List Token} → ComesTo step old now.tokens.items now → now.tokens.items ≡ left → taken.from ≡ now.from → taken.value ≡ now.value
+      → ComesTo step old left taken
+  comes_taken {old} {now} {taken} {left} c next from value =
       let s = old.from in
       record {
         from = from ∙ c.from;
-        same = c.same ∙ ap (λ ws. printing step now.value (doc_list_pieces s (docs_of_tokens s ws))) next ∙ ap (λ v. printing step v (doc_list_pieces s (docs_of_tokens s (w ∷ taken.tokens.items)))) (sym value);
+        same = c.same ∙ ap (λ ws. printing step now.value (doc_list_pieces s (docs_of_tokens s ws))) next ∙ ap (λ v. printing step v (doc_list_pieces s (docs_of_tokens s left))) (sym value);
         most = let h = c.most in let k = ap (λ ws. size s (docs_of_tokens s ws)) next in omega arith;
       }
 
@@ -187,7 +187,7 @@ turned_items old turn =
     ap (λ (v : StackItems Token). v.items) (turn (record { items = []; refused = false }) all refl pushed) ∙ append-nil all
 
 -- what was added was turned over
-module _ {W : Type 0} {step : Layout → W → W} {s : PrintEnv} {value : W} (old : StackItems Token) {new : StackItems Token}
+module _ {W : Type 0} (step : Layout → W → W) (s : PrintEnv) (value : W) (old : StackItems Token) {new : StackItems Token}
     (turn : TurnsOver 0 old new) where
   pub turned_over : printing step value (doc_list_pieces s (docs_of_tokens s (reverse old.items)))
       ≡ printing step value (doc_list_pieces s (docs_of_tokens s new.items))
@@ -255,10 +255,9 @@ module _ {W : Type 0} {step : Layout → W → W} {s : PrintEnv} {whole : W × O
         let n = size-append s (docs_of_tokens s a.expansion) (docs_of_tokens s taken.tokens.items) in omega arith
 
   -- nothing waits
-  pub comes_over : {now last : Stacked W} → Comes step s whole now → ComesTo step now last.tokens.items last → last.tokens.items ≡ [] → whole ≡ (last.value, None)
-  comes_over {now} {last} c next over =
-      c.same ∙ subst (λ t. printing step now.value (doc_list_pieces t (docs_of_tokens t now.tokens.items)) ≡ printing step last.value (doc_list_pieces t (docs_of_tokens t last.tokens.items))) c.from next.same
-      ∙ ap (λ ws. printing step last.value (doc_list_pieces s (docs_of_tokens s ws))) over ∙ nothing_left step last.value
+  pub comes_over : {now last : Stacked W} → Comes step s whole now → ComesTo step now [] last → whole ≡ (last.value, None)
+  comes_over {now} {last} c next =
+      c.same ∙ subst (λ t. printing step now.value (doc_list_pieces t (docs_of_tokens t now.tokens.items)) ≡ printing step last.value []) c.from next.same ∙ nothing_left step last.value
 
   pub comes_to_missing : {now : Stacked W} {m : Missing} → Comes step s whole now → (all_printed step now).1 ≡ Some m → whole.1 ≡ Some m
   comes_to_missing {now} {m} c lacks =

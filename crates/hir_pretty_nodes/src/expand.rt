@@ -127,7 +127,8 @@ impl<'a, W: PieceWriter> Printer<'a, W> {
     /// Adds generic arguments in `::<` and `>`. The first text is written at once, so that less is added than
     /// they are.
     fn add_generic_args(&mut self, args: &'a GenericArgs) -> Result<(), AllocError>
-        ensures { OnOk result (ExpandsToken W.step (tokens.GenericArgs args.entry) (stacked self.old) (stacked self.new)) }
+        ensures { OnOk result (ExpandsToken W.step (tokens.GenericArgs args.entry)
+            (stacked self.old) (stacked self.new)) }
     {
         self.writer.text("::<")?;
         self.tokens.add_args(args);
@@ -137,7 +138,8 @@ impl<'a, W: PieceWriter> Printer<'a, W> {
 
     /// Adds a field of a record pattern. Its name is written at once, so that less is added than it is.
     fn add_field(&mut self, field: &'a RecordFieldPat) -> Result<(), AllocError>
-        ensures { OnOk result (ExpandsToken W.step (tokens.FieldPat field.entry) (stacked self.old) (stacked self.new)) }
+        ensures { OnOk result (ExpandsToken W.step (tokens.FieldPat field.entry)
+            (stacked self.old) (stacked self.new)) }
     {
         write_name(&mut self.writer, self.words, field.name.as_str())?;
         if is_short(self.store, self.words, field) {

@@ -84,7 +84,8 @@ fn crate_name(tables: &Tables, id: CrateId) -> Result<Found<'_>, Missing>
 
 /// The name of a type parameter, or its number where it has none.
 fn param_or(id: TypeParamId, name: Option<&Name>) -> Found<'_>
-    ensures { (s : PrintEnv) → found_docs s result ≡ type_param_docs s id.local_id (Ok (option_copied name.entry)) }
+    ensures { (s : PrintEnv) → found_docs s result
+        ≡ type_param_docs s id.local_id (Ok (option_copied name.entry)) }
 {
     match name {
         None => Found::Param(id.local_id().into_raw()),
@@ -103,7 +104,8 @@ fn param_name(tables: &Tables, id: TypeParamId) -> Result<Found<'_>, Missing>
 }
 
 fn lifetime_name<'a>(tables: &'a Tables, lifetime: &'a LifetimeRef) -> Result<Found<'a>, Missing>
-    ensures { (store : Contents) → Finds store (lookups_of tables.now) (λ s. lifetime_docs s lifetime.now) result }
+    ensures { (store : Contents) → Finds store (lookups_of tables.now)
+        (λ s. lifetime_docs s lifetime.now) result }
 {
     match lifetime {
         LifetimeRef::Named(name) => Ok(Found::Name(name)),

@@ -33,12 +33,17 @@ impl<'a, W: PieceWriter> Printer<'a, W> {
     {
         self.store.has_no_fault();
         docs_decrease();
-        'nodes: while let Some(node) = self.next_node()? {
-            let below = self.tokens.stack.len();
-            self.expand(&node)?;
-            self.tokens.stack.push_deferred(below)?;
+        'nodes: loop {
+            match self.next_node() {
+                Err(fault) => return Err(fault),
+                Ok(None) => return Ok(()),
+                Ok(Some(node)) => {
+                    let below = self.tokens.stack.len();
+                    self.expand(&node)?;
+                    self.tokens.stack.push_deferred(below)?;
+                }
+            }
         }
-        Ok(())
     }
 
     /// What was written to.

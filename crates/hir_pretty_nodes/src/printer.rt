@@ -1,6 +1,6 @@
 //! The printer: what it prints from, what it writes to, and what was added to it.
 
-ghost use Rattle.std.specs.Prelude.{◌≡◌, ◌++◌, OnOk, map};
+ghost use Rattle.std.specs.Prelude.{◌≡◌, ◌++◌, true, OnErr, OnOk, map};
 ghost use Rattle.hir_pretty_layout.specs.Page.{render};
 ghost use Rattle.hir_pretty_nodes.specs.Prelude.{words_of, text, join, path_docs, docs_one_by_one, print_env, lookups_of, format_of, begun, on_page, printing_of, AddsTo};
 
@@ -67,7 +67,8 @@ impl<'a, W> Printer<'a, W> {
         one_line: bool,
     ) -> Printer<'a, W>
         ensures { printing_of result ≡ begun
-            (print_env store.now (lookups_of tables.now) (words_of tables.now.words edition) one_line) writer }
+            (print_env store.now (lookups_of tables.now) (words_of tables.now.words edition) one_line)
+            writer }
     {
         Printer {
             store,
@@ -80,29 +81,40 @@ impl<'a, W> Printer<'a, W> {
     }
 
     /// Adds tokens.
+    ///
+    /// Fails with `AllocError` where an allocation fails, or failed before: what is printed then is that.
     pub fn add(&mut self, tokens: &[Token<'a>]) -> Result<(), AllocError>
-        ensures { OnOk result (AddsTo (printing_of self.old) (λ s. docs_one_by_one s tokens.now) (printing_of self.new)) }
+        ensures ok { OnOk result (AddsTo (printing_of self.old)
+            (λ s. docs_one_by_one s tokens.now) (printing_of self.new)) }
+        ensures err { OnErr result ((printing_of self.new).refused ≡ true) }
     {
         self.tokens.add(tokens);
         self.tokens.check()
     }
 
     /// Adds the members of a list with a text between them.
+    ///
+    /// Fails as `add` does.
     pub fn add_joined<T: Part>(
         &mut self,
         between: &'a str,
         members: &'a [T],
     ) -> Result<(), AllocError>
-        ensures { OnOk result (AddsTo (printing_of self.old)
+        ensures ok { OnOk result (AddsTo (printing_of self.old)
             (λ s. join (text between.now) (map (T.docs s) members.now)) (printing_of self.new)) }
+        ensures err { OnErr result ((printing_of self.new).refused ≡ true) }
     {
         self.tokens.add_joined(between, members);
         self.tokens.check()
     }
 
     /// Adds what a path is printed as.
+    ///
+    /// Fails as `add` does.
     pub fn add_path(&mut self, path: &'a Path) -> Result<(), AllocError>
-        ensures { OnOk result (AddsTo (printing_of self.old) (λ s. path_docs s path.now) (printing_of self.new)) }
+        ensures ok { OnOk result (AddsTo (printing_of self.old)
+            (λ s. path_docs s path.now) (printing_of self.new)) }
+        ensures err { OnErr result ((printing_of self.new).refused ≡ true) }
     {
         self.tokens.add_path(path);
         self.tokens.check()

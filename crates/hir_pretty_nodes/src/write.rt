@@ -90,7 +90,7 @@ fn write_found<W: PieceWriter>(
     words: &[Text],
     found: Found<'_>,
 ) -> Result<(), AllocError>
-    ensures { OnOk result (writer.new ≡ steps W.step (found_pieces words.now found) writer.old) }
+    ensures { OnOk result (writer.new ≡ steps W.step (found_pieces words.now found.entry) writer.old) }
 {
     match found {
         Found::Nothing => Ok(()),

@@ -1,5 +1,5 @@
 -- What a step of the printer's loop does to the tokens that wait, and to the value.
-use Rattle.std.specs.Prelude.{◌≡◌, ◌<◌, ◌≤◌, Bool, true, false, List, [], ◌∷◌, ◌++◌, ℕ, Option, Some, None, IfSome, codes, option_to_list}
+use Rattle.std.specs.Prelude.{◌≡◌, ◌<◌, ◌≤◌, Bool, true, false, List, [], ◌∷◌, ◌++◌, ℕ, Option, Some, None, IfSome, codes}
 use Rattle.hir_collections.specs.Stacks.{StackItems, Defers}
 use Rattle.hir_store_core.specs.{Contents.Contents, declared.missing.Missing.Missing}
 use Rattle.hir_pretty_layout.specs.Layouts.{Layout}
@@ -71,9 +71,13 @@ pub record ComesTo {W : Type 0} (step : Layout → W → W) (old : Stacked W) (t
   pub most : size old.from (docs_of_tokens old.from tokens)
       ≤ size old.from (docs_of_tokens old.from old.tokens.items)
 
+-- a node that was found and what waits after it; without one, nothing
+abbrev pub from_node : Option Token → List Token → List Token
+from_node None waiting = []
+from_node (Some w) waiting = w ∷ waiting
+
 -- What waited up to the next node was written; without one, all was.
 pub record NextNode {W : Type 0} (step : Layout → W → W) (old : Stacked W) (found : Option Token)
     (new : Stacked W) : Type 0 where
-  pub comes : ComesTo step old (option_to_list found ++ new.tokens.items) new
+  pub comes : ComesTo step old (from_node found new.tokens.items) new
   pub node : IfSome found (λ w. is_node w ≡ true)
-  pub over : found ≡ None → new.tokens.items ≡ []

@@ -7,7 +7,7 @@ pub loop-at-init : goal.loop-at-init
 loop-at-init c = left_begins (λ s. following_joined (text (codes ", ")) (map (marked_docs c.args.marks.now) (enumerate_from 0 c.args.params.now)))
 
 pub loop-at-preserved : goal.loop-at-preserved
-loop-at-preserved c = left_goes_on c.loop-at.invariant (adds_more (adds_then c.add_if.ensures c.add_if-2.ensures) c.add.ensures)
+loop-at-preserved c = left_goes_on c.loop-at.invariant (adds_more (adds_then c.add_if.ensures c.add_if-in-loop-at.ensures) c.add.ensures)
     (λ s. marked_step (text (codes ", ")) c.args.marks.now c.loop-at.at c.index-params-at.result c.args.params.now c.loop-at-test.true c.index-params-at.is)
 
 pub returns : goal.returns

@@ -11,4 +11,4 @@ pub returns : goal.returns
 returns c =
     let s = print_env c.args.store.now (lookups_of c.args.tables.now) (words_of c.args.tables.now.words c.args.edition) false in
     subst (λ ps. PrintsPieces s ps c.print.result) (append-nil (pieces s (node.Expr c.args.expr)))
-    (prints_added c.new-printer.ensures c.in_ok-add.ensures c.print.ensures.pieces c.print.ensures.memory)
+    (prints_added c.new-printer.ensures c.in_ok-add.ensures.ok c.print.ensures.pieces c.print.ensures.memory)

@@ -5,4 +5,4 @@ pub returns-in_err-add_path : goal.returns-in_err-add_path
 returns-in_err-add_path c = let p = err_from_is_err_and c.from_residual.result c.from_residual.ensures.1 in rw (p.1, p.2) prints_refused
 
 pub returns : goal.returns
-returns c = prints_added c.new-printer.ensures c.in_ok-add_path.ensures c.print.ensures.pieces c.print.ensures.memory
+returns c = prints_added c.new-printer.ensures c.in_ok-add_path.ensures.ok c.print.ensures.pieces c.print.ensures.memory

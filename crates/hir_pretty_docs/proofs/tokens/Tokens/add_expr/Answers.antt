@@ -62,18 +62,6 @@ returns-in-BinaryOp c =
     rw c.in-BinaryOp.is (adds c.add-in-BinaryOp.ensures (λ s. ap₂ (λ q r. under q c.in-BinaryOp.lhs ++ sp ++ text c.operator_text.result.now ++ sp ++ under r c.in-BinaryOp.rhs) first second
     ∙ ap (λ is. under (of_operator op) c.in-BinaryOp.lhs ++ sp ++ is ++ sp ++ under (of_operator op) c.in-BinaryOp.rhs) c.operator_text.ensures))
 
-pub returns-in-Missing : goal.returns-in-Missing
-returns-in-Missing c = rw c.in-Missing.is (adds c.add.ensures (λ s. refl))
-
-pub returns-in-Underscore : goal.returns-in-Underscore
-returns-in-Underscore c = rw c.in-Underscore.is (adds c.add-in-Underscore.ensures (λ s. refl))
-
-pub returns-in-IncludeBytes : goal.returns-in-IncludeBytes
-returns-in-IncludeBytes c = rw c.in-IncludeBytes.is (adds c.add-in-IncludeBytes.ensures (λ s. refl))
-
-pub returns-in-Let : goal.returns-in-Let
-returns-in-Let c = rw c.in-Let.is (adds c.add-in-Let.ensures (λ s. refl))
-
 pub returns-in-Return : goal.returns-in-Return
 returns-in-Return c = rw c.in-Return.is c.add_keyword.ensures
 
@@ -83,20 +71,5 @@ returns-in-Become c = rw c.in-Become.is c.add_keyword-in-Become.ensures
 pub returns-in-Yield : goal.returns-in-Yield
 returns-in-Yield c = rw c.in-Yield.is c.add_keyword-in-Yield.ensures
 
-pub returns-in-Await : goal.returns-in-Await
-returns-in-Await c = rw c.in-Await.is (adds c.add-in-Await.ensures (λ s. refl))
-
-pub returns-in-Cast : goal.returns-in-Cast
-returns-in-Cast c = rw c.in-Cast.is (adds c.add-in-Cast.ensures (λ s. refl))
-
-pub returns-in-Index : goal.returns-in-Index
-returns-in-Index c = rw c.in-Index.is (adds c.add-in-Index.ensures (λ s. refl))
-
 pub returns-in-Array : goal.returns-in-Array
 returns-in-Array c = rw c.in-Array.is c.add_array.ensures
-
-pub returns-in-Assignment : goal.returns-in-Assignment
-returns-in-Assignment c = rw c.in-Assignment.is (adds c.add-in-Assignment.ensures (λ s. refl))
-
-pub returns-in-Literal : goal.returns-in-Literal
-returns-in-Literal c = rw c.in-Literal.is (adds c.add-in-Literal.ensures (λ s. refl))

@@ -28,26 +28,8 @@ returns-in-Slice c = rw c.in-Slice.is (rw (c.as_slice-in-Slice.ensures, c.as_sli
 pub returns-in-Ref : goal.returns-in-Ref
 returns-in-Ref c = rw c.in-Ref.is (adds (rw c.as_keyword_for_ref.ensures at c.add-in-Ref.ensures) (λ s. refl))
 
-pub returns-in-Missing : goal.returns-in-Missing
-returns-in-Missing c = rw c.in-Missing.is (adds c.add.ensures (λ s. refl))
-
-pub returns-in-Rest : goal.returns-in-Rest
-returns-in-Rest c = rw c.in-Rest.is (adds c.add-in-Rest.ensures (λ s. refl))
-
-pub returns-in-Wild : goal.returns-in-Wild
-returns-in-Wild c = rw c.in-Wild.is (adds c.add-in-Wild.ensures (λ s. refl))
-
-pub returns-in-NotNull : goal.returns-in-NotNull
-returns-in-NotNull c = rw c.in-NotNull.is (adds c.add-in-NotNull.ensures (λ s. refl))
-
 pub returns-in-Lit : goal.returns-in-Lit
 returns-in-Lit c = rw c.in-Lit.is c.add_in_pat-in-Lit.ensures
 
 pub returns-in-Expr : goal.returns-in-Expr
 returns-in-Expr c = rw c.in-Expr.is c.add_in_pat-in-Expr.ensures
-
-pub returns-in-Box : goal.returns-in-Box
-returns-in-Box c = rw c.in-Box.is (adds c.add-in-Box.ensures (λ s. refl))
-
-pub returns-in-Deref : goal.returns-in-Deref
-returns-in-Deref c = rw c.in-Deref.is (adds c.add-in-Deref.ensures (λ s. refl))

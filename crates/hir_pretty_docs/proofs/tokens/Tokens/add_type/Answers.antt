@@ -18,24 +18,3 @@ returns-in-ImplTrait c = rw c.in-ImplTrait.is (rw c.as_slice-in-ImplTrait.ensure
 
 pub returns-in-DynTrait : goal.returns-in-DynTrait
 returns-in-DynTrait c = rw c.in-DynTrait.is (rw c.as_slice-in-DynTrait.ensures at c.add_bounds-in-DynTrait.ensures)
-
-pub returns-in-Never : goal.returns-in-Never
-returns-in-Never c = rw c.in-Never.is (adds c.add.ensures (λ s. refl))
-
-pub returns-in-Placeholder : goal.returns-in-Placeholder
-returns-in-Placeholder c = rw c.in-Placeholder.is (adds c.add-in-Placeholder.ensures (λ s. refl))
-
-pub returns-in-Error : goal.returns-in-Error
-returns-in-Error c = rw c.in-Error.is (adds c.add-in-Error.ensures (λ s. refl))
-
-pub returns-in-TypeParam : goal.returns-in-TypeParam
-returns-in-TypeParam c = rw c.in-TypeParam.is (adds c.add-in-TypeParam.ensures (λ s. refl))
-
-pub returns-in-Slice : goal.returns-in-Slice
-returns-in-Slice c = rw c.in-Slice.is (adds c.add-in-Slice.ensures (λ s. refl))
-
-pub returns-in-Array : goal.returns-in-Array
-returns-in-Array c = rw c.in-Array.is (adds c.add-in-Array.ensures (λ s. refl))
-
-pub returns-in-PatternType : goal.returns-in-PatternType
-returns-in-PatternType c = rw c.in-PatternType.is (adds c.add-in-PatternType.ensures (λ s. refl))

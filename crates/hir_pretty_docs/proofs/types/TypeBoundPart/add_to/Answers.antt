@@ -6,14 +6,3 @@ returns-in-ForLifetime c = rw c.in-ForLifetime.is (adds_more (rw c.as_slice.ensu
 
 pub returns-in-Use : goal.returns-in-Use
 returns-in-Use c = rw c.in-Use.is (adds_more (adds_then (adds c.add-in-Use.ensures (λ s. refl)) (rw c.as_slice-in-Use.ensures at c.add_joined.ensures)) c.add-in-Use-2.ensures)
-
-pub returns-in-Path-default-None : goal.returns-in-Path-default-None
-returns-in-Path-default-None c = rw (c.in-Path-default-None.is, c.in-Path-default-None.field-1-is)
-    (adds (rw c.type_ref.ensures at c.add.ensures) (λ s. refl))
-
-pub returns-in-Path-default-Maybe : goal.returns-in-Path-default-Maybe
-returns-in-Path-default-Maybe c = rw (c.in-Path-default-Maybe.is, c.in-Path-default-Maybe.field-1-is)
-    (adds (rw c.type_ref-in-Path-default-Maybe.ensures at c.add-in-Path-default-Maybe.ensures) (λ s. refl))
-
-pub returns-in-Error : goal.returns-in-Error
-returns-in-Error c = rw c.in-Error.is (adds c.add-in-Error.ensures (λ s. refl))

@@ -9,7 +9,6 @@ pub returns-then-is_node-clause-ok : goal.returns-then-is_node-clause-ok
 returns-then-is_node-clause-ok g c = record {
   comes = comes_taken c.loop-token.invariant c.in-Some.ensures.some refl refl;
   node = sym c.is_node.ensures ∙ c.if-is_node.true;
-  over = λ e. absurd (cc);
 }
 
 pub loop-token-preserved : goal.loop-token-preserved
@@ -22,13 +21,8 @@ loop-token-smaller g c =
 
 pub returns-in_err-write_token-clause-missing : goal.returns-in_err-write_token-clause-missing
 returns-in_err-write_token-clause-missing g c = λ m e.
-    comes_missing (comes_taken c.loop-token.invariant c.in-Some.ensures.some refl refl)
+    comes_missing {taken = record (stacked c.loop-token.self) { tokens = c.pop.new.self }} (comes_taken c.loop-token.invariant c.in-Some.ensures.some refl refl)
     (c.in_err-write_token.ensures.missing m (let p = err_from_is_err_and c.from_residual.result c.from_residual.ensures.1 in let h = p.1 in let k = p.2 in cc))
 
 pub returns-clause-ok : goal.returns-clause-ok
-returns-clause-ok g c =
-    let over = c.in_default.ensures.none refl in record {
-      comes = c.loop-token.invariant;
-      node = tt;
-      over = λ _. over;
-    }
+returns-clause-ok g c = record { comes = comes_taken c.loop-token.invariant (c.in_default.ensures.none refl) refl refl; node = tt }
