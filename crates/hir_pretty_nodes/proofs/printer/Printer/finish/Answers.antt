@@ -1,15 +1,6 @@
 use Rattle.hir_pretty_nodes.proofs.Common.{ap, Err, ◌∙◌, err_from_is_err_and, env_of, turned_over, turned_missing, never_turned, writes_all, writes_fault}
 use Rattle.hir_pretty_nodes.proofs.printer.Printer.finish.Goals as goal
 
-pub returns-in_err-push_deferred-clause-pieces : goal.returns-in_err-push_deferred-clause-pieces
-returns-in_err-push_deferred-clause-pieces g c =
-    let p = err_from_is_err_and c.from_residual.result c.from_residual.ensures.1 in
-    rw (p.1, p.2) (writes_fault _ (λ m e. absurd (cc)))
-
-pub returns-in_err-push_deferred-clause-memory : goal.returns-in_err-push_deferred-clause-memory
-returns-in_err-push_deferred-clause-memory g c = λ refused.
-    let p = err_from_is_err_and c.from_residual.result c.from_residual.ensures.1 in let h = p.1 in let k = p.2 in cc
-
 pub returns-in_err-write-clause-pieces : goal.returns-in_err-write-clause-pieces
 returns-in_err-write-clause-pieces g c =
     let p = err_from_is_err_and c.from_residual-in_err-write.result c.from_residual-in_err-write.ensures.1 in

@@ -1,9 +1,5 @@
-use Rattle.hir_pretty_nodes.proofs.Common.{refl, sym, ap, arith, ◌∙◌, err_from_is_err_and, stacked, comes_same, comes_taken, comes_written, comes_missing}
-use Rattle.std.proofs.Common.{length}
+use Rattle.hir_pretty_nodes.proofs.Common.{refl, sym, ◌∙◌, err_from_is_err_and, stacked, comes_taken, comes_written, comes_missing}
 use Rattle.hir_pretty_nodes.proofs.printer.Printer.next_node.Goals as goal
-
-pub loop-token-init : goal.loop-token-init
-loop-token-init g c = comes_same (stacked c.args.self.now)
 
 pub returns-then-is_node-clause-ok : goal.returns-then-is_node-clause-ok
 returns-then-is_node-clause-ok g c = record {
@@ -13,11 +9,6 @@ returns-then-is_node-clause-ok g c = record {
 
 pub loop-token-preserved : goal.loop-token-preserved
 loop-token-preserved g c = comes_written (comes_taken c.loop-token.invariant c.in-Some.ensures.some refl refl) c.in_ok-write_token.ensures.ok
-
-pub loop-token-smaller : goal.loop-token-smaller
-loop-token-smaller g c =
-    let k = ap length c.in-Some.ensures.some in
-    let m = ap (λ (p : _). length p.tokens.items) c.in_ok-write_token.ensures.ok.same in omega arith
 
 pub returns-in_err-write_token-clause-missing : goal.returns-in_err-write_token-clause-missing
 returns-in_err-write_token-clause-missing g c = λ m e.
