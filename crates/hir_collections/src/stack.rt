@@ -111,10 +111,11 @@ impl<T> Stack<T> {
         }
     }
 
-    /// Pops the top.
+    /// Pops the top, where there is one.
     pub fn pop(&mut self) -> Option<T>
         ensures some { IfSome result (λ item. self.old.items ≡ item ∷ self.new.items) }
         ensures none { result ≡ None → self.old.items ≡ [] }
+        ensures empty { result ≡ None → self.new.items ≡ [] }
         ensures same { self.new.refused ≡ self.old.refused }
     {
         self.items.pop()
