@@ -8,4 +8,4 @@ pub use Rattle.hir_pretty_nodes.proofs.NameLemmas.{parts_written, not_quoted, no
 pub use Rattle.hir_pretty_nodes.proofs.PieceLemmas.{name_printed, plain_printed, found_printed, pieces_put, steps_then}
 pub use Rattle.hir_pretty_nodes.proofs.StepLemmas.{pieces_at}
 pub use Rattle.hir_pretty_nodes.proofs.SizeLemmas.{name_size}
-pub use Rattle.hir_pretty_nodes.proofs.LoopLemmas.{not_there, finds_as, adds_at, at_none, at_as, at_then, at_found, at_absent, written, written_then, expr_gives, first_gives, pattern_gives, type_gives, under_gives, comes_same, comes_taken, comes_written, comes_missing, turned_over, turned_missing, comes_first, comes_expanded, less_expanded, comes_over, comes_to_missing, never_turned, writes_all, writes_fault, prints_text, prints_fault, prints_refused, added_to, prints_added, prints}
+pub use Rattle.hir_pretty_nodes.proofs.LoopLemmas.{not_there, finds_as, adds_at, at_none, at_as, at_then, at_found, at_absent, written, written_then, expr_gives, first_gives, pattern_gives, type_gives, under_gives, comes_same, comes_taken, comes_written, comes_missing, turned_over, turned_missing, comes_expanded, less_expanded, comes_over, never_turned, writes_all, writes_fault, prints_text, prints_fault, prints_refused, added_to, prints_added, prints}

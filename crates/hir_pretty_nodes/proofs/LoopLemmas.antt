@@ -214,9 +214,6 @@ pub record Comes {W : Type 0} (step : Layout → W → W) (s : PrintEnv) (whole 
   pub from : now.from ≡ s
   pub same : whole ≡ printing step now.value (doc_list_pieces s (docs_of_tokens s now.tokens.items))
 
-pub comes_first : {W : Type 0} {step : Layout → W → W} (now : Stacked W) → Comes step now.from (all_printed step now) now
-comes_first now = record { from = refl; same = refl }
-
 module _ {W : Type 0} {step : Layout → W → W} {s : PrintEnv} {whole : W × Option Missing} where
   -- a node and what it expanded to, which was turned over
   module _ {now taken between : Stacked W} {stack : StackItems Token} {w : Token} (c : Comes step s whole now)
@@ -258,11 +255,6 @@ module _ {W : Type 0} {step : Layout → W → W} {s : PrintEnv} {whole : W × O
   pub comes_over : {now last : Stacked W} → Comes step s whole now → ComesTo step now [] last → whole ≡ (last.value, None)
   comes_over {now} {last} c next =
       c.same ∙ subst (λ t. printing step now.value (doc_list_pieces t (docs_of_tokens t now.tokens.items)) ≡ printing step last.value []) c.from next.same ∙ nothing_left step last.value
-
-  pub comes_to_missing : {now : Stacked W} {m : Missing} → Comes step s whole now → (all_printed step now).1 ≡ Some m → whole.1 ≡ Some m
-  comes_to_missing {now} {m} c lacks =
-      ap (λ (r : W × Option Missing). r.1) c.same
-      ∙ subst (λ t. (printing step now.value (doc_list_pieces t (docs_of_tokens t now.tokens.items))).1 ≡ Some m) c.from lacks
 
 -- 6. What is printed of all that was added
 
