@@ -70,7 +70,7 @@ pub(crate) fn next_plain(words: &mut Words<'_>) -> Result<PlainDef, TextError> {
         LangItemTarget::FunctionId(_)
         | LangItemTarget::StructId(_)
         | LangItemTarget::EnumVariantId(_)
-        | LangItemTarget::MacroId(_) => Err(words.reject()),
+        | LangItemTarget::MacroId(_) => Err(TextError::Syntax),
     }
 }
 

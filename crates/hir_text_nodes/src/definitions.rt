@@ -31,7 +31,7 @@ impl Read for LangItemTarget {
             b"Macro2Id" => LangItemTarget::MacroId(MacroId::Macro2Id(number(words)?)),
             b"MacroRulesId" => LangItemTarget::MacroId(MacroId::MacroRulesId(number(words)?)),
             b"ProcMacroId" => LangItemTarget::MacroId(MacroId::ProcMacroId(number(words)?)),
-            _ => return Err(words.reject()),
+            _ => return Err(TextError::Syntax),
         })
     }
 }
@@ -48,7 +48,7 @@ impl Read for GenericDefId {
             LangItemTarget::StaticId(id) => Ok(GenericDefId::StaticId(id)),
             LangItemTarget::TraitId(id) => Ok(GenericDefId::TraitId(id)),
             LangItemTarget::TypeAliasId(id) => Ok(GenericDefId::TypeAliasId(id)),
-            LangItemTarget::EnumVariantId(_) | LangItemTarget::MacroId(_) => Err(words.reject()),
+            LangItemTarget::EnumVariantId(_) | LangItemTarget::MacroId(_) => Err(TextError::Syntax),
         }
     }
 }
@@ -66,7 +66,7 @@ impl Read for DefWithBodyId {
             | LangItemTarget::TraitId(_)
             | LangItemTarget::ImplId(_)
             | LangItemTarget::TypeAliasId(_)
-            | LangItemTarget::MacroId(_) => Err(words.reject()),
+            | LangItemTarget::MacroId(_) => Err(TextError::Syntax),
         }
     }
 }
@@ -84,7 +84,7 @@ impl Read for VariantId {
             | LangItemTarget::TraitId(_)
             | LangItemTarget::ImplId(_)
             | LangItemTarget::TypeAliasId(_)
-            | LangItemTarget::MacroId(_) => Err(words.reject()),
+            | LangItemTarget::MacroId(_) => Err(TextError::Syntax),
         }
     }
 }
@@ -102,7 +102,7 @@ impl Read for NamedDef {
             LangItemTarget::EnumVariantId(id) => Ok(NamedDef::EnumVariantId(id)),
             LangItemTarget::ConstId(id) => Ok(NamedDef::ConstId(id)),
             LangItemTarget::MacroId(id) => Ok(NamedDef::MacroId(id)),
-            LangItemTarget::ImplId(_) => Err(words.reject()),
+            LangItemTarget::ImplId(_) => Err(TextError::Syntax),
         }
     }
 }
@@ -114,7 +114,7 @@ impl Read for ExpressionStoreOwnerId {
             b"body" => ExpressionStoreOwnerId::Body(next(words)?),
             b"signature" => ExpressionStoreOwnerId::Signature(next(words)?),
             b"fields" => ExpressionStoreOwnerId::VariantFields(next(words)?),
-            _ => return Err(words.reject()),
+            _ => return Err(TextError::Syntax),
         })
     }
 }

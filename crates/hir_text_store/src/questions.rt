@@ -89,7 +89,7 @@ impl Read for Arena {
             b"labels" => Ok(Arena::Labels),
             b"types" => Ok(Arena::Types),
             b"lifetimes" => Ok(Arena::Lifetimes),
-            _ => Err(words.reject()),
+            _ => Err(TextError::Syntax),
         }
     }
 }
@@ -118,7 +118,7 @@ fn read_root_of(words: &mut Words<'_>) -> Result<Question, TextError> {
     let node = next(words)?;
     match node {
         Node::Expr(_) | Node::Pat(_) | Node::Binding(_) => Ok(Question::RootOf(node)),
-        Node::Type(_) | Node::Label(_) | Node::Lifetime(_) => Err(words.reject()),
+        Node::Type(_) | Node::Label(_) | Node::Lifetime(_) => Err(TextError::Syntax),
     }
 }
 
