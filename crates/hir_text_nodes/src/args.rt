@@ -253,11 +253,11 @@ fn join_bindings(
     answer: &mut Answer,
     bindings: &[AssociatedTypeBinding],
 ) -> Result<(), AllocError> {
-    let mut before = "";
+    let mut is_behind = false;
     for binding in bindings {
-        answer.join(before)?;
+        answer.join(if is_behind { "," } else { "" })?;
         join_binding(answer, binding)?;
-        before = ",";
+        is_behind = true;
     }
     Ok(())
 }

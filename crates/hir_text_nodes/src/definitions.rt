@@ -36,6 +36,7 @@ impl Read for LangItemTarget {
     }
 }
 
+// (what a `?` carries has only types that the function has a value of: so each id of a macro has a name below)
 impl Read for GenericDefId {
     fn read(words: &mut Words<'_>) -> Result<GenericDefId, TextError> {
         match LangItemTarget::read(words)? {
@@ -48,7 +49,8 @@ impl Read for GenericDefId {
             LangItemTarget::StaticId(id) => Ok(GenericDefId::StaticId(id)),
             LangItemTarget::TraitId(id) => Ok(GenericDefId::TraitId(id)),
             LangItemTarget::TypeAliasId(id) => Ok(GenericDefId::TypeAliasId(id)),
-            LangItemTarget::EnumVariantId(_) | LangItemTarget::MacroId(_) => Err(TextError::Syntax),
+            LangItemTarget::EnumVariantId(_) => Err(TextError::Syntax),
+            LangItemTarget::MacroId(_macro_id) => Err(TextError::Syntax),
         }
     }
 }
@@ -65,8 +67,8 @@ impl Read for DefWithBodyId {
             | LangItemTarget::EnumId(_)
             | LangItemTarget::TraitId(_)
             | LangItemTarget::ImplId(_)
-            | LangItemTarget::TypeAliasId(_)
-            | LangItemTarget::MacroId(_) => Err(TextError::Syntax),
+            | LangItemTarget::TypeAliasId(_) => Err(TextError::Syntax),
+            LangItemTarget::MacroId(_macro_id) => Err(TextError::Syntax),
         }
     }
 }
@@ -83,8 +85,8 @@ impl Read for VariantId {
             | LangItemTarget::EnumId(_)
             | LangItemTarget::TraitId(_)
             | LangItemTarget::ImplId(_)
-            | LangItemTarget::TypeAliasId(_)
-            | LangItemTarget::MacroId(_) => Err(TextError::Syntax),
+            | LangItemTarget::TypeAliasId(_) => Err(TextError::Syntax),
+            LangItemTarget::MacroId(_macro_id) => Err(TextError::Syntax),
         }
     }
 }

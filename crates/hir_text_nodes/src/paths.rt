@@ -241,15 +241,15 @@ impl Write for ModPath {
 
 /// Writes segments with their arguments, joined by `::`.
 pub fn join_segments(answer: &mut Answer, segments: PathSegments<'_>) -> Result<(), AllocError> {
-    let mut before = "";
+    let mut is_behind = false;
     for segment in segments.iter() {
-        answer.join(before)?;
+        answer.join(if is_behind { "::" } else { "" })?;
         join_segment(answer, segment.name)?;
         match segment.args_and_bindings {
             Some(args) => join_args(answer, args)?,
             None => {}
         }
-        before = "::";
+        is_behind = true;
     }
     Ok(())
 }
