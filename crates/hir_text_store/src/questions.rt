@@ -145,6 +145,26 @@ fn read_on_sources(word: &[u8], words: &mut Words<'_>) -> Result<Option<Question
     }))
 }
 
+/// Reads a question on what is below a node or above it, or on sources.
+fn read_on_tree(word: &[u8], words: &mut Words<'_>) -> Result<Option<Question>, TextError> {
+    Ok(Some(match word {
+        b"children" => Question::Visited(Walk::Children(next(words)?)),
+        b"children-without-pats" => { Question::Visited(Walk::ChildrenWithoutPats(next(words)?)) }
+        b"walk-pats" => Question::Visited(Walk::Pats(next(words)?)),
+        b"walk-pats-shallow" => Question::Visited(Walk::PatsShallow(next(words)?)),
+        b"bindings-in" => Question::Visited(Walk::Bindings(next(words)?)),
+        b"exprs-in" => Question::Visited(Walk::Exprs(next(words)?)),
+        b"child-pats" => Question::ChildPats(next(words)?),
+        b"root-of" => read_root_of(words)?,
+        b"node-parent" => Question::Parent(next(words)?),
+        b"ancestors" => Question::Ancestors(next(words)?),
+        b"enclosing-closure" => Question::EnclosingClosure(next(words)?),
+        b"enclosing-loop" => Question::EnclosingLoop(next(words)?),
+        b"jump-target" => Question::JumpTarget(next(words)?),
+        _ => return read_on_sources(word, words),
+    }))
+}
+
 /// Returns how many labels a store has, of which it has no list.
 fn count_labels(store: &ExpressionStore) -> usize {
     let mut count: usize = 0;
@@ -334,21 +354,6 @@ impl Question {
             b"store-lines" => Question::StoreLines,
             b"has" => read_has(words)?,
             b"calls" => read_calls(words)?,
-            b"children" => Question::Visited(Walk::Children(next(words)?)),
-            b"children-without-pats" => {
-                Question::Visited(Walk::ChildrenWithoutPats(next(words)?))
-            }
-            b"walk-pats" => Question::Visited(Walk::Pats(next(words)?)),
-            b"walk-pats-shallow" => Question::Visited(Walk::PatsShallow(next(words)?)),
-            b"bindings-in" => Question::Visited(Walk::Bindings(next(words)?)),
-            b"exprs-in" => Question::Visited(Walk::Exprs(next(words)?)),
-            b"child-pats" => Question::ChildPats(next(words)?),
-            b"root-of" => read_root_of(words)?,
-            b"node-parent" => Question::Parent(next(words)?),
-            b"ancestors" => Question::Ancestors(next(words)?),
-            b"enclosing-closure" => Question::EnclosingClosure(next(words)?),
-            b"enclosing-loop" => Question::EnclosingLoop(next(words)?),
-            b"jump-target" => Question::JumpTarget(next(words)?),
             b"precedence" => Question::Precedence(next(words)?),
             b"negate" => Question::Negate(next(words)?),
             b"owner-of" => Question::OwnerOf(next(words)?),
@@ -357,7 +362,7 @@ impl Question {
             b"closure-for-coroutine" => Question::ClosureForCoroutine(next(words)?),
             b"sound" => Question::Sound(next(words)?),
             b"bound-path" => Question::BoundPath(next(words)?),
-            _ => return read_on_sources(word, words),
+            _ => return read_on_tree(word, words),
         }))
     }
 
