@@ -69,8 +69,8 @@ pub(crate) fn next_plain(words: &mut Words<'_>) -> Result<PlainDef, TextError> {
         LangItemTarget::ConstId(id) => Ok(PlainDef::Const(id)),
         LangItemTarget::FunctionId(_)
         | LangItemTarget::StructId(_)
-        | LangItemTarget::EnumVariantId(_)
-        | LangItemTarget::MacroId(_) => Err(words.reject()),
+        | LangItemTarget::EnumVariantId(_) => Err(TextError::Syntax),
+        LangItemTarget::MacroId(_macro_id) => Err(TextError::Syntax),
     }
 }
 

@@ -48,7 +48,7 @@ impl Read for GenericArg {
                 let expr = lettered(words)?;
                 Ok(GenericArg::Const(ConstRef { expr }))
             }
-            None => Err(words.reject()),
+            None => Err(TextError::Syntax),
         }
     }
 }
@@ -102,7 +102,7 @@ fn read_list(words: &mut Words<'_>) -> Result<Seq<GenericArg>, TextError> {
 /// Takes the name of an associated type, which doesn't read like a number.
 fn read_name(words: &mut Words<'_>) -> Result<Name, TextError> {
     if next_letter(words).is_some() {
-        return Err(words.reject());
+        return Err(TextError::Syntax);
     }
     Read::read(words)
 }
@@ -122,7 +122,7 @@ fn opt_args(words: &mut Words<'_>, depth: u8) -> Result<Option<GenericArgs>, Tex
         return Ok(None);
     }
     if depth == 0 {
-        return Err(words.reject());
+        return Err(TextError::Syntax);
     }
     Ok(Some(read_within(words, depth - 1)?))
 }
@@ -253,11 +253,11 @@ fn join_bindings(
     answer: &mut Answer,
     bindings: &[AssociatedTypeBinding],
 ) -> Result<(), AllocError> {
-    let mut before = "";
+    let mut is_behind = false;
     for binding in bindings {
-        answer.join(before)?;
+        answer.join(if is_behind { "," } else { "" })?;
         join_binding(answer, binding)?;
-        before = ",";
+        is_behind = true;
     }
     Ok(())
 }
@@ -339,7 +339,7 @@ impl Read for TypeBound {
         } else if words.eat(b"T") {
             read_trait(words, TraitBoundModifier::None)
         } else {
-            Err(words.reject())
+            Err(TextError::Syntax)
         }
     }
 }

@@ -30,7 +30,7 @@ impl Read for Statement {
             },
             b"macro" => Statement::Item(Item::MacroDef(part(words)?)),
             b"item" => Statement::Item(Item::Other),
-            _ => return Err(words.reject()),
+            _ => return Err(TextError::Syntax),
         })
     }
 }
@@ -129,7 +129,7 @@ fn read_kind(words: &mut Words<'_>) -> Result<ClosureKind, TextError> {
         b"async" => CoroutineKind::Async,
         b"gen" => CoroutineKind::Gen,
         b"async-gen" => CoroutineKind::AsyncGen,
-        _ => return Err(words.reject()),
+        _ => return Err(TextError::Syntax),
     };
     if !words.eat(b":") {
         return Ok(ClosureKind::CoroutineClosure(kind));
@@ -138,7 +138,7 @@ fn read_kind(words: &mut Words<'_>) -> Result<ClosureKind, TextError> {
         b"block" => CoroutineSource::Block,
         b"closure" => CoroutineSource::Closure,
         b"fn" => CoroutineSource::Fn,
-        _ => return Err(words.reject()),
+        _ => return Err(TextError::Syntax),
     };
     Ok(ClosureKind::Coroutine { kind, source })
 }

@@ -31,11 +31,12 @@ impl Read for LangItemTarget {
             b"Macro2Id" => LangItemTarget::MacroId(MacroId::Macro2Id(number(words)?)),
             b"MacroRulesId" => LangItemTarget::MacroId(MacroId::MacroRulesId(number(words)?)),
             b"ProcMacroId" => LangItemTarget::MacroId(MacroId::ProcMacroId(number(words)?)),
-            _ => return Err(words.reject()),
+            _ => return Err(TextError::Syntax),
         })
     }
 }
 
+// (what a `?` carries has only types that the function has a value of: so each id of a macro has a name below)
 impl Read for GenericDefId {
     fn read(words: &mut Words<'_>) -> Result<GenericDefId, TextError> {
         match LangItemTarget::read(words)? {
@@ -48,7 +49,8 @@ impl Read for GenericDefId {
             LangItemTarget::StaticId(id) => Ok(GenericDefId::StaticId(id)),
             LangItemTarget::TraitId(id) => Ok(GenericDefId::TraitId(id)),
             LangItemTarget::TypeAliasId(id) => Ok(GenericDefId::TypeAliasId(id)),
-            LangItemTarget::EnumVariantId(_) | LangItemTarget::MacroId(_) => Err(words.reject()),
+            LangItemTarget::EnumVariantId(_) => Err(TextError::Syntax),
+            LangItemTarget::MacroId(_macro_id) => Err(TextError::Syntax),
         }
     }
 }
@@ -65,8 +67,8 @@ impl Read for DefWithBodyId {
             | LangItemTarget::EnumId(_)
             | LangItemTarget::TraitId(_)
             | LangItemTarget::ImplId(_)
-            | LangItemTarget::TypeAliasId(_)
-            | LangItemTarget::MacroId(_) => Err(words.reject()),
+            | LangItemTarget::TypeAliasId(_) => Err(TextError::Syntax),
+            LangItemTarget::MacroId(_macro_id) => Err(TextError::Syntax),
         }
     }
 }
@@ -83,8 +85,8 @@ impl Read for VariantId {
             | LangItemTarget::EnumId(_)
             | LangItemTarget::TraitId(_)
             | LangItemTarget::ImplId(_)
-            | LangItemTarget::TypeAliasId(_)
-            | LangItemTarget::MacroId(_) => Err(words.reject()),
+            | LangItemTarget::TypeAliasId(_) => Err(TextError::Syntax),
+            LangItemTarget::MacroId(_macro_id) => Err(TextError::Syntax),
         }
     }
 }
@@ -102,7 +104,7 @@ impl Read for NamedDef {
             LangItemTarget::EnumVariantId(id) => Ok(NamedDef::EnumVariantId(id)),
             LangItemTarget::ConstId(id) => Ok(NamedDef::ConstId(id)),
             LangItemTarget::MacroId(id) => Ok(NamedDef::MacroId(id)),
-            LangItemTarget::ImplId(_) => Err(words.reject()),
+            LangItemTarget::ImplId(_) => Err(TextError::Syntax),
         }
     }
 }
@@ -114,7 +116,7 @@ impl Read for ExpressionStoreOwnerId {
             b"body" => ExpressionStoreOwnerId::Body(next(words)?),
             b"signature" => ExpressionStoreOwnerId::Signature(next(words)?),
             b"fields" => ExpressionStoreOwnerId::VariantFields(next(words)?),
-            _ => return Err(words.reject()),
+            _ => return Err(TextError::Syntax),
         })
     }
 }

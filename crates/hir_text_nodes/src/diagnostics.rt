@@ -15,7 +15,7 @@ impl Read for MissingBodyItemKind {
             b"Const" => Ok(MissingBodyItemKind::Const),
             b"Static" => Ok(MissingBodyItemKind::Static),
             b"TypeAlias" => Ok(MissingBodyItemKind::TypeAlias),
-            _ => Err(words.reject()),
+            _ => Err(TextError::Syntax),
         }
     }
 }
@@ -67,7 +67,7 @@ impl Read for ExpressionStoreDiagnostics {
                 node: next(words)?,
                 kind: next(words)?,
             },
-            _ => return Err(words.reject()),
+            _ => return Err(TextError::Syntax),
         })
     }
 }

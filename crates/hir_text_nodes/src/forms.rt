@@ -94,29 +94,25 @@ pub(crate) fn next_quoted(words: &mut Words<'_>) -> Result<Text, TextError> {
 
 impl Read for u8 {
     fn read(words: &mut Words<'_>) -> Result<u8, TextError> {
-        let number = words.big()?;
-        words.known(u8::try_from(number).ok())
+        Ok(u8::try_from(words.big()?)?)
     }
 }
 
 impl Read for u16 {
     fn read(words: &mut Words<'_>) -> Result<u16, TextError> {
-        let number = words.big()?;
-        words.known(u16::try_from(number).ok())
+        Ok(u16::try_from(words.big()?)?)
     }
 }
 
 impl Read for u32 {
     fn read(words: &mut Words<'_>) -> Result<u32, TextError> {
-        let number = words.big()?;
-        words.known(u32::try_from(number).ok())
+        Ok(u32::try_from(words.big()?)?)
     }
 }
 
 impl Read for u64 {
     fn read(words: &mut Words<'_>) -> Result<u64, TextError> {
-        let number = words.big()?;
-        words.known(u64::try_from(number).ok())
+        Ok(u64::try_from(words.big()?)?)
     }
 }
 

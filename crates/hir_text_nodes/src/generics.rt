@@ -138,7 +138,7 @@ fn read_limit(words: &mut Words<'_>) -> Result<RawVisibility, TextError> {
         b"crate" => Ok(RawVisibility::PubCrate),
         b"self" => Ok(RawVisibility::PubSelf),
         b"in" => Ok(RawVisibility::Module(part(words)?)),
-        _ => Err(words.reject()),
+        _ => Err(TextError::Syntax),
     }
 }
 
@@ -197,7 +197,7 @@ impl Read for FieldsShape {
             b"record" => Ok(FieldsShape::Record),
             b"tuple" => Ok(FieldsShape::Tuple),
             b"unit" => Ok(FieldsShape::Unit),
-            _ => Err(words.reject()),
+            _ => Err(TextError::Syntax),
         }
     }
 }

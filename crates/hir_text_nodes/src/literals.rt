@@ -18,7 +18,7 @@ impl Read for BuiltinInt {
             b"i32" => Ok(BuiltinInt::I32),
             b"i64" => Ok(BuiltinInt::I64),
             b"i128" => Ok(BuiltinInt::I128),
-            _ => Err(words.reject()),
+            _ => Err(TextError::Syntax),
         }
     }
 }
@@ -32,7 +32,7 @@ impl Read for BuiltinUint {
             b"u32" => Ok(BuiltinUint::U32),
             b"u64" => Ok(BuiltinUint::U64),
             b"u128" => Ok(BuiltinUint::U128),
-            _ => Err(words.reject()),
+            _ => Err(TextError::Syntax),
         }
     }
 }
@@ -44,7 +44,7 @@ impl Read for BuiltinFloat {
             b"f32" => Ok(BuiltinFloat::F32),
             b"f64" => Ok(BuiltinFloat::F64),
             b"f128" => Ok(BuiltinFloat::F128),
-            _ => Err(words.reject()),
+            _ => Err(TextError::Syntax),
         }
     }
 }
@@ -60,7 +60,7 @@ fn next_char(words: &mut Words<'_>) -> Result<char, TextError> {
     let mut chars = text.as_str().chars();
     match (chars.next(), chars.next()) {
         (Some(c), None) => Ok(c),
-        (_, _) => Err(words.reject()),
+        (_, _) => Err(TextError::Syntax),
     }
 }
 
@@ -72,7 +72,7 @@ fn next_float(words: &mut Words<'_>) -> Result<FloatTypeWrapper, TextError> {
     words.expect(b" ")?;
     let digits = words.take_of(Part::Decimal);
     if digits.is_empty() {
-        return Err(words.reject());
+        return Err(TextError::Syntax);
     }
     Ok(FloatTypeWrapper::new(Text::from_string(words.text_of(digits)?)))
 }
@@ -87,7 +87,7 @@ pub(crate) fn read_literal(form: &[u8], words: &mut Words<'_>) -> Result<Literal
         b"bool" => match words.next_keyword()? {
             b"true" => Ok(Literal::Bool(true)),
             b"false" => Ok(Literal::Bool(false)),
-            _ => Err(words.reject()),
+            _ => Err(TextError::Syntax),
         },
         b"int" => {
             words.expect(b" ")?;
@@ -98,7 +98,7 @@ pub(crate) fn read_literal(form: &[u8], words: &mut Words<'_>) -> Result<Literal
             Ok(Literal::Uint(words.big()?, opt_next(words)?))
         }
         b"float" => Ok(Literal::Float(next_float(words)?, opt_next(words)?)),
-        _ => Err(words.reject()),
+        _ => Err(TextError::Syntax),
     }
 }
 
@@ -199,7 +199,7 @@ pub(crate) fn next_binary(words: &mut Words<'_>) -> Result<Option<BinaryOp>, Tex
     }
     words.expect(b" ")?;
     let word = words.take_of(Part::Word);
-    Ok(Some(words.known(binary_op(word))?))
+    Ok(Some(binary_op(word).ok_or(TextError::Syntax)?))
 }
 
 /// Takes the operator before an expression.
@@ -209,6 +209,6 @@ pub(crate) fn next_unary(words: &mut Words<'_>) -> Result<UnaryOp, TextError> {
         b"*" => Ok(UnaryOp::Deref),
         b"!" => Ok(UnaryOp::Not),
         b"-" => Ok(UnaryOp::Neg),
-        _ => Err(words.reject()),
+        _ => Err(TextError::Syntax),
     }
 }

@@ -25,7 +25,7 @@ impl Read for Node {
             b"binding" => Node::Binding(part(words)?),
             b"label" => Node::Label(part(words)?),
             b"lifetime" => Node::Lifetime(part(words)?),
-            _ => return Err(words.reject()),
+            _ => return Err(TextError::Syntax),
         })
     }
 }
@@ -36,7 +36,7 @@ impl Read for ExprOrPatId {
             Node::Expr(id) => Ok(ExprOrPatId::ExprId(id)),
             Node::Pat(id) => Ok(ExprOrPatId::PatId(id)),
             Node::Type(_) | Node::Binding(_) | Node::Label(_) | Node::Lifetime(_) => {
-                Err(words.reject())
+                Err(TextError::Syntax)
             }
         }
     }
@@ -48,7 +48,7 @@ impl Read for NodeId {
             Node::Expr(id) => Ok(NodeId::Expr(id)),
             Node::Pat(id) => Ok(NodeId::Pat(id)),
             Node::Type(id) => Ok(NodeId::TypeRef(id)),
-            Node::Binding(_) | Node::Label(_) | Node::Lifetime(_) => Err(words.reject()),
+            Node::Binding(_) | Node::Label(_) | Node::Lifetime(_) => Err(TextError::Syntax),
         }
     }
 }

@@ -51,7 +51,7 @@ fn read_kind(words: &mut Words<'_>) -> Result<(PathKind, bool), TextError> {
 fn read_segment(words: &mut Words<'_>) -> Result<Name, TextError> {
     let mut ahead = *words;
     if kind_of(ahead.bare_name()).is_some() {
-        return Err(words.reject());
+        return Err(TextError::Syntax);
     }
     Read::read(words)
 }
@@ -137,7 +137,7 @@ fn read_places(words: &mut Words<'_>, places: Places) -> Result<Places, TextErro
     };
     let count = usize::from(count);
     if count < places.len() && has_args(&places.as_slice()[count..]) {
-        return Err(words.reject());
+        return Err(TextError::Syntax);
     }
     let mut places = places.into_vec();
     places.truncate(count);
@@ -241,15 +241,15 @@ impl Write for ModPath {
 
 /// Writes segments with their arguments, joined by `::`.
 pub fn join_segments(answer: &mut Answer, segments: PathSegments<'_>) -> Result<(), AllocError> {
-    let mut before = "";
+    let mut is_behind = false;
     for segment in segments.iter() {
-        answer.join(before)?;
+        answer.join(if is_behind { "::" } else { "" })?;
         join_segment(answer, segment.name)?;
         match segment.args_and_bindings {
             Some(args) => join_args(answer, args)?,
             None => {}
         }
-        before = "::";
+        is_behind = true;
     }
     Ok(())
 }

@@ -64,7 +64,7 @@ fn read_inner(word: &[u8], words: &mut Words<'_>) -> Result<Pat, TextError> {
         b"deref" => Ok(Pat::Deref {
             inner: next(words)?,
         }),
-        _ => Err(words.reject()),
+        _ => Err(TextError::Syntax),
     }
 }
 

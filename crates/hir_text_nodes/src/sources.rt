@@ -92,7 +92,7 @@ impl Read for Edition {
             b"2018" => Ok(Edition::Edition2018),
             b"2021" => Ok(Edition::Edition2021),
             b"2024" => Ok(Edition::Edition2024),
-            _ => Err(words.reject()),
+            _ => Err(TextError::Syntax),
         }
     }
 }
@@ -114,7 +114,7 @@ impl Read for ExternAbi {
             b"C-unwind" => Ok(ExternAbi::CUnwind),
             b"system" => Ok(ExternAbi::System),
             b"system-unwind" => Ok(ExternAbi::SystemUnwind),
-            _ => Err(words.reject()),
+            _ => Err(TextError::Syntax),
         }
     }
 }

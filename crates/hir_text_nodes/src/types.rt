@@ -37,7 +37,7 @@ impl Read for TypeRef {
             b"dyn" => Ok(TypeRef::DynTrait(next_bounds(words)?)),
             b"param" => Ok(TypeRef::TypeParam(next(words)?)),
             b"pattern" => Ok(TypeRef::PatternType(next(words)?, next(words)?)),
-            _ => Err(words.reject()),
+            _ => Err(TextError::Syntax),
         }
     }
 }
@@ -152,7 +152,7 @@ impl Read for LifetimeRef {
             b"placeholder" => Ok(LifetimeRef::Placeholder),
             b"param" => Ok(LifetimeRef::Param(next(words)?)),
             b"error" => Ok(LifetimeRef::Error),
-            _ => Err(words.reject()),
+            _ => Err(TextError::Syntax),
         }
     }
 }

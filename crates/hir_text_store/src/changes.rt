@@ -53,6 +53,26 @@ where
     }
 }
 
+/// Reads where a node comes from, or what a source became.
+fn read_source(word: &[u8], words: &mut Words<'_>) -> Result<Option<Change>, TextError> {
+    Ok(Some(match word {
+        b"map-expr" => Change::MapExpr(next(words)?, next(words)?),
+        b"map-pat" => Change::MapPat(next(words)?, next(words)?),
+        b"map-label" => Change::MapLabel(next(words)?, next(words)?),
+        b"map-type" => Change::MapType(next(words)?, next(words)?),
+        b"map-lifetime" => Change::MapLifetime(next(words)?, next(words)?),
+        b"expansion" => Change::Expansion(next(words)?, next(words)?),
+        b"map-expr-back" => Change::MapExprBack(next(words)?, next(words)?),
+        b"map-pat-back" => Change::MapPatBack(next(words)?, next(words)?),
+        b"map-label-back" => Change::MapLabelBack(next(words)?, next(words)?),
+        b"map-type-back" => Change::MapTypeBack(next(words)?, next(words)?),
+        b"map-lifetime-back" => Change::MapLifetimeBack(next(words)?, next(words)?),
+        b"map-field-back" => Change::MapFieldBack(next(words)?, next(words)?),
+        b"map-pat-field-back" => Change::MapPatFieldBack(next(words)?, next(words)?),
+        _ => return Ok(None),
+    }))
+}
+
 impl Change {
     /// Reads what a line adds, after its first word; `None` where no such line begins with it.
     pub fn read(word: &[u8], words: &mut Words<'_>) -> Result<Option<Change>, TextError> {
@@ -71,20 +91,7 @@ impl Change {
             b"block-scope" => Change::BlockScope(next(words)?),
             b"definition" => Change::Definition(next(words)?, next(words)?),
             b"diagnostic" => Change::Diagnostic(next(words)?),
-            b"map-expr" => Change::MapExpr(next(words)?, next(words)?),
-            b"map-pat" => Change::MapPat(next(words)?, next(words)?),
-            b"map-label" => Change::MapLabel(next(words)?, next(words)?),
-            b"map-type" => Change::MapType(next(words)?, next(words)?),
-            b"map-lifetime" => Change::MapLifetime(next(words)?, next(words)?),
-            b"expansion" => Change::Expansion(next(words)?, next(words)?),
-            b"map-expr-back" => Change::MapExprBack(next(words)?, next(words)?),
-            b"map-pat-back" => Change::MapPatBack(next(words)?, next(words)?),
-            b"map-label-back" => Change::MapLabelBack(next(words)?, next(words)?),
-            b"map-type-back" => Change::MapTypeBack(next(words)?, next(words)?),
-            b"map-lifetime-back" => Change::MapLifetimeBack(next(words)?, next(words)?),
-            b"map-field-back" => Change::MapFieldBack(next(words)?, next(words)?),
-            b"map-pat-field-back" => Change::MapPatFieldBack(next(words)?, next(words)?),
-            _ => return Ok(None),
+            _ => return read_source(word, words),
         }))
     }
 

@@ -89,7 +89,7 @@ impl Read for Arena {
             b"labels" => Ok(Arena::Labels),
             b"types" => Ok(Arena::Types),
             b"lifetimes" => Ok(Arena::Lifetimes),
-            _ => Err(words.reject()),
+            _ => Err(TextError::Syntax),
         }
     }
 }
@@ -118,7 +118,7 @@ fn read_root_of(words: &mut Words<'_>) -> Result<Question, TextError> {
     let node = next(words)?;
     match node {
         Node::Expr(_) | Node::Pat(_) | Node::Binding(_) => Ok(Question::RootOf(node)),
-        Node::Type(_) | Node::Label(_) | Node::Lifetime(_) => Err(words.reject()),
+        Node::Type(_) | Node::Label(_) | Node::Lifetime(_) => Err(TextError::Syntax),
     }
 }
 
@@ -142,6 +142,26 @@ fn read_on_sources(word: &[u8], words: &mut Words<'_>) -> Result<Option<Question
         b"expansion-of" => Question::ExpansionOf(next(words)?),
         b"expansions" => Question::Expansions,
         _ => return Ok(None),
+    }))
+}
+
+/// Reads a question on what is below a node or above it, or on sources.
+fn read_on_tree(word: &[u8], words: &mut Words<'_>) -> Result<Option<Question>, TextError> {
+    Ok(Some(match word {
+        b"children" => Question::Visited(Walk::Children(next(words)?)),
+        b"children-without-pats" => { Question::Visited(Walk::ChildrenWithoutPats(next(words)?)) }
+        b"walk-pats" => Question::Visited(Walk::Pats(next(words)?)),
+        b"walk-pats-shallow" => Question::Visited(Walk::PatsShallow(next(words)?)),
+        b"bindings-in" => Question::Visited(Walk::Bindings(next(words)?)),
+        b"exprs-in" => Question::Visited(Walk::Exprs(next(words)?)),
+        b"child-pats" => Question::ChildPats(next(words)?),
+        b"root-of" => read_root_of(words)?,
+        b"node-parent" => Question::Parent(next(words)?),
+        b"ancestors" => Question::Ancestors(next(words)?),
+        b"enclosing-closure" => Question::EnclosingClosure(next(words)?),
+        b"enclosing-loop" => Question::EnclosingLoop(next(words)?),
+        b"jump-target" => Question::JumpTarget(next(words)?),
+        _ => return read_on_sources(word, words),
     }))
 }
 
@@ -334,21 +354,6 @@ impl Question {
             b"store-lines" => Question::StoreLines,
             b"has" => read_has(words)?,
             b"calls" => read_calls(words)?,
-            b"children" => Question::Visited(Walk::Children(next(words)?)),
-            b"children-without-pats" => {
-                Question::Visited(Walk::ChildrenWithoutPats(next(words)?))
-            }
-            b"walk-pats" => Question::Visited(Walk::Pats(next(words)?)),
-            b"walk-pats-shallow" => Question::Visited(Walk::PatsShallow(next(words)?)),
-            b"bindings-in" => Question::Visited(Walk::Bindings(next(words)?)),
-            b"exprs-in" => Question::Visited(Walk::Exprs(next(words)?)),
-            b"child-pats" => Question::ChildPats(next(words)?),
-            b"root-of" => read_root_of(words)?,
-            b"node-parent" => Question::Parent(next(words)?),
-            b"ancestors" => Question::Ancestors(next(words)?),
-            b"enclosing-closure" => Question::EnclosingClosure(next(words)?),
-            b"enclosing-loop" => Question::EnclosingLoop(next(words)?),
-            b"jump-target" => Question::JumpTarget(next(words)?),
             b"precedence" => Question::Precedence(next(words)?),
             b"negate" => Question::Negate(next(words)?),
             b"owner-of" => Question::OwnerOf(next(words)?),
@@ -357,7 +362,7 @@ impl Question {
             b"closure-for-coroutine" => Question::ClosureForCoroutine(next(words)?),
             b"sound" => Question::Sound(next(words)?),
             b"bound-path" => Question::BoundPath(next(words)?),
-            _ => return read_on_sources(word, words),
+            _ => return read_on_tree(word, words),
         }))
     }
 

@@ -146,7 +146,7 @@ fn put_source<A, B: Write>(
     answer: &mut Answer,
     words: (&str, &str),
     id: Idx<A>,
-    source: InFile<SyntaxNodePtr>,
+    source: &InFile<SyntaxNodePtr>,
     meaning: &Option<B>,
 ) -> Result<(), AllocError> {
     let (back, forth) = words;
@@ -163,8 +163,8 @@ fn put_expr_sources(
     id: ExprId,
 ) -> Result<(), AllocError> {
     if let Ok(source) = sources.expr_syntax(id) {
-        let source = syntax(source);
-        let meaning = sources.node_expr(pointer(source));
+        let source = &syntax(source);
+        let meaning = sources.node_expr(pointer(*source));
         put_source(answer, ("map-expr-back", "map-expr"), id, source, &meaning)?;
     }
     if sources.has_field_syntax(id) {
@@ -180,8 +180,8 @@ fn put_pat_sources(
     id: PatId,
 ) -> Result<(), AllocError> {
     if let Ok(source) = sources.pat_syntax(id) {
-        let source = syntax(source);
-        let meaning = sources.node_pat(pointer(source));
+        let source = &syntax(source);
+        let meaning = sources.node_pat(pointer(*source));
         put_source(answer, ("map-pat-back", "map-pat"), id, source, &meaning)?;
     }
     if sources.has_pat_field_syntax(id) {
@@ -202,8 +202,8 @@ fn put_label_sources(
             break;
         }
         if sources.has_label_syntax(id) {
-            let source = syntax(sources.label_syntax(id));
-            let meaning = sources.node_label(pointer(source));
+            let source = &syntax(sources.label_syntax(id));
+            let meaning = sources.node_label(pointer(*source));
             put_source(
                 answer,
                 ("map-label-back", "map-label"),
@@ -230,8 +230,8 @@ fn put_sources(
     }
     for (id, _) in store.types() {
         if let Ok(source) = sources.type_syntax(id) {
-            let source = syntax(source);
-            let meaning = sources.node_type(pointer(source));
+            let source = &syntax(source);
+            let meaning = sources.node_type(pointer(*source));
             put_source(answer, ("map-type-back", "map-type"), id, source, &meaning)?;
         }
     }

@@ -8,20 +8,15 @@ use std::alloc::AllocError;
 fn read_byte(words: &mut Words<'_>) -> Result<u8, TextError> {
     let digits = words.take(2);
     if digits.len() < 2 {
-        return Err(words.reject());
+        return Err(TextError::Syntax);
     }
-    match number_of(digits, 16) {
-        Some(number) => words.known(u8::try_from(number).ok()),
-        None => Err(words.reject()),
-    }
+    let number = number_of(digits, 16).ok_or(TextError::Syntax)?;
+    Ok(u8::try_from(number)?)
 }
 
 /// Returns the character of a number in hexadecimal; none where there is no such character.
 fn char_of(digits: &[u8]) -> Option<char> {
-    match u32::try_from(number_of(digits, 16)?) {
-        Ok(number) => char::from_u32(number),
-        Err(_) => None,
-    }
+    char::from_u32(u32::try_from(number_of(digits, 16)?).ok()?)
 }
 
 /// Takes a character's number in braces, in hexadecimal.
@@ -30,9 +25,9 @@ fn read_char(words: &mut Words<'_>) -> Result<char, TextError> {
     let digits = words.keyword();
     words.expect(b"}")?;
     if digits.is_empty() {
-        return Err(words.reject());
+        return Err(TextError::Syntax);
     }
-    words.known(char_of(digits))
+    char_of(digits).ok_or(TextError::Syntax)
 }
 
 /// Takes what comes after a backslash, and puts the bytes that it stands for after the others.
@@ -48,8 +43,8 @@ fn read_escape(words: &mut Words<'_>, bytes: &mut Vec<u8>) -> Result<(), TextErr
         [b'0'] => 0,
         [b'\\'] => b'\\',
         [b'"'] => b'"',
-        [] => return Err(words.reject_next()),
-        _ => return Err(words.reject()),
+        [] => return Err(words.stop_here()),
+        _ => return Err(TextError::Syntax),
     };
     Ok(bytes.push(byte)?)
 }
@@ -82,7 +77,7 @@ pub(crate) fn read_quoted(words: &mut Words<'_>, has_bytes: bool) -> Result<Vec<
             return Ok(bytes);
         }
     }
-    Err(words.reject_next())
+    Err(words.stop_here())
 }
 
 fn hex(digit: u8) -> char {

@@ -2,6 +2,7 @@
 
 use hir_collections::ArenaFault;
 use std::alloc::{AllocError, AllocFailed};
+use std::num::TryFromIntError;
 
 /// Why a line can't be read or answered.
 #[derive(Clone, Copy, PartialEq, Eq, Debug, Drop)]
@@ -10,6 +11,13 @@ pub enum TextError {
     Syntax,
     /// Out of memory.
     Memory,
+}
+
+/// A number that its type doesn't have.
+impl From<TryFromIntError> for TextError {
+    fn from(_: TryFromIntError) -> TextError {
+        TextError::Syntax
+    }
 }
 
 impl From<AllocError> for TextError {

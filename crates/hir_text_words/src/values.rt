@@ -25,20 +25,19 @@ impl<'a> Words<'a> {
     /// Takes a number below 2^128, without a sign or a needless zero.
     pub fn big(&mut self) -> Result<u128, TextError> {
         match self.take_of(Part::Digits) {
-            [] | [b'0', _, ..] => Err(self.reject()),
-            digits => self.known(number_of(digits, 10)),
+            [] | [b'0', _, ..] => Err(TextError::Syntax),
+            digits => number_of(digits, 10).ok_or(TextError::Syntax),
         }
     }
 
     /// Takes a number of 128 bits with a sign: a `-` where it is negative.
     pub fn int(&mut self) -> Result<i128, TextError> {
         if !self.eat(b"-") {
-            let number = self.big()?;
-            return self.known(i128::try_from(number).ok());
+            return Ok(i128::try_from(self.big()?)?);
         }
         match 0i128.checked_sub_unsigned(self.big()?) {
             Some(number) if number < 0 => Ok(number),
-            Some(_) | None => Err(self.reject()),
+            Some(_) | None => Err(TextError::Syntax),
         }
     }
 
@@ -49,7 +48,7 @@ impl<'a> Words<'a> {
         }
         let bare = self.bare_name();
         if bare.is_empty() {
-            return Err(self.reject());
+            return Err(TextError::Syntax);
         }
         self.text_of(bare)
     }
@@ -59,7 +58,7 @@ impl<'a> Words<'a> {
         let bytes = quotes::read_quoted(self, false)?;
         match String::from_utf8(bytes) {
             Ok(text) => Ok(text),
-            Err(_) => Err(self.reject()),
+            Err(_) => Err(TextError::Syntax),
         }
     }
 
@@ -69,10 +68,10 @@ impl<'a> Words<'a> {
     }
 
     /// Returns a copy of bytes that were taken, which are a text.
-    pub fn text_of(&mut self, bytes: &[u8]) -> Result<String, TextError> {
+    pub fn text_of(&self, bytes: &[u8]) -> Result<String, TextError> {
         match std::str::from_utf8(bytes) {
             Ok(text) => Ok(String::from_str(self.alloc(), text)?),
-            Err(_) => Err(self.reject()),
+            Err(_) => Err(TextError::Syntax),
         }
     }
 }

@@ -65,9 +65,8 @@ pub(crate) fn is_bare(text: &[u8]) -> bool {
 pub struct Words<'a> {
     alloc: Global,
     rest: &'a [u8],
-    /// What is left from where the word begins that is being read; once reading stopped, from there.
+    /// What is left from where the word begins that is being read.
     stop: &'a [u8],
-    is_stopped: bool,
 }
 
 impl<'a> Words<'a> {
@@ -77,7 +76,6 @@ impl<'a> Words<'a> {
             alloc,
             rest: line,
             stop: line,
-            is_stopped: false,
         }
     }
 
@@ -96,37 +94,21 @@ impl<'a> Words<'a> {
         self.rest.len().saturating_add(1)
     }
 
-    /// Returns what is left from where reading stopped first, after a call that couldn't read: from the
-    /// beginning of the word that isn't what is wanted, or from the first byte of it that isn't.
+    /// Returns what is left from where reading stopped, after a call that couldn't read: from the beginning of
+    /// the word that isn't what is wanted, or from the first byte of it that isn't.
     pub fn stop(&self) -> &'a [u8] {
         self.stop
     }
 
     /// A word begins here, or a part of one.
     fn begin_word(&mut self) {
-        if !self.is_stopped {
-            self.stop = self.rest;
-        }
-    }
-
-    /// Says that the word that was read last isn't what is wanted: the line is a bad one.
-    pub fn reject(&mut self) -> TextError {
-        self.is_stopped = true;
-        TextError::Syntax
+        self.stop = self.rest;
     }
 
     /// Says that what comes next isn't what is wanted.
-    pub(crate) fn reject_next(&mut self) -> TextError {
+    pub(crate) fn stop_here(&mut self) -> TextError {
         self.begin_word();
-        self.reject()
-    }
-
-    /// Returns what the word that was read last stands for; without a value it isn't what is wanted.
-    pub fn known<T: Drop>(&mut self, value: Option<T>) -> Result<T, TextError> {
-        match value {
-            Some(value) => Ok(value),
-            None => Err(self.reject()),
-        }
+        TextError::Syntax
     }
 
     /// Takes as many bytes as this, or all.
@@ -162,7 +144,7 @@ impl<'a> Words<'a> {
     /// Takes these bytes. A word begins after a space.
     pub fn expect(&mut self, text: &[u8]) -> Result<(), TextError> {
         if !self.eat(text) {
-            return Err(self.reject_next());
+            return Err(self.stop_here());
         }
         if text == b" ".as_slice() {
             self.begin_word();
@@ -185,7 +167,7 @@ impl<'a> Words<'a> {
         if self.is_end() {
             Ok(())
         } else {
-            Err(self.reject_next())
+            Err(self.stop_here())
         }
     }
 
