@@ -13,7 +13,7 @@ use hir_defs::{
 };
 use hir_store_core::Missing;
 use hir_text_nodes::{
-    Answer, TextError, Words, next, put, put_abi, put_each, put_found, put_prefixed, syntax,
+    Answer, TextError, Words, next, put, put_abi, put_each, put_prefixed, syntax,
 };
 use hir_text_store::{differs, refuse_missing};
 use std::alloc::AllocError;
@@ -70,10 +70,10 @@ fn with_def(words: &mut Words<'_>, question: GenericsQuestion) -> Result<Questio
 }
 
 /// Writes the name of what has one, or `none`.
-fn put_name(answer: &mut Answer, found: Result<Option<&Text>, Missing>) -> Result<(), AllocError> {
-    match found {
-        Ok(name) => put_found(answer, &name),
-        Err(missing) => refuse_missing(answer, missing),
+fn put_name(answer: &mut Answer, name: Option<&Text>) -> Result<(), AllocError> {
+    match name {
+        Some(name) => put(answer, name),
+        None => answer.word("none"),
     }
 }
 
@@ -93,8 +93,14 @@ fn put_entry<F: Drop, S: Drop, P: Drop, V: Drop, B: Drop, M: Drop, N: Drop>(
     question: &EntryQuestion,
 ) -> Result<(), AllocError> {
     match question {
-        EntryQuestion::Name(def) => put_name(answer, tables.name(*def)),
-        EntryQuestion::CrateName(id) => put_name(answer, tables.crate_name(*id)),
+        EntryQuestion::Name(def) => match tables.name(*def) {
+            Ok(name) => put_name(answer, name),
+            Err(missing) => refuse_missing(answer, missing),
+        },
+        EntryQuestion::CrateName(id) => match tables.crate_name(*id) {
+            Ok(name) => put_name(answer, name),
+            Err(missing) => refuse_missing(answer, missing),
+        },
         EntryQuestion::Parent(id) => match tables.variant_parent(*id) {
             Ok(parent) => put(answer, &parent),
             Err(missing) => refuse_missing(answer, missing),
