@@ -1,10 +1,10 @@
 -- What a call leaves, from what it leaves in the session that it took.
 use Rattle.std.proofs.Common.{◌≡◌, ℕ, Bool, true, false, List, Option, None, Some, cond, length, refl, sym, subst, inr}
 use Rattle.hir_text.specs.declared.buffered.BufferedSession.{BufferedSession}
-use Rattle.hir_text.specs.declared.lines.Outcome.{Outcome}
+use Rattle.hir_text_words.specs.declared.lines.Outcome.{Outcome}
 use Rattle.hir_text.specs.Buffered.{kept}
 use Rattle.hir_text.specs.Sealed.{IsNew, SessionTakes}
-use Rattle.hir_text.specs.TakesText.{TakesText}
+use Rattle.hir_text_words.specs.TakesText.{TakesText}
 use Rattle.hir_c.specs.declared.report.Report.{Report}
 use Rattle.hir_c.specs.Report.{status_of, is_taken, NamesLine}
 use Rattle.hir_c.specs.Calls.{Tells, Opens, AsksKept, Fetches, FetchesKept}

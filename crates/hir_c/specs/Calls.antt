@@ -1,10 +1,10 @@
 -- What each call leaves: in the handle, in the caller's buffer, in the report, and as its status.
 use Rattle.std.specs.Prelude.{◌≡◌, ℕ, List, Option, None, Some, cond, length, min, drop, ◌⊎◌}
 use Rattle.hir_text.specs.declared.buffered.BufferedSession.{BufferedSession}
-use Rattle.hir_text.specs.declared.lines.Outcome.{Outcome}
+use Rattle.hir_text_words.specs.declared.lines.Outcome.{Outcome}
 use Rattle.hir_text.specs.Buffered.{kept, with_front, Asks}
 use Rattle.hir_text.specs.Sealed.{IsNew, SessionTakes}
-use Rattle.hir_text.specs.TakesText.{TakesText}
+use Rattle.hir_text_words.specs.TakesText.{TakesText}
 use Rattle.hir_c.specs.declared.report.Report.{Report}
 use Rattle.hir_c.specs.Report.{status_of, is_taken, NamesLine, IsBlank}
 

@@ -1,7 +1,7 @@
 -- The numbers that C sees of an outcome, and a report.
 use Rattle.std.specs.Prelude.{◌≡◌, ℕ, Bool, true, false}
-use Rattle.hir_text.specs.declared.lines.Outcome.{Outcome}
-use Rattle.hir_text.specs.declared.lines.Outcome.TheVariants as outcome
+use Rattle.hir_text_words.specs.declared.lines.Outcome.{Outcome}
+use Rattle.hir_text_words.specs.declared.lines.Outcome.TheVariants as outcome
 use Rattle.hir_c.specs.declared.report.Report.{Report}
 
 -- the status of a text that was taken so

@@ -3,8 +3,8 @@
 use crate::halt::Halt;
 use crate::report::Report;
 use crate::rows::Row;
-use hir_golden_probes::answer;
-use hir_text::{Answers, Entry, TextFault};
+use crate::session::answer;
+use hir_text_words::{Answers, Entry, TextFault};
 use std::alloc::{AllocError, Global};
 
 /// A line that makes or asks something, and the answer lines that come after it. The title is asked

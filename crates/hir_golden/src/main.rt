@@ -8,6 +8,7 @@ mod halt;
 mod repeats;
 mod report;
 mod rows;
+mod session;
 
 use files::compare_all;
 use std::process::ExitCode;

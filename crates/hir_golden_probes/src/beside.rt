@@ -53,11 +53,7 @@ fn next_question(words: &mut Words<'_>) -> Result<Question, TextError> {
 
 /// Writes the answer to what comes after the word `beside`.
 // A match in place of `?`, behind which the prover's borrow checker can't carry the definition.
-fn ask_beside(
-    tables: &Tables,
-    words: &mut Words<'_>,
-    answer: &mut Answer,
-) -> Result<(), TextError> {
+fn ask_rest(tables: &Tables, words: &mut Words<'_>, answer: &mut Answer) -> Result<(), TextError> {
     match next(words) {
         Ok(def) => match next_question(words) {
             Ok(question) => Ok(ask_looked_up(tables, &def, &question, answer)?),
@@ -68,13 +64,13 @@ fn ask_beside(
 }
 
 /// `beside DEF QUESTION`
-pub(crate) fn ask(
+pub fn ask_beside(
     alloc: Global,
     tables: &Tables,
     words: Words<'_>,
 ) -> Result<Option<Answer>, TextError> {
     let mut words = words;
     let mut answer = Answer::new(alloc);
-    ask_beside(tables, &mut words, &mut answer)?;
+    ask_rest(tables, &mut words, &mut answer)?;
     Ok(Some(answer))
 }

@@ -204,7 +204,7 @@ fn write_fault(
 }
 
 /// `fault TYPE VARIANT`
-pub(crate) fn ask(alloc: Global, words: Words<'_>) -> Result<Option<Answer>, TextError> {
+pub fn ask_fault(alloc: Global, words: Words<'_>) -> Result<Option<Answer>, TextError> {
     let mut words = words;
     let Some(kind) = value_of(&KINDS, words.next_keyword()?) else {
         return Err(TextError::Syntax);

@@ -12,7 +12,9 @@ mod probes;
 mod program;
 mod roots;
 mod scopes;
-mod session;
 mod try_walks;
 
-pub use session::answer;
+pub use beside::ask_beside;
+pub use faults::ask_fault;
+pub use probes::{Probe, read_probe};
+pub use program::{add_input, answer_run, read_run};

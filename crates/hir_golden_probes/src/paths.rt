@@ -11,7 +11,7 @@ use std::alloc::{AllocError, Global};
 
 /// Segments by their number.
 #[derive(Clone, Copy, Drop)]
-pub(crate) enum Cut {
+pub enum Cut {
     Get,
     Skip,
     Take,
@@ -19,7 +19,7 @@ pub(crate) enum Cut {
 
 /// A part of a path, or what is made of it.
 #[derive(Clone, Copy, Drop)]
-pub(crate) enum Part {
+pub enum Part {
     Kind,
     Anchor,
     Names,

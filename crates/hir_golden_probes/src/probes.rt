@@ -6,15 +6,14 @@ use crate::try_walks::{TryWalk, Way};
 use crate::{blocks, equality, paths, precedences, roots, scopes, try_walks};
 use hir_base::{BlockId, ExprPrecedence, ExpressionStoreOwnerId};
 use hir_node::Path;
-use hir_text::Asked;
-use hir_text_defs::Finished;
+use hir_text_defs::{Asked, Finished};
 use hir_text_nodes::{Answer, Node, TextError, Words, next, opt_next, put_found, put_yes_or_no};
 use std::alloc::Global;
 use std::collections::BTreeMap;
 
 /// A probe of a store.
 #[derive(Drop)]
-pub(crate) enum Probe {
+pub enum Probe {
     Equal(Node, Node),
     Copies,
     SameStore,
@@ -76,7 +75,7 @@ fn read_front(word: &[u8], words: &mut Words<'_>) -> Result<Option<Probe>, TextE
 }
 
 /// Reads the probe of a line, where it is one.
-pub(crate) fn read_probe(word: &[u8], words: Words<'_>) -> Result<Option<Probe>, TextError> {
+pub fn read_probe(word: &[u8], words: Words<'_>) -> Result<Option<Probe>, TextError> {
     let mut words = words;
     let Some(probe) = read_front(word, &mut words)? else {
         return Ok(None);
@@ -87,7 +86,7 @@ pub(crate) fn read_probe(word: &[u8], words: Words<'_>) -> Result<Option<Probe>,
 
 impl Probe {
     /// Writes the answer to the probe.
-    pub(crate) fn ask(
+    pub fn ask(
         &self,
         alloc: Global,
         kept: Option<&Finished>,

@@ -135,7 +135,7 @@ impl Sink for FailingWriter {
 }
 
 /// Adds to the input of the program what a line has after its `>`.
-pub(crate) fn add_input(input: &mut Vec<u8>, words: Words<'_>) -> Result<(), TextError> {
+pub fn add_input(input: &mut Vec<u8>, words: Words<'_>) -> Result<(), TextError> {
     let mut words = words;
     if words.is_at(b"\"") {
         let bytes = words.bytes()?;
@@ -209,7 +209,7 @@ fn write_run(
 }
 
 /// Runs the program over this input and reports.
-pub(crate) fn run(
+pub fn answer_run(
     alloc: Global,
     input: &[u8],
     good_reads: u64,
@@ -228,7 +228,7 @@ pub(crate) fn run(
 }
 
 /// Reads how many calls of the reader, and of the writer, come before the one that fails.
-pub(crate) fn read_run(words: Words<'_>) -> Result<(u64, u64), TextError> {
+pub fn read_run(words: Words<'_>) -> Result<(u64, u64), TextError> {
     let mut words = words;
     let good_reads = good_calls(&mut words, b"reads:")?;
     let good_writes = good_calls(&mut words, b"writes:")?;

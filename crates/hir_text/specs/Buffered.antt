@@ -1,9 +1,9 @@
 -- What is kept of the answers, and what is written of them.
 use Rattle.std.specs.Prelude.{◌≡◌, ℕ, List, ◌++◌, length, min, take, drop}
 use Rattle.hir_text.specs.declared.buffered.BufferedSession.{BufferedSession}
-use Rattle.hir_text.specs.declared.lines.Outcome.{Outcome}
+use Rattle.hir_text_words.specs.declared.lines.Outcome.{Outcome}
 use Rattle.hir_text.specs.Sealed.{SessionTakes}
-use Rattle.hir_text.specs.TakesText.{TakesText}
+use Rattle.hir_text_words.specs.TakesText.{TakesText}
 
 -- the answers that weren't fetched yet
 abbrev pub kept : BufferedSession → List ℕ

@@ -2,7 +2,7 @@
 -- a caller knows it of a session only where a call says so.
 use Rattle.std.specs.Prelude.{ℕ, List}
 use Rattle.hir_text.specs.declared.session.Session.{Session}
-use Rattle.hir_text.specs.Line.{Taken}
+use Rattle.hir_text_words.specs.Line.{Taken}
 
 -- no line has been taken in this session: `Session::new` made it
 pub IsNew : Session → Type 0

@@ -2,10 +2,8 @@
 
 ghost use Rattle.std.specs.Prelude.{◌≡◌, ◌≤◌, [], length, IfOk};
 
-use crate::lines::Outcome;
 use crate::session::Session;
-use crate::stop::Stop;
-use crate::take_lines::take_lines;
+use hir_text_words::{Outcome, Stop, take_lines};
 use std::alloc::{AllocError, Global};
 
 /// A session, and the answers to the text that it took last, of which a part was fetched.
@@ -46,7 +44,7 @@ impl Drop for BufferedSession {
 impl BufferedSession {
     ghost use Rattle.std.specs.Prelude.{min, drop};
     ghost use Rattle.hir_text.specs.Sealed.{SessionTakes, IsNew};
-    ghost use Rattle.hir_text.specs.TakesText.{TakesText};
+    ghost use Rattle.hir_text_words.specs.TakesText.{TakesText};
     ghost use Rattle.hir_text.specs.Buffered.{kept, with_front, Asks};
 
     /// A session in which no line has been taken.

@@ -1,8 +1,8 @@
 //! What a session keeps of the stores that are asked.
 
-use crate::asked::Asked;
 use crate::scopes::ScopeQuestion;
 use hir_base::ExpressionStoreOwnerId;
+use hir_text_defs::Asked;
 use hir_text_nodes::{Answer, TextError};
 use std::alloc::{AllocError, Global};
 use std::collections::HashMap;

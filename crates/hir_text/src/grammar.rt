@@ -3,8 +3,8 @@
 use crate::scopes::ScopeQuestion;
 use crate::texts::{StoreText, TablesText};
 use hir_base::ExpressionStoreOwnerId;
-use hir_text_defs::{BodyQuestion, Definition, Entry, Part};
-use hir_text_nodes::{TextError, Words, next};
+use hir_text_defs::{Asked, BodyQuestion, Definition, Entry, Part};
+use hir_text_nodes::{Answer, TextError, Words, next};
 use hir_text_store::Change;
 
 /// What a line makes that has no answer.
@@ -97,6 +97,17 @@ fn read_ask(word: &[u8], words: &mut Words<'_>) -> Result<Option<Ask>, TextError
         b"finish" => Ok(Some(Ask::Finish)),
         b"of" => Ok(Some(Ask::Select(next(words)?))),
         _ => read_question(word, words),
+    }
+}
+
+impl OfStore {
+    /// Writes the answer of a store.
+    pub(crate) fn ask(&self, asked: &Asked<'_>, answer: &mut Answer) -> Result<(), TextError> {
+        match self {
+            OfStore::Store(question) => Ok(question.ask(asked.store, asked.sources, answer)?),
+            OfStore::Body(question) => Ok(question.ask(asked.body(), answer)?),
+            OfStore::Text(text) => text.ask(asked, answer),
+        }
     }
 }
 

@@ -1,6 +1,5 @@
 //! The scopes, captures and uses of a store, which are made where the first question comes that needs them.
 
-use crate::asked::Asked;
 use crate::caches::StoreCache;
 use crate::scopes::{OfScopes, ScopeQuestion};
 use crate::usages::{NewName, OfUsages};
@@ -10,6 +9,7 @@ use hir_collections::{Seq, TryClone};
 use hir_defs::{Body, BodyFault, Param};
 use hir_node::{BindingId, ExprId, PatId};
 use hir_scope::{ExprScopes, ScopesFault};
+use hir_text_defs::Asked;
 use hir_text_nodes::{Answer, TextError, put_each};
 use hir_text_store::{answer_unknown, refuse};
 use hir_usages::Usages;

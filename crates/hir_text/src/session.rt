@@ -1,34 +1,20 @@
 //! A session: what lines have made so far, and the questions on it.
 
-ghost use Rattle.std.specs.Prelude.{ℕ, List, IfOk};
+ghost use Rattle.std.specs.Prelude.{IfOk};
 
-use crate::asked::Asked;
 use crate::caches::StoreCaches;
 use crate::grammar::{Ask, Line, Make, OfStore};
 use crate::nodes::Nodes;
 use crate::scope_cache::ScopeCache;
 use crate::scopes::ScopeQuestion;
-use crate::stop::Stop;
 use hir_base::ExpressionStoreOwnerId;
 use hir_defs::{StoreOf, Tables};
 use hir_store::ExpressionStore;
 use hir_store_core::Missing;
-use hir_text_defs::{Definition, Finished, Pending, Subject};
-use hir_text_nodes::{Answer, TextError, Words};
+use hir_text_defs::{Asked, Definition, Finished, Pending, Subject};
 use hir_text_store::refuse_missing;
+use hir_text_words::{Answer, Lines, Stop, TextError, Words, is_skipped};
 use std::alloc::{AllocError, Global};
-
-/// What takes the lines of a text one after the other.
-pub trait Lines {
-    ghost use Rattle.hir_text.specs.Line.{Taken};
-
-    // Whether a line that is taken in the first state may make the second of it, with this answer.
-    ghost takes: { Self → List ℕ → Self → Taken → Type 0 };
-
-    /// Does what a line says. Returns the answer, where the line has one.
-    fn take_line(&mut self, line: &[u8]) -> Result<Option<Answer>, TextError>
-        ensures { takes self.old line.now self.new result };
-}
 
 /// What lines have made so far: nodes, a finished store, parameters that wait for a definition, and tables.
 pub struct Session {
@@ -53,14 +39,6 @@ impl Drop for Session {
             caches,
             stop: _,
         } = self;
-    }
-}
-
-/// Returns whether a line is skipped: an empty one, a remark or an answer.
-pub fn is_skipped(line: &[u8]) -> bool {
-    match line {
-        [] => true,
-        [first, ..] => matches!(first, b'#' | b'=' | b'!' | b'|'),
     }
 }
 

@@ -1,6 +1,5 @@
 //! Questions on texts: what expressions, patterns, paths, bodies, fields and signatures are printed as.
 
-use crate::asked::Asked;
 use hir_base::{
     DefWithBodyId, Edition, ExpressionStoreOwnerId, FunctionId, GenericDefId, StructId, VariantId,
 };
@@ -10,7 +9,7 @@ use hir_pretty::{
     PrettyBody, PrintFault, print_body_hir, print_expr_hir, print_function, print_pat_hir,
     print_path, print_signature, print_struct, print_variant_body_hir,
 };
-use hir_text_defs::asked_def;
+use hir_text_defs::{Asked, asked_def};
 use hir_text_nodes::{Answer, TextError, Words, next, opt_edition, prefixed};
 use hir_text_store::{answer_unknown, refuse_missing};
 use std::alloc::Global;

@@ -1,12 +1,12 @@
 //! Questions on the uses of a body, and on what a new name of a binding would change.
 
-use crate::asked::Asked;
 use crate::texts::put_printed;
 use hir_base::{DefWithBodyId, Edition, Name};
 use hir_defs::Body;
 use hir_node::{BindingId, ExprOrPatId};
 use hir_pretty::print_body_hir;
 use hir_scope::ExprScopes;
+use hir_text_defs::Asked;
 use hir_text_nodes::{Answer, TextError, Write, put, put_each};
 use hir_usages::{RenameFault, Usage, Usages, rename, renamed};
 use std::alloc::AllocError;

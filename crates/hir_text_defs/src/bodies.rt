@@ -66,17 +66,6 @@ pub fn asked_def(owner: Option<ExpressionStoreOwnerId>) -> Option<DefWithBodyId>
     }
 }
 
-/// Returns the body of this owner, where it is one.
-pub fn asked_body(tables: &Tables, owner: Option<ExpressionStoreOwnerId>) -> Option<&Body> {
-    match asked_def(owner) {
-        Some(def) => match Body::of(tables, def) {
-            Ok(body) => Some(body),
-            Err(_) => None,
-        },
-        None => None,
-    }
-}
-
 /// A question on the parameters of a body.
 #[derive(Clone, Copy)]
 pub enum BodyQuestion {

@@ -1,6 +1,7 @@
 //! Lines that make bodies, signatures and entries of tables, and questions on them.
 #![tactic(auto)]
 
+mod asked;
 mod bodies;
 mod definitions;
 mod entries;
@@ -9,7 +10,8 @@ mod pending;
 mod questions;
 mod subject;
 
-pub use bodies::{BodyQuestion, asked_body, asked_def};
+pub use asked::Asked;
+pub use bodies::{BodyQuestion, asked_def};
 pub use definitions::Definition;
 pub use entries::Entry;
 pub use pending::{Part, Pending};

@@ -2,10 +2,10 @@
 use Rattle.std.specs.Prelude.{◌≡◌, ℕ, ◌+◌, ◌-◌, ◌^◌, min, Bool, false, cond, List, [], ◌∷◌, ◌++◌, None, Some, Result, Ok, Err, ◌⊎◌}
 use Rattle.hir_text_words.specs.declared.text_error.TextError.{TextError}
 use Rattle.hir_text_words.specs.declared.text_error.TextError.TheVariants as stop
-use Rattle.hir_text.specs.declared.lines.Outcome.{Outcome}
-use Rattle.hir_text.specs.declared.lines.Outcome.TheVariants as outcome
-use Rattle.hir_text.specs.AnswerLines.{answer_lines, text_lines}
-use Rattle.hir_text.specs.Line.{Taken}
+use Rattle.hir_text_words.specs.declared.lines.Outcome.{Outcome}
+use Rattle.hir_text_words.specs.declared.lines.Outcome.TheVariants as outcome
+use Rattle.hir_text_words.specs.AnswerLines.{answer_lines, text_lines}
+use Rattle.hir_text_words.specs.Line.{Taken}
 
 -- the number of the next line
 abbrev pub next_number : ℕ → ℕ

@@ -1,7 +1,7 @@
 use Rattle.std.proofs.Common.{subst}
 use Rattle.memchr.specs.Find.{is_byte, IsFirstByte}
-use Rattle.hir_text.proofs.LineLemmas.{first_line, only_line}
-use Rattle.hir_text.proofs.lines.cut_line.Goals as goal
+use Rattle.hir_text_words.proofs.LineLemmas.{first_line, only_line}
+use Rattle.hir_text_words.proofs.lines.cut_line.Goals as goal
 
 pub returns-in-Some : goal.returns-in-Some
 returns-in-Some c = first_line _ _ (subst (IsFirstByte (is_byte 10) c.args.text.now) c.in-Some.is c.memchr.ensures)

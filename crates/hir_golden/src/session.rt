@@ -1,10 +1,11 @@
 //! A session that takes the lines of `hir_text`, and those that only golden cases ask.
 
-use crate::probes::{Probe, read_probe};
-use crate::{beside, faults, program};
-use hir_text::{Answers, Asked, Lines, Session, TextFault, answer_by, is_skipped};
-use hir_text_defs::Finished;
-use hir_text_nodes::{Answer, TextError, Words};
+use hir_golden_probes::{
+    Probe, add_input, answer_run, ask_beside, ask_fault, read_probe, read_run,
+};
+use hir_text::Session;
+use hir_text_defs::{Asked, Finished};
+use hir_text_words::{Answer, Answers, Lines, TextError, TextFault, Words, answer_by, is_skipped};
 use std::alloc::{AllocError, Global};
 use std::mem;
 
@@ -22,7 +23,7 @@ struct GoldenSession {
 }
 
 /// Reads a text of lines, and gives the answer to each question in it.
-pub fn answer(alloc: Global, text: &str, answers: &mut Answers) -> Result<(), TextFault> {
+pub(crate) fn answer(alloc: Global, text: &str, answers: &mut Answers) -> Result<(), TextFault> {
     let mut session = GoldenSession::new(alloc)?;
     answer_by(&mut session, text, answers)
 }
@@ -77,10 +78,10 @@ impl GoldenSession {
 
     /// `run ..`: runs the program over the input so far, and begins a new input.
     fn run(&mut self, words: Words<'_>) -> Result<Option<Answer>, TextError> {
-        let (good_reads, good_writes) = program::read_run(words)?;
+        let (good_reads, good_writes) = read_run(words)?;
         let input = mem::replace(&mut self.input, Vec::new(self.alloc));
         let mut answer = Answer::new(self.alloc);
-        program::run(
+        answer_run(
             self.alloc,
             input.as_slice(),
             good_reads,
@@ -112,14 +113,14 @@ impl GoldenSession {
     fn take_once(&mut self, line: &[u8]) -> Result<Option<Answer>, TextError> {
         let mut words = Words::new(self.alloc, line);
         if words.eat(b">") {
-            program::add_input(&mut self.input, words)?;
+            add_input(&mut self.input, words)?;
             return Ok(None);
         }
         match words.keyword() {
             b"keep" => self.keep(words),
             b"run" => self.run(words),
-            b"fault" => faults::ask(self.alloc, words),
-            b"beside" => beside::ask(self.alloc, self.session.tables(), words),
+            b"fault" => ask_fault(self.alloc, words),
+            b"beside" => ask_beside(self.alloc, self.session.tables(), words),
             word => match read_probe(word, words)? {
                 Some(probe) => self.ask(&probe),
                 None => {

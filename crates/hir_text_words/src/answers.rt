@@ -1,10 +1,10 @@
 //! The answers to the questions of a text, and why a text isn't read to its end.
 
 ghost use Rattle.std.specs.Prelude.{◌≡◌, ◌++◌, cond, IfOk};
-ghost use Rattle.hir_text.specs.AnswerLines.{space_of, with_line, answer_lines};
+ghost use Rattle.hir_text_words.specs.AnswerLines.{space_of, with_line, answer_lines};
 
+use crate::answer::Answer;
 use crate::lines::cut_line;
-use hir_text_nodes::Answer;
 use std::alloc::{AllocError, AllocFailed, Global};
 
 /// Why a text isn't read to its end.

@@ -1,11 +1,10 @@
 //! The store that questions ask.
 
-use crate::grammar::OfStore;
+use crate::bodies::asked_def;
+use crate::subject::Subject;
 use hir_base::ExpressionStoreOwnerId;
 use hir_defs::{Body, StoreOf, Tables};
 use hir_store::{ExpressionStore, ExpressionStoreSourceMap};
-use hir_text_defs::{Subject, asked_body};
-use hir_text_nodes::{Answer, TextError};
 
 /// The store that questions ask, with its source map, its owner where it has one, and the tables.
 #[derive(Clone, Copy, Drop)]
@@ -21,8 +20,8 @@ pub struct Asked<'a> {
 }
 
 impl<'a> Asked<'a> {
-    /// Returns the store that questions ask, where there is one.
-    pub(crate) fn new(tables: &'a Tables, subject: &'a Subject) -> Option<Asked<'a>> {
+    /// Returns what this subject is in these tables, where there is one.
+    pub fn new(tables: &'a Tables, subject: &'a Subject) -> Option<Asked<'a>> {
         match subject {
             Subject::Store(finished) => Some(Asked {
                 tables,
@@ -45,17 +44,12 @@ impl<'a> Asked<'a> {
 
     /// Returns the body whose store is asked, where it is a body's.
     pub fn body(&self) -> Option<&'a Body> {
-        asked_body(self.tables, self.owner)
-    }
-}
-
-impl OfStore {
-    /// Writes the answer of a store.
-    pub(crate) fn ask(&self, asked: &Asked<'_>, answer: &mut Answer) -> Result<(), TextError> {
-        match self {
-            OfStore::Store(question) => { Ok(question.ask(asked.store, asked.sources, answer)?) }
-            OfStore::Body(question) => Ok(question.ask(asked.body(), answer)?),
-            OfStore::Text(text) => text.ask(asked, answer),
+        match asked_def(self.owner) {
+            Some(def) => match Body::of(self.tables, def) {
+                Ok(body) => Some(body),
+                Err(_) => None,
+            },
+            None => None,
         }
     }
 }

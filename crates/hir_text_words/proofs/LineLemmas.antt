@@ -6,7 +6,7 @@ use Rattle.std.proofs.lemmas.List.{get_or_default, take_rest}
 use Rattle.std.proofs.lemmas.List.Splits.{slice_split_at, slice_split_none}
 use Rattle.std.proofs.lemmas.Grind.{common_steps}
 use Rattle.memchr.specs.Find.{is_byte, IsFirstByte}
-use Rattle.hir_text.specs.AnswerLines.{is_line_end, text_lines}
+use Rattle.hir_text_words.specs.AnswerLines.{is_line_end, text_lines}
 
 false_unless : (b : Bool) → (b ≡ true → ⊥) → b ≡ false
 false_unless true h = absurd (h refl)

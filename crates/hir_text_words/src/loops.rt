@@ -1,12 +1,12 @@
-//! The loop over the lines of a text, whose answers are written one after the other.
+//! The loops over the lines of a text: one writes the answers one after the other, one lists them.
 
 ghost use Rattle.std.specs.Prelude.{◌≡◌, Ok, Some};
-ghost use Rattle.hir_text.specs.TakesText.{Adds, DoesLine, TakesText};
+ghost use Rattle.hir_text_words.specs.TakesText.{Adds, DoesLine, TakesText};
 
-use crate::answers::write_lines;
-use crate::lines::{Outcome, cut_line};
-use crate::session::Lines;
-use hir_text_nodes::{Answer, TextError};
+use crate::answer::Answer;
+use crate::answers::{Answers, TextFault, write_lines};
+use crate::lines::{Lines, Outcome, cut_line};
+use crate::text_error::TextError;
 
 /// Writes an answer as lines after the others; returns whether it is a refusal. Where memory is refused,
 /// nothing of it is written. What is in `scratch` is overwritten.
@@ -40,8 +40,9 @@ fn take_line<L: Lines>(
     }
 }
 
-/// Does what the lines of a text say, one after the other, and leaves their answers.
-pub(crate) fn take_lines<L: Lines>(
+/// Does what the lines of a text say, one after the other, and leaves their answers in place of what was
+/// there. What is in `scratch` is overwritten.
+pub fn take_lines<L: Lines>(
     lines: &mut L,
     text: &[u8],
     scratch: &mut Vec<u8>,
@@ -64,4 +65,35 @@ pub(crate) fn take_lines<L: Lines>(
         left = behind;
     }
     outcome
+}
+
+/// Does what a line says, and puts its answer after the others, where it has one.
+fn list_answer<L: Lines>(
+    lines: &mut L,
+    number: usize,
+    line: &[u8],
+    answers: &mut Answers,
+) -> Result<(), TextError> {
+    if let Some(answer) = lines.take_line(line)? {
+        answers.push(number, answer)?;
+    }
+    Ok(())
+}
+
+/// Reads a text of lines by what takes them, and gives the answer to each question in it.
+pub fn answer_by<L: Lines>(
+    lines: &mut L,
+    text: &str,
+    answers: &mut Answers,
+) -> Result<(), TextFault> {
+    let mut number: usize = 0;
+    for line in text.split('\n') {
+        number = number.saturating_add(1);
+        match list_answer(lines, number, line.as_bytes(), answers) {
+            Ok(()) => {}
+            Err(TextError::Syntax) => return Err(TextFault::BadLine(number)),
+            Err(TextError::Memory) => return Err(TextFault::Memory),
+        }
+    }
+    Ok(())
 }

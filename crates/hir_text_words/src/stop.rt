@@ -1,6 +1,6 @@
 //! Where the reading of a bad line stopped, and why.
 
-use hir_text_nodes::Words;
+use crate::words::Words;
 
 /// Why a bad line is none of the grammar.
 #[derive(Clone, Copy, PartialEq, Eq, Debug, Drop)]
@@ -27,7 +27,7 @@ pub struct Stop {
 
 impl Stop {
     /// The first word of a line, with which no line begins.
-    pub(crate) fn unknown_word() -> Stop {
+    pub fn unknown_word() -> Stop {
         Stop {
             column: 1,
             reason: Reason::UnknownWord,
@@ -35,7 +35,7 @@ impl Stop {
     }
 
     /// The first byte that isn't UTF-8 of a line in which as many bytes as this are.
-    pub(crate) fn not_utf8(valid: usize) -> Stop {
+    pub fn not_utf8(valid: usize) -> Stop {
         Stop {
             column: valid.saturating_add(1),
             reason: Reason::NotUtf8,
@@ -43,7 +43,7 @@ impl Stop {
     }
 
     /// Where the words of a line could be read no further.
-    pub(crate) fn of(line: &[u8], words: &Words<'_>) -> Stop {
+    pub fn of(line: &[u8], words: &Words<'_>) -> Stop {
         let left = words.stop();
         let read = line.len().saturating_sub(left.len());
         Stop {
