@@ -13,8 +13,10 @@ mod texts;
 mod usages;
 
 pub use buffered::{BufferedSession, FirstPart};
+pub use hir_text_defs::Asked;
 pub use hir_text_words::{
-    Answer, Answers, Entry, Lines, Outcome, Reason, Stop, TextError, TextFault,
+    Answer, Answers, Entry, Lines, Outcome, Reason, Stop, TextError, TextFault, answer_by,
+    is_skipped,
 };
 pub use session::Session;
 pub use text::answer;
