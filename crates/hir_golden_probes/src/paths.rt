@@ -11,7 +11,7 @@ use std::alloc::{AllocError, Global};
 
 /// Segments by their number.
 #[derive(Clone, Copy, Drop)]
-pub enum Cut {
+pub(crate) enum Cut {
     Get,
     Skip,
     Take,
@@ -19,7 +19,7 @@ pub enum Cut {
 
 /// A part of a path, or what is made of it.
 #[derive(Clone, Copy, Drop)]
-pub enum Part {
+pub(crate) enum Part {
     Kind,
     Anchor,
     Names,

@@ -11,9 +11,9 @@ use hir_text_nodes::{Answer, Node, TextError, Words, next, opt_next, put_found, 
 use std::alloc::Global;
 use std::collections::BTreeMap;
 
-/// A probe of a store.
+/// What a probe asks.
 #[derive(Drop)]
-pub enum Probe {
+enum Kind {
     Equal(Node, Node),
     Copies,
     SameStore,
@@ -28,21 +28,25 @@ pub enum Probe {
     Path(Path, Part),
 }
 
-fn read_parens(words: &mut Words<'_>) -> Result<Probe, TextError> {
+/// A probe of a store.
+#[derive(Drop)]
+pub struct Probe(Kind);
+
+fn read_parens(words: &mut Words<'_>) -> Result<Kind, TextError> {
     let child = precedences::next_precedence(words)?;
-    Ok(Probe::Parens(child, precedences::next_precedence(words)?))
+    Ok(Kind::Parens(child, precedences::next_precedence(words)?))
 }
 
-fn read_path(words: &mut Words<'_>) -> Result<Probe, TextError> {
+fn read_path(words: &mut Words<'_>) -> Result<Kind, TextError> {
     let path = next(words)?;
     match paths::next_part(words) {
-        Ok(part) => Ok(Probe::Path(path, part)),
+        Ok(part) => Ok(Kind::Path(path, part)),
         Err(stop) => Err(stop),
     }
 }
 
 /// The walk that can stop of this word.
-fn read_walk(word: &[u8], words: &mut Words<'_>) -> Result<Option<Probe>, TextError> {
+fn read_walk(word: &[u8], words: &mut Words<'_>) -> Result<Option<Kind>, TextError> {
     let way = match word {
         b"try-children" => Way::Children,
         b"try-children-without-pats" => Way::ChildrenWithoutPats,
@@ -53,22 +57,22 @@ fn read_walk(word: &[u8], words: &mut Words<'_>) -> Result<Option<Probe>, TextEr
     };
     let from = next(words)?;
     let end = next(words)?;
-    Ok(Some(Probe::TryWalk(TryWalk { way, from, end })))
+    Ok(Some(Kind::TryWalk(TryWalk { way, from, end })))
 }
 
 /// The probe of this word, where it is one; the line may go on.
-fn read_front(word: &[u8], words: &mut Words<'_>) -> Result<Option<Probe>, TextError> {
+fn read_front(word: &[u8], words: &mut Words<'_>) -> Result<Option<Kind>, TextError> {
     Ok(Some(match word {
-        b"equal" => Probe::Equal(next(words)?, next(words)?),
-        b"copies" => Probe::Copies,
-        b"same-store" => Probe::SameStore,
-        b"same-sources" => Probe::SameSources,
-        b"same-scopes" => Probe::SameScopes,
-        b"counted-scopes" => Probe::CountedScopes,
-        b"scopes-by-tables" => Probe::ScopesByTables(opt_next(words)?),
-        b"counted-root-of" => Probe::CountedRoot(roots::next_rooted(words)?),
+        b"equal" => Kind::Equal(next(words)?, next(words)?),
+        b"copies" => Kind::Copies,
+        b"same-store" => Kind::SameStore,
+        b"same-sources" => Kind::SameSources,
+        b"same-scopes" => Kind::SameScopes,
+        b"counted-scopes" => Kind::CountedScopes,
+        b"scopes-by-tables" => Kind::ScopesByTables(opt_next(words)?),
+        b"counted-root-of" => Kind::CountedRoot(roots::next_rooted(words)?),
         b"parens" => read_parens(words)?,
-        b"blocks" => Probe::Blocks(blocks::read_maps(words)?),
+        b"blocks" => Kind::Blocks(blocks::read_maps(words)?),
         b"path" => read_path(words)?,
         _ => return read_walk(word, words),
     }))
@@ -77,11 +81,11 @@ fn read_front(word: &[u8], words: &mut Words<'_>) -> Result<Option<Probe>, TextE
 /// Reads the probe of a line, where it is one.
 pub fn read_probe(word: &[u8], words: Words<'_>) -> Result<Option<Probe>, TextError> {
     let mut words = words;
-    let Some(probe) = read_front(word, &mut words)? else {
+    let Some(kind) = read_front(word, &mut words)? else {
         return Ok(None);
     };
     words.end()?;
-    Ok(Some(probe))
+    Ok(Some(Probe(kind)))
 }
 
 impl Probe {
@@ -94,23 +98,23 @@ impl Probe {
         answer: &mut Answer,
     ) -> Result<(), TextError> {
         let store = asked.store;
-        match self {
-            Probe::Equal(first, second) => equality::equal(store, first, second, answer)?,
-            Probe::Copies => equality::copies(store, answer)?,
-            Probe::SameStore => equality::same_store(kept, store, answer)?,
-            Probe::SameSources => equality::same_sources(kept, asked.sources, answer)?,
-            Probe::SameScopes => scopes::ask_same(alloc, kept, asked, answer)?,
-            Probe::CountedScopes => scopes::ask_counted(alloc, asked, answer)?,
-            Probe::ScopesByTables(owner) => {
+        match &self.0 {
+            Kind::Equal(first, second) => equality::equal(store, first, second, answer)?,
+            Kind::Copies => equality::copies(store, answer)?,
+            Kind::SameStore => equality::same_store(kept, store, answer)?,
+            Kind::SameSources => equality::same_sources(kept, asked.sources, answer)?,
+            Kind::SameScopes => scopes::ask_same(alloc, kept, asked, answer)?,
+            Kind::CountedScopes => scopes::ask_counted(alloc, asked, answer)?,
+            Kind::ScopesByTables(owner) => {
                 scopes::ask_by_tables(alloc, asked, owner, answer)?;
             }
-            Probe::CountedRoot(node) => put_found(answer, &roots::counted_root_of(store, *node))?,
-            Probe::TryWalk(walk) => try_walks::ask(alloc, store, *walk, answer)?,
-            Probe::Parens(child, parent) => {
+            Kind::CountedRoot(node) => put_found(answer, &roots::counted_root_of(store, *node))?,
+            Kind::TryWalk(walk) => try_walks::ask(alloc, store, *walk, answer)?,
+            Kind::Parens(child, parent) => {
                 put_yes_or_no(answer, child.needs_parentheses_in(*parent))?;
             }
-            Probe::Blocks(maps) => blocks::write(store, maps, answer)?,
-            Probe::Path(path, part) => paths::write_part(alloc, path, *part, answer)?,
+            Kind::Blocks(maps) => blocks::write(store, maps, answer)?,
+            Kind::Path(path, part) => paths::write_part(alloc, path, *part, answer)?,
         }
         Ok(())
     }

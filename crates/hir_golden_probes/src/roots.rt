@@ -7,7 +7,7 @@ use hir_text_nodes::{Node, TextError, Words, next};
 
 /// A node of the kinds that are made for a root.
 #[derive(Clone, Copy, Drop)]
-pub enum Rooted {
+pub(crate) enum Rooted {
     Expr(ExprId),
     Pat(PatId),
     Binding(BindingId),

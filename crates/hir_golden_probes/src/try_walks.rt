@@ -9,7 +9,7 @@ use std::alloc::Global;
 
 /// What a walk goes over.
 #[derive(Clone, Copy, Drop)]
-pub enum Way {
+pub(crate) enum Way {
     Children,
     ChildrenWithoutPats,
     Pats,
@@ -19,10 +19,10 @@ pub enum Way {
 
 /// A walk from the node of a number that stops at the id of a number.
 #[derive(Clone, Copy, Drop)]
-pub struct TryWalk {
-    pub way: Way,
-    pub from: u32,
-    pub end: u32,
+pub(crate) struct TryWalk {
+    pub(crate) way: Way,
+    pub(crate) from: u32,
+    pub(crate) end: u32,
 }
 
 /// Why a walk stopped.
