@@ -112,15 +112,15 @@ impl GoldenSession {
     /// Does what a line says. Returns the answer, where the line has one.
     fn take_once(&mut self, line: &[u8]) -> Result<Option<Answer>, TextError> {
         let mut words = Words::new(self.alloc, line);
-        if words.eat(b">") {
+        if words.eat(">") {
             add_input(&mut self.input, words)?;
             return Ok(None);
         }
         match words.keyword() {
-            b"keep" => self.keep(words),
-            b"run" => self.run(words),
-            b"fault" => ask_fault(self.alloc, words),
-            b"beside" => ask_beside(self.alloc, self.session.tables(), words),
+            "keep" => self.keep(words),
+            "run" => self.run(words),
+            "fault" => ask_fault(self.alloc, words),
+            "beside" => ask_beside(self.alloc, self.session.tables(), words),
             word => match read_probe(word, words)? {
                 Some(probe) => self.ask(&probe),
                 None => {
@@ -151,7 +151,7 @@ impl Lines for GoldenSession {
 
     fn take_line(&mut self, line: &[u8]) -> Result<Option<Answer>, TextError> {
         let mut words = Words::new(self.alloc, line);
-        if !words.eat(b"again ") {
+        if !words.eat("again ") {
             return self.take_once(line);
         }
         match self.ask_again(words.rest())? {

@@ -15,7 +15,7 @@ pub(crate) fn read_maps(words: &mut Words<'_>) -> Result<BTreeMap<BlockId, u32>,
             break;
         }
         let block = next(words)?;
-        words.expect(b"=")?;
+        words.expect("=")?;
         let _ = maps.insert(block, u32::read(words)?)?;
     }
     Ok(maps)

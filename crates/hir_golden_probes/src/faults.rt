@@ -106,9 +106,9 @@ const FILL: [(&str, FillFault); 2] = [
 const END: [(&str, EndFailed); 1] = [("EndFailed", EndFailed)];
 
 /// The value beside this word.
-fn value_of<T: Copy>(table: &[(&str, T)], word: &[u8]) -> Option<T> {
+fn value_of<T: Copy>(table: &[(&str, T)], word: &str) -> Option<T> {
     for (text, value) in table {
-        if text.as_bytes() == word {
+        if *text == word {
             return Some(*value);
         }
     }
@@ -119,7 +119,7 @@ fn value_of<T: Copy>(table: &[(&str, T)], word: &[u8]) -> Option<T> {
 fn write<F: Display + Copy>(
     alloc: Global,
     faults: &[(&str, F)],
-    name: &[u8],
+    name: &str,
     answer: &mut Answer,
 ) -> Result<(), TextError> {
     let Some(fault) = value_of(faults, name) else {
@@ -129,34 +129,34 @@ fn write<F: Display + Copy>(
 }
 
 /// What is missing, of this name, with 0 for each number of its id.
-fn missing_of(name: &[u8]) -> Option<Missing> {
+fn missing_of(name: &str) -> Option<Missing> {
     let function: FunctionId = Id::from_raw(0);
     let parent = GenericDefId::FunctionId(function);
     match name {
-        b"Name" => Some(Missing::Name(NamedDef::FunctionId(function))),
-        b"Variant" => Some(Missing::Variant(Id::from_raw(0))),
-        b"Crate" => Some(Missing::Crate(Id::from_raw(0))),
-        b"Signature" => Some(Missing::Signature(parent)),
-        b"Body" => Some(Missing::Body(DefWithBodyId::FunctionId(function))),
-        b"Fields" => Some(Missing::Fields(VariantId::StructId(Id::from_raw(0)))),
-        b"TypeParam" => {
+        "Name" => Some(Missing::Name(NamedDef::FunctionId(function))),
+        "Variant" => Some(Missing::Variant(Id::from_raw(0))),
+        "Crate" => Some(Missing::Crate(Id::from_raw(0))),
+        "Signature" => Some(Missing::Signature(parent)),
+        "Body" => Some(Missing::Body(DefWithBodyId::FunctionId(function))),
+        "Fields" => Some(Missing::Fields(VariantId::StructId(Id::from_raw(0)))),
+        "TypeParam" => {
             let id = TypeOrConstParamId {
                 parent,
                 local_id: Idx::from_raw(0),
             };
             Some(Missing::TypeParam(TypeParamId::from_unchecked(id)))
         }
-        b"LifetimeParam" => Some(Missing::LifetimeParam(LifetimeParamId {
+        "LifetimeParam" => Some(Missing::LifetimeParam(LifetimeParamId {
             parent,
             local_id: Idx::from_raw(0),
         })),
-        b"DefMap" => Some(Missing::DefMap(Id::from_raw(0))),
+        "DefMap" => Some(Missing::DefMap(Id::from_raw(0))),
         _ => None,
     }
 }
 
 /// Writes what is missing, as it says it and as an error of it does.
-fn write_missing(alloc: Global, name: &[u8], answer: &mut Answer) -> Result<(), TextError> {
+fn write_missing(alloc: Global, name: &str, answer: &mut Answer) -> Result<(), TextError> {
     let Some(missing) = missing_of(name) else {
         return Err(TextError::Syntax);
     };
@@ -166,7 +166,7 @@ fn write_missing(alloc: Global, name: &[u8], answer: &mut Answer) -> Result<(), 
 }
 
 /// The same of an error that holds the first fault of its kind that has no parts.
-fn write_error(alloc: Global, name: &[u8], answer: &mut Answer) -> Result<(), TextError> {
+fn write_error(alloc: Global, name: &str, answer: &mut Answer) -> Result<(), TextError> {
     let errors = [
         ("Arena", HirError::from(ArenaFault::Memory)),
         ("Store", HirError::from(FinishFault::NoRoots)),
@@ -183,7 +183,7 @@ fn write_error(alloc: Global, name: &[u8], answer: &mut Answer) -> Result<(), Te
 fn write_fault(
     alloc: Global,
     kind: Kind,
-    name: &[u8],
+    name: &str,
     answer: &mut Answer,
 ) -> Result<(), TextError> {
     match kind {

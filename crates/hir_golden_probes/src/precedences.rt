@@ -26,7 +26,7 @@ const PRECEDENCES: [ExprPrecedence; 16] = [
 pub(crate) fn next_precedence(words: &mut Words<'_>) -> Result<ExprPrecedence, TextError> {
     let word = words.next_keyword()?;
     for precedence in &PRECEDENCES {
-        if precedence_text(*precedence).as_bytes() == word {
+        if precedence_text(*precedence) == word {
             return Ok(*precedence);
         }
     }

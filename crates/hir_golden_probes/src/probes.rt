@@ -46,13 +46,13 @@ fn read_path(words: &mut Words<'_>) -> Result<Kind, TextError> {
 }
 
 /// The walk that can stop of this word.
-fn read_walk(word: &[u8], words: &mut Words<'_>) -> Result<Option<Kind>, TextError> {
+fn read_walk(word: &str, words: &mut Words<'_>) -> Result<Option<Kind>, TextError> {
     let way = match word {
-        b"try-children" => Way::Children,
-        b"try-children-without-pats" => Way::ChildrenWithoutPats,
-        b"try-walk-pats" => Way::Pats,
-        b"try-bindings-in" => Way::Bindings,
-        b"try-exprs-in" => Way::Exprs,
+        "try-children" => Way::Children,
+        "try-children-without-pats" => Way::ChildrenWithoutPats,
+        "try-walk-pats" => Way::Pats,
+        "try-bindings-in" => Way::Bindings,
+        "try-exprs-in" => Way::Exprs,
         _ => return Ok(None),
     };
     let from = next(words)?;
@@ -61,25 +61,25 @@ fn read_walk(word: &[u8], words: &mut Words<'_>) -> Result<Option<Kind>, TextErr
 }
 
 /// The probe of this word, where it is one; the line may go on.
-fn read_front(word: &[u8], words: &mut Words<'_>) -> Result<Option<Kind>, TextError> {
+fn read_front(word: &str, words: &mut Words<'_>) -> Result<Option<Kind>, TextError> {
     Ok(Some(match word {
-        b"equal" => Kind::Equal(next(words)?, next(words)?),
-        b"copies" => Kind::Copies,
-        b"same-store" => Kind::SameStore,
-        b"same-sources" => Kind::SameSources,
-        b"same-scopes" => Kind::SameScopes,
-        b"counted-scopes" => Kind::CountedScopes,
-        b"scopes-by-tables" => Kind::ScopesByTables(opt_next(words)?),
-        b"counted-root-of" => Kind::CountedRoot(roots::next_rooted(words)?),
-        b"parens" => read_parens(words)?,
-        b"blocks" => Kind::Blocks(blocks::read_maps(words)?),
-        b"path" => read_path(words)?,
+        "equal" => Kind::Equal(next(words)?, next(words)?),
+        "copies" => Kind::Copies,
+        "same-store" => Kind::SameStore,
+        "same-sources" => Kind::SameSources,
+        "same-scopes" => Kind::SameScopes,
+        "counted-scopes" => Kind::CountedScopes,
+        "scopes-by-tables" => Kind::ScopesByTables(opt_next(words)?),
+        "counted-root-of" => Kind::CountedRoot(roots::next_rooted(words)?),
+        "parens" => read_parens(words)?,
+        "blocks" => Kind::Blocks(blocks::read_maps(words)?),
+        "path" => read_path(words)?,
         _ => return read_walk(word, words),
     }))
 }
 
 /// Reads the probe of a line, where it is one.
-pub fn read_probe(word: &[u8], words: Words<'_>) -> Result<Option<Probe>, TextError> {
+pub fn read_probe(word: &str, words: Words<'_>) -> Result<Option<Probe>, TextError> {
     let mut words = words;
     let Some(kind) = read_front(word, &mut words)? else {
         return Ok(None);

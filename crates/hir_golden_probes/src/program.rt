@@ -137,13 +137,13 @@ impl Sink for FailingWriter {
 /// Adds to the input of the program what a line has after its `>`.
 pub fn add_input(input: &mut Vec<u8>, words: Words<'_>) -> Result<(), TextError> {
     let mut words = words;
-    if words.is_at(b"\"") {
+    if words.is_at("\"") {
         let bytes = words.bytes()?;
         words.end()?;
         return Ok(input.extend_from_slice(bytes.as_slice())?);
     }
     if !words.is_end() {
-        words.expect(b" ")?;
+        words.expect(" ")?;
     }
     input.extend_from_slice(words.rest())?;
     Ok(input.push(b'\n')?)
@@ -151,7 +151,7 @@ pub fn add_input(input: &mut Vec<u8>, words: Words<'_>) -> Result<(), TextError>
 
 /// How many calls of an end come before the one that fails: the number after this word tells which one it
 /// is.
-fn good_calls(words: &mut Words<'_>, word: &[u8]) -> Result<u64, TextError> {
+fn good_calls(words: &mut Words<'_>, word: &str) -> Result<u64, TextError> {
     if !words.prefix(word) {
         return Ok(u64::MAX);
     }
@@ -230,8 +230,8 @@ pub fn answer_run(
 /// Reads how many calls of the reader, and of the writer, come before the one that fails.
 pub fn read_run(words: Words<'_>) -> Result<(u64, u64), TextError> {
     let mut words = words;
-    let good_reads = good_calls(&mut words, b"reads:")?;
-    let good_writes = good_calls(&mut words, b"writes:")?;
+    let good_reads = good_calls(&mut words, "reads:")?;
+    let good_writes = good_calls(&mut words, "writes:")?;
     words.end()?;
     Ok((good_reads, good_writes))
 }

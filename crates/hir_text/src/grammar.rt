@@ -43,8 +43,8 @@ pub(crate) enum Line {
     Ask(Ask),
 }
 
-fn read_make(word: &[u8], words: &mut Words<'_>) -> Result<Option<Make>, TextError> {
-    if word == b"begin".as_slice() {
+fn read_make(word: &str, words: &mut Words<'_>) -> Result<Option<Make>, TextError> {
+    if word == "begin" {
         return Ok(Some(Make::Begin));
     }
     if let Some(change) = Change::read(word, words)? {
@@ -59,7 +59,7 @@ fn read_make(word: &[u8], words: &mut Words<'_>) -> Result<Option<Make>, TextErr
     }
 }
 
-fn read_of_store(word: &[u8], words: &mut Words<'_>) -> Result<Option<OfStore>, TextError> {
+fn read_of_store(word: &str, words: &mut Words<'_>) -> Result<Option<OfStore>, TextError> {
     if let Some(question) = hir_text_store::Question::read(word, words)? {
         return Ok(Some(OfStore::Store(question)));
     }
@@ -73,7 +73,7 @@ fn read_of_store(word: &[u8], words: &mut Words<'_>) -> Result<Option<OfStore>, 
 }
 
 /// Reads a question on the tables, or on scopes, captures or uses.
-fn read_question(word: &[u8], words: &mut Words<'_>) -> Result<Option<Ask>, TextError> {
+fn read_question(word: &str, words: &mut Words<'_>) -> Result<Option<Ask>, TextError> {
     if let Some(question) = ScopeQuestion::read(word, words)? {
         return Ok(Some(Ask::Scopes(question)));
     }
@@ -86,7 +86,7 @@ fn read_question(word: &[u8], words: &mut Words<'_>) -> Result<Option<Ask>, Text
     }
 }
 
-fn read_ask(word: &[u8], words: &mut Words<'_>) -> Result<Option<Ask>, TextError> {
+fn read_ask(word: &str, words: &mut Words<'_>) -> Result<Option<Ask>, TextError> {
     if let Some(question) = read_of_store(word, words)? {
         return Ok(Some(Ask::OfStore(question)));
     }
@@ -94,8 +94,8 @@ fn read_ask(word: &[u8], words: &mut Words<'_>) -> Result<Option<Ask>, TextError
         return Ok(Some(Ask::Define(definition)));
     }
     match word {
-        b"finish" => Ok(Some(Ask::Finish)),
-        b"of" => Ok(Some(Ask::Select(next(words)?))),
+        "finish" => Ok(Some(Ask::Finish)),
+        "of" => Ok(Some(Ask::Select(next(words)?))),
         _ => read_question(word, words),
     }
 }

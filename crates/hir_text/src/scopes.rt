@@ -42,7 +42,7 @@ pub(crate) enum ScopeQuestion {
 fn read_expansions(words: &mut Words<'_>) -> Result<Expansions, TextError> {
     let mut expansions = HashMap::new(words.alloc());
     for _ in 0..words.most_items() {
-        if !words.prefix(b"macro:") {
+        if !words.prefix("macro:") {
             break;
         }
         let macro_def = Read::read(words)?;
@@ -53,37 +53,37 @@ fn read_expansions(words: &mut Words<'_>) -> Result<Expansions, TextError> {
     Ok(expansions)
 }
 
-fn read_of_scopes(word: &[u8], words: &mut Words<'_>) -> Result<Option<OfScopes>, TextError> {
+fn read_of_scopes(word: &str, words: &mut Words<'_>) -> Result<Option<OfScopes>, TextError> {
     Ok(Some(match word {
-        b"chain" => OfScopes::Chain(next(words)?),
-        b"frames" => OfScopes::Frames(next(words)?),
-        b"scope-counts" => OfScopes::Counts,
-        b"scoped" => OfScopes::Scoped,
-        b"resolve" => OfScopes::Resolve(next(words)?, next(words)?, opt_hygiene(words)?),
-        b"resolve-through" => OfScopes::ResolveThrough(
+        "chain" => OfScopes::Chain(next(words)?),
+        "frames" => OfScopes::Frames(next(words)?),
+        "scope-counts" => OfScopes::Counts,
+        "scoped" => OfScopes::Scoped,
+        "resolve" => OfScopes::Resolve(next(words)?, next(words)?, opt_hygiene(words)?),
+        "resolve-through" => OfScopes::ResolveThrough(
             next(words)?,
             next(words)?,
             opt_hygiene(words)?,
             read_expansions(words)?,
         ),
-        b"visible" => OfScopes::Visible(next(words)?),
+        "visible" => OfScopes::Visible(next(words)?),
         _ => return Ok(None),
     }))
 }
 
-fn read_of_uses(word: &[u8], words: &mut Words<'_>) -> Result<Option<ScopeQuestion>, TextError> {
+fn read_of_uses(word: &str, words: &mut Words<'_>) -> Result<Option<ScopeQuestion>, TextError> {
     Ok(Some(match word {
-        b"captures" => ScopeQuestion::Captures(next(words)?),
-        b"usages" => ScopeQuestion::Usages(OfUsages::All),
-        b"usages-of" => ScopeQuestion::Usages(OfUsages::Of(next(words)?)),
-        b"unresolved" => ScopeQuestion::Usages(OfUsages::Unresolved),
-        b"unused" => ScopeQuestion::Usages(OfUsages::Unused),
-        b"rename" => ScopeQuestion::Rename(NewName {
+        "captures" => ScopeQuestion::Captures(next(words)?),
+        "usages" => ScopeQuestion::Usages(OfUsages::All),
+        "usages-of" => ScopeQuestion::Usages(OfUsages::Of(next(words)?)),
+        "unresolved" => ScopeQuestion::Usages(OfUsages::Unresolved),
+        "unused" => ScopeQuestion::Usages(OfUsages::Unused),
+        "rename" => ScopeQuestion::Rename(NewName {
             binding: next(words)?,
             name: next(words)?,
             edition: None,
         }),
-        b"print-renamed" => ScopeQuestion::Rename(NewName {
+        "print-renamed" => ScopeQuestion::Rename(NewName {
             binding: next(words)?,
             name: next(words)?,
             edition: Some(opt_edition(words)?),
@@ -95,7 +95,7 @@ fn read_of_uses(word: &[u8], words: &mut Words<'_>) -> Result<Option<ScopeQuesti
 impl ScopeQuestion {
     /// Reads a question, after its first word; `None` where no such question begins with it.
     pub(crate) fn read(
-        word: &[u8],
+        word: &str,
         words: &mut Words<'_>,
     ) -> Result<Option<ScopeQuestion>, TextError> {
         match read_of_scopes(word, words)? {

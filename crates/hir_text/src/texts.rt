@@ -56,7 +56,7 @@ pub(crate) fn put_printed(answer: &mut Answer, printed: Printed) -> Result<(), T
 /// Takes whether a pattern is printed in one line, and the edition.
 fn read_pat(words: &mut Words<'_>) -> Result<(PatId, bool, Edition), TextError> {
     let pat = next(words)?;
-    let oneline = words.flag(b"oneline");
+    let oneline = words.flag("oneline");
     Ok((pat, oneline, opt_edition(words)?))
 }
 
@@ -106,17 +106,17 @@ impl BodyText {
 
 impl StoreText {
     /// Reads a question, after its first word; `None` where no such question begins with it.
-    pub(crate) fn read(word: &[u8], words: &mut Words<'_>) -> Result<Option<StoreText>, TextError> {
+    pub(crate) fn read(word: &str, words: &mut Words<'_>) -> Result<Option<StoreText>, TextError> {
         Ok(Some(match word {
-            b"print-expr" => StoreText::Expr(next(words)?, opt_edition(words)?),
-            b"print-path" => StoreText::Path(next(words)?, opt_edition(words)?),
-            b"print-pat" => {
+            "print-expr" => StoreText::Expr(next(words)?, opt_edition(words)?),
+            "print-path" => StoreText::Path(next(words)?, opt_edition(words)?),
+            "print-pat" => {
                 let (pat, oneline, edition) = read_pat(words)?;
                 StoreText::Pat(pat, oneline, edition)
             }
-            b"pretty" => StoreText::OfBody(BodyText::Body(next(words)?, opt_edition(words)?)),
-            b"pretty-expr" => StoreText::OfBody(BodyText::Expr(next(words)?, opt_edition(words)?)),
-            b"pretty-pat" => {
+            "pretty" => StoreText::OfBody(BodyText::Body(next(words)?, opt_edition(words)?)),
+            "pretty-expr" => StoreText::OfBody(BodyText::Expr(next(words)?, opt_edition(words)?)),
+            "pretty-pat" => {
                 let (pat, oneline, edition) = read_pat(words)?;
                 StoreText::OfBody(BodyText::Pat(pat, oneline, edition))
             }
@@ -154,26 +154,23 @@ impl StoreText {
 
 impl TablesText {
     /// Reads a question, after its first word; `None` where no such question begins with it.
-    pub(crate) fn read(
-        word: &[u8],
-        words: &mut Words<'_>,
-    ) -> Result<Option<TablesText>, TextError> {
+    pub(crate) fn read(word: &str, words: &mut Words<'_>) -> Result<Option<TablesText>, TextError> {
         Ok(Some(match word {
-            b"print-body" => {
+            "print-body" => {
                 let def = next(words)?;
-                let owner = prefixed(words, b"as:")?.unwrap_or(def);
+                let owner = prefixed(words, "as:")?.unwrap_or(def);
                 TablesText::Body(def, owner, opt_edition(words)?)
             }
-            b"print-variant" => TablesText::Variant(next(words)?, opt_edition(words)?),
-            b"print-signature" => TablesText::Signature(next(words)?, opt_edition(words)?),
-            b"print-struct" => {
+            "print-variant" => TablesText::Variant(next(words)?, opt_edition(words)?),
+            "print-signature" => TablesText::Signature(next(words)?, opt_edition(words)?),
+            "print-struct" => {
                 let id = next(words)?;
-                let owner = prefixed(words, b"as:")?.unwrap_or(id);
+                let owner = prefixed(words, "as:")?.unwrap_or(id);
                 TablesText::Struct(id, owner, opt_edition(words)?)
             }
-            b"print-function" => {
+            "print-function" => {
                 let id = next(words)?;
-                let owner = prefixed(words, b"as:")?.unwrap_or(id);
+                let owner = prefixed(words, "as:")?.unwrap_or(id);
                 TablesText::Function(id, owner, opt_edition(words)?)
             }
             _ => return Ok(None),

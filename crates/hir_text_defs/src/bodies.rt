@@ -95,10 +95,10 @@ fn put_parts(answer: &mut Answer, body: &Body) -> Result<(), AllocError> {
 
 impl BodyQuestion {
     /// Reads a question, after its first word; `None` where no such question begins with it.
-    pub fn read(word: &[u8], words: &mut Words<'_>) -> Result<Option<BodyQuestion>, TextError> {
+    pub fn read(word: &str, words: &mut Words<'_>) -> Result<Option<BodyQuestion>, TextError> {
         match word {
-            b"body-parts" => Ok(Some(BodyQuestion::Parts)),
-            b"is-self" => Ok(Some(BodyQuestion::IsSelf(next(words)?))),
+            "body-parts" => Ok(Some(BodyQuestion::Parts)),
+            "is-self" => Ok(Some(BodyQuestion::IsSelf(next(words)?))),
             _ => Ok(None),
         }
     }

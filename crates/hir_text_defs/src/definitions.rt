@@ -34,12 +34,12 @@ fn read_function(words: &mut Words<'_>) -> Result<Box<FunctionParts>, TextError>
         name: next(words)?,
         params: next(words)?,
         ret_type: next(words)?,
-        is_const: words.flag(b"const"),
-        is_async: words.flag(b"async"),
-        is_unsafe: words.flag(b"unsafe"),
-        is_explicit_safe: words.flag(b"safe"),
+        is_const: words.flag("const"),
+        is_async: words.flag("async"),
+        is_unsafe: words.flag("unsafe"),
+        is_explicit_safe: words.flag("safe"),
         abi: opt_abi(words)?,
-        legacy_const_indices: prefixed(words, b"legacy:")?,
+        legacy_const_indices: prefixed(words, "legacy:")?,
         generic_params: GenericParams::empty(words.alloc()),
         store: ExpressionStore::empty(words.alloc()),
     };
@@ -50,7 +50,7 @@ fn read_struct(words: &mut Words<'_>) -> Result<Box<StructParts>, TextError> {
     let parts = StructParts {
         name: next(words)?,
         shape: next(words)?,
-        is_fundamental: words.flag(b"fundamental"),
+        is_fundamental: words.flag("fundamental"),
         generic_params: GenericParams::empty(words.alloc()),
         store: ExpressionStore::empty(words.alloc()),
     };
@@ -210,13 +210,13 @@ fn make_variant<F: Drop, S: Drop, P: Drop, B: Drop, N: Drop>(
 
 impl Definition {
     /// Reads a definition, after the first word of its line; `None` where no such line begins with it.
-    pub fn read(word: &[u8], words: &mut Words<'_>) -> Result<Option<Definition>, TextError> {
+    pub fn read(word: &str, words: &mut Words<'_>) -> Result<Option<Definition>, TextError> {
         Ok(Some(match word {
-            b"body" => Definition::Body(next(words)?),
-            b"function" => Definition::Function(next(words)?, read_function(words)?),
-            b"struct" => Definition::Struct(next(words)?, read_struct(words)?),
-            b"plain" => Definition::Plain(next_plain(words)?),
-            b"variant" => Definition::Variant(next(words)?, next(words)?),
+            "body" => Definition::Body(next(words)?),
+            "function" => Definition::Function(next(words)?, read_function(words)?),
+            "struct" => Definition::Struct(next(words)?, read_struct(words)?),
+            "plain" => Definition::Plain(next_plain(words)?),
+            "variant" => Definition::Variant(next(words)?, next(words)?),
             _ => return Ok(None),
         }))
     }

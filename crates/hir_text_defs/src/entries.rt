@@ -18,21 +18,21 @@ pub enum Entry {
 
 fn read_repr(words: &mut Words<'_>) -> Result<Repr, TextError> {
     Ok(Repr {
-        c: words.flag(b"C"),
-        align: prefixed(words, b"align:")?,
-        pack: prefixed(words, b"pack:")?,
+        c: words.flag("C"),
+        align: prefixed(words, "align:")?,
+        pack: prefixed(words, "pack:")?,
     })
 }
 
 impl Entry {
     /// Reads an entry, after the first word of its line; `None` where no such line begins with it.
-    pub fn read(word: &[u8], words: &mut Words<'_>) -> Result<Option<Entry>, TextError> {
+    pub fn read(word: &str, words: &mut Words<'_>) -> Result<Option<Entry>, TextError> {
         Ok(Some(match word {
-            b"name" => Entry::Name(next(words)?, next(words)?),
-            b"crate-name" => Entry::CrateName(next(words)?, next(words)?),
-            b"parent" => Entry::Parent(next(words)?, next(words)?),
-            b"repr" => Entry::Repr(next(words)?, read_repr(words)?),
-            b"raw-words" => Entry::RawWords(next(words)?, next(words)?),
+            "name" => Entry::Name(next(words)?, next(words)?),
+            "crate-name" => Entry::CrateName(next(words)?, next(words)?),
+            "parent" => Entry::Parent(next(words)?, next(words)?),
+            "repr" => Entry::Repr(next(words)?, read_repr(words)?),
+            "raw-words" => Entry::RawWords(next(words)?, next(words)?),
             _ => return Ok(None),
         }))
     }

@@ -36,21 +36,19 @@ fn next_param<K>(words: &mut Words<'_>) -> Result<Param<Idx<K>>, TextError> {
 
 impl Part {
     /// Reads a part, after the first word of its line; `None` where no such line begins with it.
-    pub fn read(word: &[u8], words: &mut Words<'_>) -> Result<Option<Part>, TextError> {
+    pub fn read(word: &str, words: &mut Words<'_>) -> Result<Option<Part>, TextError> {
         Ok(Some(match word {
-            b"param" => Part::Param(next_param(words)?),
-            b"self" => Part::SelfParam(next_param(words)?),
-            b"self-source" => Part::SelfSource(next(words)?),
-            b"type-param" => {
-                Part::TypeOrConst(TypeOrConstParamData::TypeParamData(next(words)?))
-            }
-            b"const-param" => {
+            "param" => Part::Param(next_param(words)?),
+            "self" => Part::SelfParam(next_param(words)?),
+            "self-source" => Part::SelfSource(next(words)?),
+            "type-param" => { Part::TypeOrConst(TypeOrConstParamData::TypeParamData(next(words)?)) }
+            "const-param" => {
                 Part::TypeOrConst(TypeOrConstParamData::ConstParamData(next(words)?))
             }
-            b"lifetime-param" => Part::Lifetime(next(words)?),
-            b"where" => Part::Predicate(next_where(words)?),
-            b"where-lifetime" => Part::Predicate(next_where_lifetime(words)?),
-            b"field" => Part::Field(next(words)?),
+            "lifetime-param" => Part::Lifetime(next(words)?),
+            "where" => Part::Predicate(next_where(words)?),
+            "where-lifetime" => Part::Predicate(next_where_lifetime(words)?),
+            "field" => Part::Field(next(words)?),
             _ => return Ok(None),
         }))
     }

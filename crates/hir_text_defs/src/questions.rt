@@ -41,22 +41,19 @@ pub enum Question {
 }
 
 /// Reads a question on generic parameters; the line goes on with the definition.
-fn read_generics(
-    word: &[u8],
-    words: &mut Words<'_>,
-) -> Result<Option<GenericsQuestion>, TextError> {
+fn read_generics(word: &str, words: &mut Words<'_>) -> Result<Option<GenericsQuestion>, TextError> {
     Ok(Some(match word {
-        b"generics" => GenericsQuestion::Counts,
-        b"params" => GenericsQuestion::TypesAndConsts,
-        b"lifetimes" => GenericsQuestion::Lifetimes,
-        b"early-lifetimes" => GenericsQuestion::EarlyLifetimes,
-        b"late-lifetimes" => GenericsQuestion::LateLifetimes,
-        b"predicates" => GenericsQuestion::Predicates,
-        b"trait-self" => GenericsQuestion::TraitSelf,
-        b"find-type" => GenericsQuestion::FindType(next(words)?),
-        b"find-const" => GenericsQuestion::FindConst(next(words)?),
-        b"find-lifetime" => GenericsQuestion::FindLifetime(next(words)?),
-        b"lifetime-index" => GenericsQuestion::LifetimeIndex(next(words)?),
+        "generics" => GenericsQuestion::Counts,
+        "params" => GenericsQuestion::TypesAndConsts,
+        "lifetimes" => GenericsQuestion::Lifetimes,
+        "early-lifetimes" => GenericsQuestion::EarlyLifetimes,
+        "late-lifetimes" => GenericsQuestion::LateLifetimes,
+        "predicates" => GenericsQuestion::Predicates,
+        "trait-self" => GenericsQuestion::TraitSelf,
+        "find-type" => GenericsQuestion::FindType(next(words)?),
+        "find-const" => GenericsQuestion::FindConst(next(words)?),
+        "find-lifetime" => GenericsQuestion::FindLifetime(next(words)?),
+        "lifetime-index" => GenericsQuestion::LifetimeIndex(next(words)?),
         _ => return Ok(None),
     }))
 }
@@ -210,18 +207,18 @@ fn put_generics(
 
 impl Question {
     /// Reads a question, after its first word; `None` where no such question begins with it.
-    pub fn read(word: &[u8], words: &mut Words<'_>) -> Result<Option<Question>, TextError> {
+    pub fn read(word: &str, words: &mut Words<'_>) -> Result<Option<Question>, TextError> {
         Ok(Some(match word {
-            b"name-of" => Question::Entry(EntryQuestion::Name(next(words)?)),
-            b"crate-name-of" => Question::Entry(EntryQuestion::CrateName(next(words)?)),
-            b"parent-of" => Question::Entry(EntryQuestion::Parent(next(words)?)),
-            b"repr-of" => Question::Entry(EntryQuestion::Repr(next(words)?)),
-            b"raw-words-of" => Question::Entry(EntryQuestion::RawWords(next(words)?)),
-            b"function-of" => Question::Function(next(words)?),
-            b"struct-of" => Question::Struct(next(words)?),
-            b"plain-of" => Question::Plain(next_plain(words)?),
-            b"variant-of" => Question::Variant(next(words)?),
-            b"self-syntax" => Question::SelfSyntax(next(words)?),
+            "name-of" => Question::Entry(EntryQuestion::Name(next(words)?)),
+            "crate-name-of" => Question::Entry(EntryQuestion::CrateName(next(words)?)),
+            "parent-of" => Question::Entry(EntryQuestion::Parent(next(words)?)),
+            "repr-of" => Question::Entry(EntryQuestion::Repr(next(words)?)),
+            "raw-words-of" => Question::Entry(EntryQuestion::RawWords(next(words)?)),
+            "function-of" => Question::Function(next(words)?),
+            "struct-of" => Question::Struct(next(words)?),
+            "plain-of" => Question::Plain(next_plain(words)?),
+            "variant-of" => Question::Variant(next(words)?),
+            "self-syntax" => Question::SelfSyntax(next(words)?),
             _ => {
                 return match read_generics(word, words)? {
                     Some(question) => Ok(Some(with_def(words, question)?)),

@@ -30,7 +30,7 @@ fn is_letter(byte: u8) -> bool {
 /// Returns the letter of the next name, where that reads like a number.
 fn next_letter(words: &Words<'_>) -> Option<u8> {
     let mut ahead = *words;
-    letter_of(ahead.bare_name())
+    letter_of(ahead.bare_name().as_bytes())
 }
 
 fn lettered<K>(words: &mut Words<'_>) -> Result<Idx<K>, TextError> {
@@ -64,9 +64,9 @@ impl Write for GenericArg {
 }
 
 fn read_parentheses(words: &mut Words<'_>) -> GenericArgsParentheses {
-    if words.eat(b"paren;") {
+    if words.eat("paren;") {
         GenericArgsParentheses::ParenSugar
-    } else if words.eat(b"rtn;") {
+    } else if words.eat("rtn;") {
         GenericArgsParentheses::ReturnTypeNotation
     } else {
         GenericArgsParentheses::No
@@ -77,7 +77,7 @@ fn read_parentheses(words: &mut Words<'_>) -> GenericArgsParentheses {
 /// taken.
 fn goes_on(words: &mut Words<'_>) -> bool {
     let mut ahead = *words;
-    let goes_on = ahead.eat(b",") && next_letter(&ahead).is_some();
+    let goes_on = ahead.eat(",") && next_letter(&ahead).is_some();
     if goes_on {
         *words = ahead;
     }
@@ -108,8 +108,8 @@ fn read_name(words: &mut Words<'_>) -> Result<Name, TextError> {
 }
 
 fn opt_bounds(words: &mut Words<'_>) -> Result<Seq<TypeBound>, TextError> {
-    if words.eat(b":") {
-        return list(words, b"+");
+    if words.eat(":") {
+        return list(words, "+");
     }
     Ok(Seq::new(words.alloc()))
 }
@@ -118,7 +118,7 @@ fn opt_bounds(words: &mut Words<'_>) -> Result<Seq<TypeBound>, TextError> {
 /// `depth`.
 #[cycle(read_within)]
 fn opt_args(words: &mut Words<'_>, depth: u8) -> Result<Option<GenericArgs>, TextError> {
-    if !words.eat(b"::<") {
+    if !words.eat("::<") {
         return Ok(None);
     }
     if depth == 0 {
@@ -134,7 +134,7 @@ fn read_binding(words: &mut Words<'_>, depth: u8) -> Result<AssociatedTypeBindin
         name: read_name(words)?,
         args: opt_args(words, depth)?,
         bounds: opt_bounds(words)?,
-        type_ref: after(words, b"=T")?,
+        type_ref: after(words, "=T")?,
     })
 }
 
@@ -152,7 +152,7 @@ fn read_bindings(
             break;
         }
         bindings.push(read_binding(words, depth)?)?;
-        goes_on = words.eat(b",");
+        goes_on = words.eat(",");
     }
     Ok(bindings)
 }
@@ -160,17 +160,17 @@ fn read_bindings(
 /// Takes what comes after `::<`, to the end `>`. In it others may be nested as deep as `depth`.
 #[cycle(read_within)]
 fn read_within(words: &mut Words<'_>, depth: u8) -> Result<GenericArgs, TextError> {
-    let has_self_type = words.eat(b"self;");
+    let has_self_type = words.eat("self;");
     let parenthesized = read_parentheses(words);
-    let is_empty = words.is_at(b">");
+    let is_empty = words.is_at(">");
     let args = read_list(words)?;
     let has_bindings = if args.is_empty() {
         !is_empty
     } else {
-        words.eat(b",")
+        words.eat(",")
     };
     let bindings = read_bindings(words, depth, has_bindings)?;
-    words.expect(b">")?;
+    words.expect(">")?;
     Ok(GenericArgs {
         args,
         has_self_type,
@@ -181,7 +181,7 @@ fn read_within(words: &mut Words<'_>, depth: u8) -> Result<GenericArgs, TextErro
 
 impl Read for GenericArgs {
     fn read(words: &mut Words<'_>) -> Result<GenericArgs, TextError> {
-        words.expect(b"::<")?;
+        words.expect("::<")?;
         read_within(words, DEEPEST)
     }
 }
@@ -299,24 +299,24 @@ impl Write for UseArgRef {
 
 /// Takes what `use<` lists, to the end `>`.
 fn read_uses(words: &mut Words<'_>) -> Result<Seq<UseArgRef>, TextError> {
-    if words.eat(b">") {
+    if words.eat(">") {
         return Ok(Seq::new(words.alloc()));
     }
-    let uses = joined(words, b",")?;
-    words.expect(b">")?;
+    let uses = joined(words, ",")?;
+    words.expect(">")?;
     Ok(uses)
 }
 
 /// Takes the names after `for<`, to the end `>`.
 pub(crate) fn read_binder(words: &mut Words<'_>) -> Result<Seq<Name>, TextError> {
     let names = Read::read(words)?;
-    words.expect(b">")?;
+    words.expect(">")?;
     Ok(names)
 }
 
 fn read_for(words: &mut Words<'_>) -> Result<TypeBound, TextError> {
     let names = read_binder(words)?;
-    words.expect(b"T")?;
+    words.expect("T")?;
     Ok(TypeBound::ForLifetime(names, Read::read(words)?))
 }
 
@@ -326,17 +326,17 @@ fn read_trait(words: &mut Words<'_>, modifier: TraitBoundModifier) -> Result<Typ
 
 impl Read for TypeBound {
     fn read(words: &mut Words<'_>) -> Result<TypeBound, TextError> {
-        if words.eat(b"?T") {
+        if words.eat("?T") {
             read_trait(words, TraitBoundModifier::Maybe)
-        } else if words.eat(b"for<") {
+        } else if words.eat("for<") {
             read_for(words)
-        } else if words.eat(b"use<") {
+        } else if words.eat("use<") {
             Ok(TypeBound::Use(read_uses(words)?))
-        } else if words.eat(b"error") {
+        } else if words.eat("error") {
             Ok(TypeBound::Error)
-        } else if words.eat(b"L") {
+        } else if words.eat("L") {
             Ok(TypeBound::Lifetime(Read::read(words)?))
-        } else if words.eat(b"T") {
+        } else if words.eat("T") {
             read_trait(words, TraitBoundModifier::None)
         } else {
             Err(TextError::Syntax)
@@ -371,7 +371,7 @@ impl Write for TypeBound {
 
 /// Takes the names of `for<NAMES>`, where that comes next.
 pub(crate) fn opt_binder(words: &mut Words<'_>) -> Result<Option<Seq<Name>>, TextError> {
-    if words.prefix(b"for<") {
+    if words.prefix("for<") {
         return Ok(Some(read_binder(words)?));
     }
     Ok(None)
@@ -391,8 +391,8 @@ pub(crate) fn put_binder(answer: &mut Answer, names: &Option<Seq<Name>>) -> Resu
 
 /// Bounds joined by `+`, or `-`.
 pub(crate) fn next_bounds(words: &mut Words<'_>) -> Result<Seq<TypeBound>, TextError> {
-    words.expect(b" ")?;
-    list(words, b"+")
+    words.expect(" ")?;
+    list(words, "+")
 }
 
 /// Writes bounds joined by `+`, or `-`, after a space.

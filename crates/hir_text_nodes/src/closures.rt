@@ -14,22 +14,22 @@ use std::alloc::AllocError;
 impl Read for Statement {
     fn read(words: &mut Words<'_>) -> Result<Statement, TextError> {
         Ok(match words.keyword() {
-            b"let" => Statement::Let {
+            "let" => Statement::Let {
                 pat: part(words)?,
                 type_ref: part(words)?,
                 initializer: part(words)?,
                 else_branch: part(words)?,
             },
-            b"semi" => Statement::Expr {
+            "semi" => Statement::Expr {
                 expr: part(words)?,
                 has_semi: true,
             },
-            b"expr" => Statement::Expr {
+            "expr" => Statement::Expr {
                 expr: part(words)?,
                 has_semi: false,
             },
-            b"macro" => Statement::Item(Item::MacroDef(part(words)?)),
-            b"item" => Statement::Item(Item::Other),
+            "macro" => Statement::Item(Item::MacroDef(part(words)?)),
+            "item" => Statement::Item(Item::Other),
             _ => return Err(TextError::Syntax),
         })
     }
@@ -109,13 +109,13 @@ fn read_types(
     words: &mut Words<'_>,
     arg_count: usize,
 ) -> Result<Seq<Option<TypeRefId>>, TextError> {
-    if !words.prefix(b"types:") {
+    if !words.prefix("types:") {
         return Ok(no_types(words, arg_count)?);
     }
     if words.is_word_end() {
         return Ok(Seq::new(words.alloc()));
     }
-    joined(words, b",")
+    joined(words, ",")
 }
 
 /// Takes what a closure expression makes: a closure, where the line ends.
@@ -124,20 +124,20 @@ fn read_kind(words: &mut Words<'_>) -> Result<ClosureKind, TextError> {
         return Ok(ClosureKind::Closure);
     }
     let kind = match words.next_keyword()? {
-        b"static" => return Ok(ClosureKind::OldCoroutine(Movability::Static)),
-        b"movable" => return Ok(ClosureKind::OldCoroutine(Movability::Movable)),
-        b"async" => CoroutineKind::Async,
-        b"gen" => CoroutineKind::Gen,
-        b"async-gen" => CoroutineKind::AsyncGen,
+        "static" => return Ok(ClosureKind::OldCoroutine(Movability::Static)),
+        "movable" => return Ok(ClosureKind::OldCoroutine(Movability::Movable)),
+        "async" => CoroutineKind::Async,
+        "gen" => CoroutineKind::Gen,
+        "async-gen" => CoroutineKind::AsyncGen,
         _ => return Err(TextError::Syntax),
     };
-    if !words.eat(b":") {
+    if !words.eat(":") {
         return Ok(ClosureKind::CoroutineClosure(kind));
     }
     let source = match words.keyword() {
-        b"block" => CoroutineSource::Block,
-        b"closure" => CoroutineSource::Closure,
-        b"fn" => CoroutineSource::Fn,
+        "block" => CoroutineSource::Block,
+        "closure" => CoroutineSource::Closure,
+        "fn" => CoroutineSource::Fn,
         _ => return Err(TextError::Syntax),
     };
     Ok(ClosureKind::Coroutine { kind, source })
@@ -150,9 +150,9 @@ pub(crate) fn read_closure(words: &mut Words<'_>) -> Result<Expr, TextError> {
     Ok(Expr::Closure {
         arg_types: read_types(words, args.len())?,
         args,
-        ret_type: prefixed(words, b"ret:")?,
+        ret_type: prefixed(words, "ret:")?,
         body,
-        capture_by: if words.flag(b"move") {
+        capture_by: if words.flag("move") {
             CaptureBy::Value
         } else {
             CaptureBy::Ref

@@ -11,26 +11,26 @@ use std::alloc::AllocError;
 
 /// Takes the number in parentheses after a kind.
 fn number<K>(words: &mut Words<'_>) -> Result<Id<K>, TextError> {
-    words.expect(b"(")?;
+    words.expect("(")?;
     in_parens(words)
 }
 
 impl Read for LangItemTarget {
     fn read(words: &mut Words<'_>) -> Result<LangItemTarget, TextError> {
         Ok(match words.keyword() {
-            b"FunctionId" => LangItemTarget::FunctionId(number(words)?),
-            b"StructId" => LangItemTarget::StructId(number(words)?),
-            b"UnionId" => LangItemTarget::UnionId(number(words)?),
-            b"EnumId" => LangItemTarget::EnumId(number(words)?),
-            b"EnumVariantId" => LangItemTarget::EnumVariantId(number(words)?),
-            b"ConstId" => LangItemTarget::ConstId(number(words)?),
-            b"StaticId" => LangItemTarget::StaticId(number(words)?),
-            b"TraitId" => LangItemTarget::TraitId(number(words)?),
-            b"ImplId" => LangItemTarget::ImplId(number(words)?),
-            b"TypeAliasId" => LangItemTarget::TypeAliasId(number(words)?),
-            b"Macro2Id" => LangItemTarget::MacroId(MacroId::Macro2Id(number(words)?)),
-            b"MacroRulesId" => LangItemTarget::MacroId(MacroId::MacroRulesId(number(words)?)),
-            b"ProcMacroId" => LangItemTarget::MacroId(MacroId::ProcMacroId(number(words)?)),
+            "FunctionId" => LangItemTarget::FunctionId(number(words)?),
+            "StructId" => LangItemTarget::StructId(number(words)?),
+            "UnionId" => LangItemTarget::UnionId(number(words)?),
+            "EnumId" => LangItemTarget::EnumId(number(words)?),
+            "EnumVariantId" => LangItemTarget::EnumVariantId(number(words)?),
+            "ConstId" => LangItemTarget::ConstId(number(words)?),
+            "StaticId" => LangItemTarget::StaticId(number(words)?),
+            "TraitId" => LangItemTarget::TraitId(number(words)?),
+            "ImplId" => LangItemTarget::ImplId(number(words)?),
+            "TypeAliasId" => LangItemTarget::TypeAliasId(number(words)?),
+            "Macro2Id" => LangItemTarget::MacroId(MacroId::Macro2Id(number(words)?)),
+            "MacroRulesId" => LangItemTarget::MacroId(MacroId::MacroRulesId(number(words)?)),
+            "ProcMacroId" => LangItemTarget::MacroId(MacroId::ProcMacroId(number(words)?)),
             _ => return Err(TextError::Syntax),
         })
     }
@@ -113,9 +113,9 @@ impl Read for NamedDef {
 impl Read for ExpressionStoreOwnerId {
     fn read(words: &mut Words<'_>) -> Result<ExpressionStoreOwnerId, TextError> {
         Ok(match words.keyword() {
-            b"body" => ExpressionStoreOwnerId::Body(next(words)?),
-            b"signature" => ExpressionStoreOwnerId::Signature(next(words)?),
-            b"fields" => ExpressionStoreOwnerId::VariantFields(next(words)?),
+            "body" => ExpressionStoreOwnerId::Body(next(words)?),
+            "signature" => ExpressionStoreOwnerId::Signature(next(words)?),
+            "fields" => ExpressionStoreOwnerId::VariantFields(next(words)?),
             _ => return Err(TextError::Syntax),
         })
     }

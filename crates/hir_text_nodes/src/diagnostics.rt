@@ -10,11 +10,11 @@ use std::alloc::AllocError;
 impl Read for MissingBodyItemKind {
     fn read(words: &mut Words<'_>) -> Result<MissingBodyItemKind, TextError> {
         match words.keyword() {
-            b"AssocConst" => Ok(MissingBodyItemKind::AssocConst),
-            b"AssocType" => Ok(MissingBodyItemKind::AssocType),
-            b"Const" => Ok(MissingBodyItemKind::Const),
-            b"Static" => Ok(MissingBodyItemKind::Static),
-            b"TypeAlias" => Ok(MissingBodyItemKind::TypeAlias),
+            "AssocConst" => Ok(MissingBodyItemKind::AssocConst),
+            "AssocType" => Ok(MissingBodyItemKind::AssocType),
+            "Const" => Ok(MissingBodyItemKind::Const),
+            "Static" => Ok(MissingBodyItemKind::Static),
+            "TypeAlias" => Ok(MissingBodyItemKind::TypeAlias),
             _ => Err(TextError::Syntax),
         }
     }
@@ -35,35 +35,35 @@ impl Write for MissingBodyItemKind {
 impl Read for ExpressionStoreDiagnostics {
     fn read(words: &mut Words<'_>) -> Result<ExpressionStoreDiagnostics, TextError> {
         Ok(match words.keyword() {
-            b"InactiveCode" => ExpressionStoreDiagnostics::InactiveCode {
+            "InactiveCode" => ExpressionStoreDiagnostics::InactiveCode {
                 node: next(words)?,
                 cfg: next_quoted(words)?,
                 opts: next_quoted(words)?,
             },
-            b"UnresolvedMacroCall" => ExpressionStoreDiagnostics::UnresolvedMacroCall {
+            "UnresolvedMacroCall" => ExpressionStoreDiagnostics::UnresolvedMacroCall {
                 node: next(words)?,
                 path: next(words)?,
             },
-            b"UnreachableLabel" => ExpressionStoreDiagnostics::UnreachableLabel {
+            "UnreachableLabel" => ExpressionStoreDiagnostics::UnreachableLabel {
                 node: next(words)?,
                 name: next(words)?,
             },
-            b"AwaitOutsideOfAsync" => ExpressionStoreDiagnostics::AwaitOutsideOfAsync {
+            "AwaitOutsideOfAsync" => ExpressionStoreDiagnostics::AwaitOutsideOfAsync {
                 node: next(words)?,
                 location: next_quoted(words)?,
             },
-            b"UndeclaredLabel" => ExpressionStoreDiagnostics::UndeclaredLabel {
+            "UndeclaredLabel" => ExpressionStoreDiagnostics::UndeclaredLabel {
                 node: next(words)?,
                 name: next(words)?,
             },
-            b"PatternArgInExternFn" => ExpressionStoreDiagnostics::PatternArgInExternFn {
+            "PatternArgInExternFn" => ExpressionStoreDiagnostics::PatternArgInExternFn {
                 node: next(words)?,
             },
-            b"FruInDestructuringAssignment" => {
+            "FruInDestructuringAssignment" => {
                 let node = next(words)?;
                 ExpressionStoreDiagnostics::FruInDestructuringAssignment { node }
             }
-            b"MissingBody" => ExpressionStoreDiagnostics::MissingBody {
+            "MissingBody" => ExpressionStoreDiagnostics::MissingBody {
                 node: next(words)?,
                 kind: next(words)?,
             },

@@ -13,128 +13,128 @@ use std::alloc::AllocError;
 impl Read for Expr {
     fn read(words: &mut Words<'_>) -> Result<Expr, TextError> {
         match words.keyword() {
-            b"missing" => Ok(Expr::Missing),
-            b"underscore" => Ok(Expr::Underscore),
-            b"include-bytes" => Ok(Expr::IncludeBytes),
-            b"path" => Ok(Expr::Path(next(words)?)),
-            b"const" => Ok(Expr::Const(next(words)?)),
-            b"array" => {
+            "missing" => Ok(Expr::Missing),
+            "underscore" => Ok(Expr::Underscore),
+            "include-bytes" => Ok(Expr::IncludeBytes),
+            "path" => Ok(Expr::Path(next(words)?)),
+            "const" => Ok(Expr::Const(next(words)?)),
+            "array" => {
                 let elements = next(words)?;
                 Ok(Expr::Array(Array::ElementList { elements }))
             }
-            b"repeat" => {
+            "repeat" => {
                 let (initializer, repeat) = (next(words)?, next(words)?);
                 Ok(Expr::Array(Array::Repeat {
                     initializer,
                     repeat,
                 }))
             }
-            b"offset-of" => {
+            "offset-of" => {
                 let (container, fields) = (next(words)?, next(words)?);
                 Ok(Expr::OffsetOf(OffsetOf { container, fields }))
             }
-            b"record" => Ok(Expr::RecordLit {
+            "record" => Ok(Expr::RecordLit {
                 path: next(words)?,
                 fields: Boxed::new(words.alloc(), each(words)?)?,
                 spread: read_spread(words)?,
             }),
-            b"tuple" => Ok(Expr::Tuple {
+            "tuple" => Ok(Expr::Tuple {
                 exprs: next(words)?,
             }),
-            b"closure" => read_closure(words),
+            "closure" => read_closure(words),
             word => read_control(word, words),
         }
     }
 }
 
 /// Takes an expression that says what is done next.
-fn read_control(word: &[u8], words: &mut Words<'_>) -> Result<Expr, TextError> {
+fn read_control(word: &str, words: &mut Words<'_>) -> Result<Expr, TextError> {
     Ok(match word {
-        b"if" => Expr::If {
+        "if" => Expr::If {
             condition: next(words)?,
             then_branch: next(words)?,
             else_branch: next(words)?,
         },
-        b"block" => Expr::Block {
+        "block" => Expr::Block {
             id: next(words)?,
             tail: next(words)?,
-            label: prefixed(words, b"label:")?,
-            unsafe_: if words.flag(b"unsafe") {
+            label: prefixed(words, "label:")?,
+            unsafe_: if words.flag("unsafe") {
                 Unsafe::Yes
             } else {
                 Unsafe::No
             },
             statements: each(words)?,
         },
-        b"loop" => Expr::Loop {
+        "loop" => Expr::Loop {
             body: next(words)?,
-            label: prefixed(words, b"label:")?,
+            label: prefixed(words, "label:")?,
             source: read_loop_source(words),
         },
-        b"match" => Expr::Match {
+        "match" => Expr::Match {
             expr: next(words)?,
             arms: each(words)?,
         },
-        b"continue" => Expr::Continue {
-            label: prefixed(words, b"label:")?,
+        "continue" => Expr::Continue {
+            label: prefixed(words, "label:")?,
         },
-        b"break" => Expr::Break {
+        "break" => Expr::Break {
             expr: next(words)?,
-            label: prefixed(words, b"label:")?,
+            label: prefixed(words, "label:")?,
         },
-        b"return" => Expr::Return { expr: next(words)? },
-        b"yield" => Expr::Yield { expr: next(words)? },
-        b"yeet" => Expr::Yeet { expr: next(words)? },
-        b"become" => Expr::Become { expr: next(words)? },
-        b"await" => Expr::Await { expr: next(words)? },
+        "return" => Expr::Return { expr: next(words)? },
+        "yield" => Expr::Yield { expr: next(words)? },
+        "yeet" => Expr::Yeet { expr: next(words)? },
+        "become" => Expr::Become { expr: next(words)? },
+        "await" => Expr::Await { expr: next(words)? },
         _ => return read_operation(word, words),
     })
 }
 
 /// Takes an expression that is made of operands, or a literal.
-fn read_operation(word: &[u8], words: &mut Words<'_>) -> Result<Expr, TextError> {
+fn read_operation(word: &str, words: &mut Words<'_>) -> Result<Expr, TextError> {
     Ok(match word {
-        b"let" => Expr::Let {
+        "let" => Expr::Let {
             pat: next(words)?,
             expr: next(words)?,
         },
-        b"call" => Expr::Call {
+        "call" => Expr::Call {
             callee: next(words)?,
             args: next(words)?,
         },
-        b"method" => Expr::MethodCall {
+        "method" => Expr::MethodCall {
             receiver: next(words)?,
             method_name: next(words)?,
             args: next(words)?,
             generic_args: opt_next(words)?,
         },
-        b"field" => Expr::Field {
+        "field" => Expr::Field {
             expr: next(words)?,
             name: next(words)?,
         },
-        b"cast" => Expr::Cast {
+        "cast" => Expr::Cast {
             expr: next(words)?,
             type_ref: next(words)?,
         },
-        b"ref" => Expr::Ref {
+        "ref" => Expr::Ref {
             expr: next(words)?,
-            rawness: Rawness::from_raw(words.flag(b"raw")),
-            mutability: Mutability::from_mutable(words.flag(b"mut")),
+            rawness: Rawness::from_raw(words.flag("raw")),
+            mutability: Mutability::from_mutable(words.flag("mut")),
         },
-        b"unary" => Expr::UnaryOp {
+        "unary" => Expr::UnaryOp {
             op: next_unary(words)?,
             expr: next(words)?,
         },
-        b"bin" => Expr::BinaryOp {
+        "bin" => Expr::BinaryOp {
             op: next_binary(words)?,
             lhs: next(words)?,
             rhs: next(words)?,
         },
-        b"assign" => Expr::Assignment {
+        "assign" => Expr::Assignment {
             target: next(words)?,
             value: next(words)?,
         },
-        b"index" => Expr::Index {
+        "index" => Expr::Index {
             base: next(words)?,
             index: next(words)?,
         },
@@ -143,9 +143,9 @@ fn read_operation(word: &[u8], words: &mut Words<'_>) -> Result<Expr, TextError>
 }
 
 fn read_loop_source(words: &mut Words<'_>) -> LoopSource {
-    if words.flag(b"while") {
+    if words.flag("while") {
         LoopSource::While
-    } else if words.flag(b"for") {
+    } else if words.flag("for") {
         LoopSource::ForLoop
     } else {
         LoopSource::Loop
@@ -154,7 +154,7 @@ fn read_loop_source(words: &mut Words<'_>) -> LoopSource {
 
 /// Takes what comes after the fields of a record literal.
 fn read_spread(words: &mut Words<'_>) -> Result<RecordSpread, TextError> {
-    if !words.prefix(b"..") {
+    if !words.prefix("..") {
         return Ok(RecordSpread::None);
     }
     if words.is_word_end() {

@@ -13,7 +13,7 @@ pub trait Read: Drop + Sized {
 
 /// Takes what comes after a space.
 pub fn next<T: Read>(words: &mut Words<'_>) -> Result<T, TextError> {
-    words.expect(b" ")?;
+    words.expect(" ")?;
     T::read(words)
 }
 
@@ -27,12 +27,12 @@ pub fn opt_next<T: Read>(words: &mut Words<'_>) -> Result<Option<T>, TextError> 
 
 /// Takes what comes after a colon.
 pub fn part<T: Read>(words: &mut Words<'_>) -> Result<T, TextError> {
-    words.expect(b":")?;
+    words.expect(":")?;
     T::read(words)
 }
 
 /// Takes what comes after these bytes, where the line goes on with them.
-pub(crate) fn after<T: Read>(words: &mut Words<'_>, start: &[u8]) -> Result<Option<T>, TextError> {
+pub(crate) fn after<T: Read>(words: &mut Words<'_>, start: &str) -> Result<Option<T>, TextError> {
     if words.eat(start) {
         return Ok(Some(T::read(words)?));
     }
@@ -40,7 +40,7 @@ pub(crate) fn after<T: Read>(words: &mut Words<'_>, start: &[u8]) -> Result<Opti
 }
 
 /// Takes what comes after the beginning of the next word, where that is this one.
-pub fn prefixed<T: Read>(words: &mut Words<'_>, start: &[u8]) -> Result<Option<T>, TextError> {
+pub fn prefixed<T: Read>(words: &mut Words<'_>, start: &str) -> Result<Option<T>, TextError> {
     if words.prefix(start) {
         return Ok(Some(T::read(words)?));
     }
@@ -50,12 +50,12 @@ pub fn prefixed<T: Read>(words: &mut Words<'_>, start: &[u8]) -> Result<Option<T
 /// Takes what is in parentheses, of which the first was taken.
 pub(crate) fn in_parens<T: Read>(words: &mut Words<'_>) -> Result<T, TextError> {
     let value = T::read(words)?;
-    words.expect(b")")?;
+    words.expect(")")?;
     Ok(value)
 }
 
 /// Takes one or more, joined by this.
-pub(crate) fn joined<T: Read>(words: &mut Words<'_>, between: &[u8]) -> Result<Seq<T>, TextError> {
+pub(crate) fn joined<T: Read>(words: &mut Words<'_>, between: &str) -> Result<Seq<T>, TextError> {
     let mut items = Seq::new(words.alloc());
     for _ in 0..words.most_items() {
         items.push(T::read(words)?)?;
@@ -67,8 +67,8 @@ pub(crate) fn joined<T: Read>(words: &mut Words<'_>, between: &[u8]) -> Result<S
 }
 
 /// Takes some, joined by this, or `-` for none.
-pub(crate) fn list<T: Read>(words: &mut Words<'_>, between: &[u8]) -> Result<Seq<T>, TextError> {
-    if words.eat(b"-") {
+pub(crate) fn list<T: Read>(words: &mut Words<'_>, between: &str) -> Result<Seq<T>, TextError> {
+    if words.eat("-") {
         return Ok(Seq::new(words.alloc()));
     }
     joined(words, between)
@@ -78,7 +78,7 @@ pub(crate) fn list<T: Read>(words: &mut Words<'_>, between: &[u8]) -> Result<Seq
 pub(crate) fn each<T: Read>(words: &mut Words<'_>) -> Result<Seq<T>, TextError> {
     let mut items = Seq::new(words.alloc());
     for _ in 0..words.most_items() {
-        if words.is_end() || words.is_at(b" ..") {
+        if words.is_end() || words.is_at(" ..") {
             break;
         }
         items.push(next(words)?)?;
@@ -88,7 +88,7 @@ pub(crate) fn each<T: Read>(words: &mut Words<'_>) -> Result<Seq<T>, TextError> 
 
 /// Takes a text in quotes after a space.
 pub(crate) fn next_quoted(words: &mut Words<'_>) -> Result<Text, TextError> {
-    words.expect(b" ")?;
+    words.expect(" ")?;
     Ok(Text::from_string(words.quoted()?))
 }
 
@@ -146,7 +146,7 @@ impl Read for Text {
 /// `-`, where there is none.
 impl<T: Read> Read for Option<T> {
     fn read(words: &mut Words<'_>) -> Result<Option<T>, TextError> {
-        if words.eat(b"-") {
+        if words.eat("-") {
             return Ok(None);
         }
         Ok(Some(T::read(words)?))
@@ -156,7 +156,7 @@ impl<T: Read> Read for Option<T> {
 /// Items joined by `,`, or `-`.
 impl<T: Read> Read for Seq<T> {
     fn read(words: &mut Words<'_>) -> Result<Seq<T>, TextError> {
-        list(words, b",")
+        list(words, ",")
     }
 }
 
@@ -164,12 +164,12 @@ impl<T: Read> Read for Seq<T> {
 impl<K> Read for ShortList<Idx<K>> {
     fn read(words: &mut Words<'_>) -> Result<ShortList<Idx<K>>, TextError> {
         let mut ids = ShortList::new();
-        if words.eat(b"-") {
+        if words.eat("-") {
             return Ok(ids);
         }
         for _ in 0..words.most_items() {
             ids.push(words.alloc(), Read::read(words)?)?;
-            if !words.eat(b",") {
+            if !words.eat(",") {
                 break;
             }
         }

@@ -12,9 +12,9 @@ use hir_text_words::{Answer, TextError, Words};
 use std::alloc::AllocError;
 
 fn read_provenance(words: &mut Words<'_>) -> TypeParamProvenance {
-    if words.flag(b"self") {
+    if words.flag("self") {
         TypeParamProvenance::TraitSelf
-    } else if words.flag(b"impl") {
+    } else if words.flag("impl") {
         TypeParamProvenance::ArgumentImplTrait
     } else {
         TypeParamProvenance::TypeParamList
@@ -26,7 +26,7 @@ impl Read for TypeParamData {
     fn read(words: &mut Words<'_>) -> Result<TypeParamData, TextError> {
         Ok(TypeParamData {
             name: Read::read(words)?,
-            default: prefixed(words, b"default:")?,
+            default: prefixed(words, "default:")?,
             provenance: read_provenance(words),
         })
     }
@@ -46,7 +46,7 @@ impl Read for ConstParamData {
         Ok(ConstParamData {
             name: Read::read(words)?,
             ty: next(words)?,
-            default: prefixed(words, b"default:")?,
+            default: prefixed(words, "default:")?,
         })
     }
 }
@@ -55,7 +55,7 @@ impl Read for LifetimeParamData {
     fn read(words: &mut Words<'_>) -> Result<LifetimeParamData, TextError> {
         Ok(LifetimeParamData {
             name: Read::read(words)?,
-            bound_type: if words.flag(b"late") {
+            bound_type: if words.flag("late") {
                 LifetimeBoundType::LateBound
             } else {
                 LifetimeBoundType::EarlyBound
@@ -135,22 +135,22 @@ impl Write for WherePredicate {
 /// Takes what is in the parentheses of a visibility.
 fn read_limit(words: &mut Words<'_>) -> Result<RawVisibility, TextError> {
     match words.keyword() {
-        b"crate" => Ok(RawVisibility::PubCrate),
-        b"self" => Ok(RawVisibility::PubSelf),
-        b"in" => Ok(RawVisibility::Module(part(words)?)),
+        "crate" => Ok(RawVisibility::PubCrate),
+        "self" => Ok(RawVisibility::PubSelf),
+        "in" => Ok(RawVisibility::Module(part(words)?)),
         _ => Err(TextError::Syntax),
     }
 }
 
 /// Takes a visibility after a space.
 fn next_visibility(words: &mut Words<'_>) -> Result<RawVisibility, TextError> {
-    words.expect(b" pub")?;
+    words.expect(" pub")?;
     if words.is_word_end() {
         return Ok(RawVisibility::Public);
     }
-    words.expect(b"(")?;
+    words.expect("(")?;
     let visibility = read_limit(words)?;
-    words.expect(b")")?;
+    words.expect(")")?;
     Ok(visibility)
 }
 
@@ -161,8 +161,8 @@ impl Read for FieldData {
             name: Read::read(words)?,
             type_ref: next(words)?,
             visibility: next_visibility(words)?,
-            is_unsafe: words.flag(b"unsafe"),
-            default_value: prefixed(words, b"default:")?,
+            is_unsafe: words.flag("unsafe"),
+            default_value: prefixed(words, "default:")?,
         })
     }
 }
@@ -194,9 +194,9 @@ impl Write for FieldData {
 impl Read for FieldsShape {
     fn read(words: &mut Words<'_>) -> Result<FieldsShape, TextError> {
         match words.keyword() {
-            b"record" => Ok(FieldsShape::Record),
-            b"tuple" => Ok(FieldsShape::Tuple),
-            b"unit" => Ok(FieldsShape::Unit),
+            "record" => Ok(FieldsShape::Record),
+            "tuple" => Ok(FieldsShape::Tuple),
+            "unit" => Ok(FieldsShape::Unit),
             _ => Err(TextError::Syntax),
         }
     }

@@ -12,12 +12,12 @@ use std::alloc::AllocError;
 impl Read for BuiltinInt {
     fn read(words: &mut Words<'_>) -> Result<BuiltinInt, TextError> {
         match words.keyword() {
-            b"isize" => Ok(BuiltinInt::Isize),
-            b"i8" => Ok(BuiltinInt::I8),
-            b"i16" => Ok(BuiltinInt::I16),
-            b"i32" => Ok(BuiltinInt::I32),
-            b"i64" => Ok(BuiltinInt::I64),
-            b"i128" => Ok(BuiltinInt::I128),
+            "isize" => Ok(BuiltinInt::Isize),
+            "i8" => Ok(BuiltinInt::I8),
+            "i16" => Ok(BuiltinInt::I16),
+            "i32" => Ok(BuiltinInt::I32),
+            "i64" => Ok(BuiltinInt::I64),
+            "i128" => Ok(BuiltinInt::I128),
             _ => Err(TextError::Syntax),
         }
     }
@@ -26,12 +26,12 @@ impl Read for BuiltinInt {
 impl Read for BuiltinUint {
     fn read(words: &mut Words<'_>) -> Result<BuiltinUint, TextError> {
         match words.keyword() {
-            b"usize" => Ok(BuiltinUint::Usize),
-            b"u8" => Ok(BuiltinUint::U8),
-            b"u16" => Ok(BuiltinUint::U16),
-            b"u32" => Ok(BuiltinUint::U32),
-            b"u64" => Ok(BuiltinUint::U64),
-            b"u128" => Ok(BuiltinUint::U128),
+            "usize" => Ok(BuiltinUint::Usize),
+            "u8" => Ok(BuiltinUint::U8),
+            "u16" => Ok(BuiltinUint::U16),
+            "u32" => Ok(BuiltinUint::U32),
+            "u64" => Ok(BuiltinUint::U64),
+            "u128" => Ok(BuiltinUint::U128),
             _ => Err(TextError::Syntax),
         }
     }
@@ -40,17 +40,17 @@ impl Read for BuiltinUint {
 impl Read for BuiltinFloat {
     fn read(words: &mut Words<'_>) -> Result<BuiltinFloat, TextError> {
         match words.keyword() {
-            b"f16" => Ok(BuiltinFloat::F16),
-            b"f32" => Ok(BuiltinFloat::F32),
-            b"f64" => Ok(BuiltinFloat::F64),
-            b"f128" => Ok(BuiltinFloat::F128),
+            "f16" => Ok(BuiltinFloat::F16),
+            "f32" => Ok(BuiltinFloat::F32),
+            "f64" => Ok(BuiltinFloat::F64),
+            "f128" => Ok(BuiltinFloat::F128),
             _ => Err(TextError::Syntax),
         }
     }
 }
 
 fn next_bytes(words: &mut Words<'_>) -> Result<Seq<u8>, TextError> {
-    words.expect(b" ")?;
+    words.expect(" ")?;
     Ok(Seq::from_vec(words.bytes()?))
 }
 
@@ -66,38 +66,39 @@ fn next_char(words: &mut Words<'_>) -> Result<char, TextError> {
 
 /// Takes the text of a float: digits and `.`, or in quotes.
 fn next_float(words: &mut Words<'_>) -> Result<FloatTypeWrapper, TextError> {
-    if words.is_at(b" \"") {
+    if words.is_at(" \"") {
         return Ok(FloatTypeWrapper::new(next_quoted(words)?));
     }
-    words.expect(b" ")?;
+    words.expect(" ")?;
     let digits = words.take_of(Part::Decimal);
     if digits.is_empty() {
         return Err(TextError::Syntax);
     }
-    Ok(FloatTypeWrapper::new(Text::from_string(words.text_of(digits)?)))
+    let digits = String::from_str(words.alloc(), digits)?;
+    Ok(FloatTypeWrapper::new(Text::from_string(digits)))
 }
 
 /// Takes the literal of this form.
-pub(crate) fn read_literal(form: &[u8], words: &mut Words<'_>) -> Result<Literal, TextError> {
+pub(crate) fn read_literal(form: &str, words: &mut Words<'_>) -> Result<Literal, TextError> {
     match form {
-        b"string" => Ok(Literal::String(next_quoted(words)?)),
-        b"bytes" => Ok(Literal::ByteString(next_bytes(words)?)),
-        b"cstring" => Ok(Literal::CString(next_bytes(words)?)),
-        b"char" => Ok(Literal::Char(next_char(words)?)),
-        b"bool" => match words.next_keyword()? {
-            b"true" => Ok(Literal::Bool(true)),
-            b"false" => Ok(Literal::Bool(false)),
+        "string" => Ok(Literal::String(next_quoted(words)?)),
+        "bytes" => Ok(Literal::ByteString(next_bytes(words)?)),
+        "cstring" => Ok(Literal::CString(next_bytes(words)?)),
+        "char" => Ok(Literal::Char(next_char(words)?)),
+        "bool" => match words.next_keyword()? {
+            "true" => Ok(Literal::Bool(true)),
+            "false" => Ok(Literal::Bool(false)),
             _ => Err(TextError::Syntax),
         },
-        b"int" => {
-            words.expect(b" ")?;
+        "int" => {
+            words.expect(" ")?;
             Ok(Literal::Int(words.int()?, opt_next(words)?))
         }
-        b"uint" => {
-            words.expect(b" ")?;
+        "uint" => {
+            words.expect(" ")?;
             Ok(Literal::Uint(words.big()?, opt_next(words)?))
         }
-        b"float" => Ok(Literal::Float(next_float(words)?, opt_next(words)?)),
+        "float" => Ok(Literal::Float(next_float(words)?, opt_next(words)?)),
         _ => Err(TextError::Syntax),
     }
 }
@@ -153,18 +154,18 @@ pub fn put_literal(answer: &mut Answer, literal: &Literal) -> Result<(), AllocEr
     }
 }
 
-fn arith_op(word: &[u8]) -> Option<ArithOp> {
+fn arith_op(word: &str) -> Option<ArithOp> {
     match word {
-        b"+" => Some(ArithOp::Add),
-        b"-" => Some(ArithOp::Sub),
-        b"*" => Some(ArithOp::Mul),
-        b"/" => Some(ArithOp::Div),
-        b"%" => Some(ArithOp::Rem),
-        b"<<" => Some(ArithOp::Shl),
-        b">>" => Some(ArithOp::Shr),
-        b"^" => Some(ArithOp::BitXor),
-        b"|" => Some(ArithOp::BitOr),
-        b"&" => Some(ArithOp::BitAnd),
+        "+" => Some(ArithOp::Add),
+        "-" => Some(ArithOp::Sub),
+        "*" => Some(ArithOp::Mul),
+        "/" => Some(ArithOp::Div),
+        "%" => Some(ArithOp::Rem),
+        "<<" => Some(ArithOp::Shl),
+        ">>" => Some(ArithOp::Shr),
+        "^" => Some(ArithOp::BitXor),
+        "|" => Some(ArithOp::BitOr),
+        "&" => Some(ArithOp::BitAnd),
         _ => None,
     }
 }
@@ -173,42 +174,44 @@ fn order(ordering: Ordering, strict: bool) -> BinaryOp {
     BinaryOp::CmpOp(CmpOp::Ord { ordering, strict })
 }
 
-fn binary_op(word: &[u8]) -> Option<BinaryOp> {
+fn binary_op(word: &str) -> Option<BinaryOp> {
     Some(match word {
-        b"||" => BinaryOp::LogicOp(LogicOp::Or),
-        b"&&" => BinaryOp::LogicOp(LogicOp::And),
-        b"==" => BinaryOp::CmpOp(CmpOp::Eq { negated: false }),
-        b"!=" => BinaryOp::CmpOp(CmpOp::Eq { negated: true }),
-        b"<" => order(Ordering::Less, true),
-        b"<=" => order(Ordering::Less, false),
-        b">" => order(Ordering::Greater, true),
-        b">=" => order(Ordering::Greater, false),
-        b"=" => BinaryOp::Assignment { op: None },
-        [word @ .., b'='] => {
-            let op = Some(arith_op(word)?);
-            BinaryOp::Assignment { op }
-        }
-        _ => BinaryOp::ArithOp(arith_op(word)?),
+        "||" => BinaryOp::LogicOp(LogicOp::Or),
+        "&&" => BinaryOp::LogicOp(LogicOp::And),
+        "==" => BinaryOp::CmpOp(CmpOp::Eq { negated: false }),
+        "!=" => BinaryOp::CmpOp(CmpOp::Eq { negated: true }),
+        "<" => order(Ordering::Less, true),
+        "<=" => order(Ordering::Less, false),
+        ">" => order(Ordering::Greater, true),
+        ">=" => order(Ordering::Greater, false),
+        "=" => BinaryOp::Assignment { op: None },
+        _ => match word.strip_suffix('=') {
+            Some(word) => {
+                let op = Some(arith_op(word)?);
+                BinaryOp::Assignment { op }
+            }
+            None => BinaryOp::ArithOp(arith_op(word)?),
+        },
     })
 }
 
 /// Takes the operator between two expressions; none for `missing`.
 pub(crate) fn next_binary(words: &mut Words<'_>) -> Result<Option<BinaryOp>, TextError> {
-    if words.flag(b"missing") {
+    if words.flag("missing") {
         return Ok(None);
     }
-    words.expect(b" ")?;
+    words.expect(" ")?;
     let word = words.take_of(Part::Word);
     Ok(Some(binary_op(word).ok_or(TextError::Syntax)?))
 }
 
 /// Takes the operator before an expression.
 pub(crate) fn next_unary(words: &mut Words<'_>) -> Result<UnaryOp, TextError> {
-    words.expect(b" ")?;
+    words.expect(" ")?;
     match words.take_of(Part::Word) {
-        b"*" => Ok(UnaryOp::Deref),
-        b"!" => Ok(UnaryOp::Not),
-        b"-" => Ok(UnaryOp::Neg),
+        "*" => Ok(UnaryOp::Deref),
+        "!" => Ok(UnaryOp::Not),
+        "-" => Ok(UnaryOp::Neg),
         _ => Err(TextError::Syntax),
     }
 }

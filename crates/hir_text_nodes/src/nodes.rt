@@ -19,12 +19,12 @@ pub enum Node {
 impl Read for Node {
     fn read(words: &mut Words<'_>) -> Result<Node, TextError> {
         Ok(match words.keyword() {
-            b"expr" => Node::Expr(part(words)?),
-            b"pat" => Node::Pat(part(words)?),
-            b"type" => Node::Type(part(words)?),
-            b"binding" => Node::Binding(part(words)?),
-            b"label" => Node::Label(part(words)?),
-            b"lifetime" => Node::Lifetime(part(words)?),
+            "expr" => Node::Expr(part(words)?),
+            "pat" => Node::Pat(part(words)?),
+            "type" => Node::Type(part(words)?),
+            "binding" => Node::Binding(part(words)?),
+            "label" => Node::Label(part(words)?),
+            "lifetime" => Node::Lifetime(part(words)?),
             _ => return Err(TextError::Syntax),
         })
     }

@@ -9,18 +9,18 @@ use hir_text_words::{Answer, TextError, Words};
 use std::alloc::AllocError;
 
 /// Returns the kind of a path that a bare word is; none where it is the name of a segment.
-fn kind_of(word: &[u8]) -> Option<PathKind> {
+fn kind_of(word: &str) -> Option<PathKind> {
     match word {
-        b"self" => Some(PathKind::SELF),
-        b"super" => Some(PathKind::Super(1)),
-        b"crate" => Some(PathKind::Crate),
+        "self" => Some(PathKind::SELF),
+        "super" => Some(PathKind::Super(1)),
+        "crate" => Some(PathKind::Crate),
         _ => None,
     }
 }
 
 /// Takes the kind of a path that begins with a word; none where that is the name of a segment.
 fn opt_kind(words: &mut Words<'_>) -> Result<Option<PathKind>, TextError> {
-    if words.eat(b"$crate(") {
+    if words.eat("$crate(") {
         return Ok(Some(PathKind::DollarCrate(in_parens(words)?)));
     }
     let mut ahead = *words;
@@ -28,7 +28,7 @@ fn opt_kind(words: &mut Words<'_>) -> Result<Option<PathKind>, TextError> {
     if kind.is_some() {
         *words = ahead;
     }
-    if kind == Some(PathKind::Super(1)) && words.eat(b"(") {
+    if kind == Some(PathKind::Super(1)) && words.eat("(") {
         return Ok(Some(PathKind::Super(in_parens(words)?)));
     }
     Ok(kind)
@@ -36,14 +36,14 @@ fn opt_kind(words: &mut Words<'_>) -> Result<Option<PathKind>, TextError> {
 
 /// Takes the kind of a path; returns also whether a segment comes next.
 fn read_kind(words: &mut Words<'_>) -> Result<(PathKind, bool), TextError> {
-    if words.eat(b"::") {
+    if words.eat("::") {
         return Ok((PathKind::Abs, words.is_at_name()));
     }
-    if words.eat(b"-") {
+    if words.eat("-") {
         return Ok((PathKind::Plain, false));
     }
     match opt_kind(words)? {
-        Some(kind) => Ok((kind, words.eat(b"::"))),
+        Some(kind) => Ok((kind, words.eat("::"))),
         None => Ok((PathKind::Plain, true)),
     }
 }
@@ -65,7 +65,7 @@ fn read_names(words: &mut Words<'_>, has_names: bool) -> Result<Seq<Name>, TextE
             break;
         }
         names.push(read_segment(words)?)?;
-        goes_on = words.eat(b"::");
+        goes_on = words.eat("::");
     }
     Ok(names)
 }
@@ -82,7 +82,7 @@ impl Read for ModPath {
 type Places = Seq<Option<GenericArgs>>;
 
 fn opt_args(words: &mut Words<'_>) -> Result<Option<GenericArgs>, TextError> {
-    if words.is_at(b"::<") {
+    if words.is_at("::<") {
         return Ok(Some(Read::read(words)?));
     }
     Ok(None)
@@ -99,23 +99,23 @@ fn read_segments(words: &mut Words<'_>, has_some: bool) -> Result<(Seq<Name>, Pl
         }
         names.push(read_segment(words)?)?;
         places.push(opt_args(words)?)?;
-        goes_on = words.eat(b"::");
+        goes_on = words.eat("::");
     }
     Ok((names, places))
 }
 
 /// Takes the type in `<>` that a path begins at, where there is one.
 fn opt_anchor(words: &mut Words<'_>) -> Result<Option<TypeRefId>, TextError> {
-    let anchor = after(words, b"<")?;
+    let anchor = after(words, "<")?;
     if anchor.is_some() {
-        words.expect(b">")?;
+        words.expect(">")?;
     }
     Ok(anchor)
 }
 
 /// Takes the kind of a path after its anchor, if it has one; returns also whether a segment comes next.
 fn kind_behind(words: &mut Words<'_>, has_anchor: bool) -> Result<(PathKind, bool), TextError> {
-    if has_anchor && !words.eat(b"::") {
+    if has_anchor && !words.eat("::") {
         return Ok((PathKind::Plain, false));
     }
     read_kind(words)
@@ -132,7 +132,7 @@ fn has_args(places: &[Option<GenericArgs>]) -> bool {
 
 /// Returns these places, cut or filled up to as many as come after `/`: no arguments may be lost.
 fn read_places(words: &mut Words<'_>, places: Places) -> Result<Places, TextError> {
-    let Some(count) = after::<u8>(words, b"/")? else {
+    let Some(count) = after::<u8>(words, "/")? else {
         return Ok(places);
     };
     let count = usize::from(count);
@@ -149,7 +149,7 @@ fn read_places(words: &mut Words<'_>, places: Places) -> Result<Places, TextErro
 
 /// Takes the name after a lang item, where there is one.
 fn opt_lang_name(words: &mut Words<'_>) -> Result<Option<Boxed<Name>>, TextError> {
-    if words.eat(b"::") {
+    if words.eat("::") {
         let name = read_segment(words)?;
         return Ok(Some(Boxed::new(words.alloc(), name)?));
     }
@@ -181,10 +181,10 @@ fn read_normal(
 
 impl Read for Path {
     fn read(words: &mut Words<'_>) -> Result<Path, TextError> {
-        if words.eat(b"lang(") {
+        if words.eat("lang(") {
             return read_lang(words);
         }
-        let is_normal = words.eat(b"~");
+        let is_normal = words.eat("~");
         let anchor = opt_anchor(words)?;
         let (kind, has_segments) = kind_behind(words, anchor.is_some())?;
         let (names, places) = read_segments(words, has_segments)?;
@@ -223,7 +223,7 @@ fn join_kind(answer: &mut Answer, kind: PathKind, has_names: bool) -> Result<(),
 }
 
 fn join_segment(answer: &mut Answer, name: &Name) -> Result<(), AllocError> {
-    join_name(answer, name, kind_of(name.as_str().as_bytes()).is_some())
+    join_name(answer, name, kind_of(name.as_str()).is_some())
 }
 
 impl Write for ModPath {

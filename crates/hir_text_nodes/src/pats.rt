@@ -10,45 +10,45 @@ use std::alloc::AllocError;
 impl Read for Pat {
     fn read(words: &mut Words<'_>) -> Result<Pat, TextError> {
         Ok(match words.keyword() {
-            b"missing" => Pat::Missing,
-            b"rest" => Pat::Rest,
-            b"wild" => Pat::Wild,
-            b"not-null" => Pat::NotNull,
-            b"tuple" => Pat::Tuple {
+            "missing" => Pat::Missing,
+            "rest" => Pat::Rest,
+            "wild" => Pat::Wild,
+            "not-null" => Pat::NotNull,
+            "tuple" => Pat::Tuple {
                 args: next(words)?,
-                ellipsis: prefixed(words, b"..")?,
+                ellipsis: prefixed(words, "..")?,
             },
-            b"or" => Pat::Or(next(words)?),
-            b"record" => Pat::Record {
+            "or" => Pat::Or(next(words)?),
+            "record" => Pat::Record {
                 path: next(words)?,
                 args: each(words)?,
-                ellipsis: words.flag(b".."),
+                ellipsis: words.flag(".."),
             },
-            b"range" => Pat::Range {
+            "range" => Pat::Range {
                 start: next(words)?,
                 end: next(words)?,
                 range_type: read_range_op(words),
             },
-            b"slice" => Pat::Slice {
+            "slice" => Pat::Slice {
                 prefix: next(words)?,
                 slice: next(words)?,
                 suffix: next(words)?,
             },
-            b"path" => Pat::Path(next(words)?),
-            b"lit" => Pat::Lit(next(words)?),
-            b"expr" => Pat::Expr(next(words)?),
-            b"bind" => Pat::Bind {
+            "path" => Pat::Path(next(words)?),
+            "lit" => Pat::Lit(next(words)?),
+            "expr" => Pat::Expr(next(words)?),
+            "bind" => Pat::Bind {
                 id: next(words)?,
                 subpat: next(words)?,
             },
-            b"tstruct" => Pat::TupleStruct {
+            "tstruct" => Pat::TupleStruct {
                 path: next(words)?,
                 args: next(words)?,
-                ellipsis: prefixed(words, b"..")?,
+                ellipsis: prefixed(words, "..")?,
             },
-            b"ref" => Pat::Ref {
+            "ref" => Pat::Ref {
                 pat: next(words)?,
-                mutability: Mutability::from_mutable(words.flag(b"mut")),
+                mutability: Mutability::from_mutable(words.flag("mut")),
             },
             word => return read_inner(word, words),
         })
@@ -56,12 +56,12 @@ impl Read for Pat {
 }
 
 /// Takes a pattern that is around another one.
-fn read_inner(word: &[u8], words: &mut Words<'_>) -> Result<Pat, TextError> {
+fn read_inner(word: &str, words: &mut Words<'_>) -> Result<Pat, TextError> {
     match word {
-        b"box" => Ok(Pat::Box {
+        "box" => Ok(Pat::Box {
             inner: next(words)?,
         }),
-        b"deref" => Ok(Pat::Deref {
+        "deref" => Ok(Pat::Deref {
             inner: next(words)?,
         }),
         _ => Err(TextError::Syntax),
@@ -69,7 +69,7 @@ fn read_inner(word: &[u8], words: &mut Words<'_>) -> Result<Pat, TextError> {
 }
 
 fn read_range_op(words: &mut Words<'_>) -> RangeOp {
-    if words.flag(b"exclusive") {
+    if words.flag("exclusive") {
         RangeOp::Exclusive
     } else {
         RangeOp::Inclusive

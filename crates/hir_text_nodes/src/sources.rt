@@ -14,7 +14,7 @@ impl Read for InFile<SyntaxNodePtr> {
         let file_id = Read::read(words)?;
         let kind = part(words)?;
         let start = part(words)?;
-        words.expect(b"-")?;
+        words.expect("-")?;
         let end = Read::read(words)?;
         let range = TextRange { start, end };
         let value = SyntaxNodePtr { kind, range };
@@ -58,7 +58,7 @@ pub fn syntax<K>(source: InFile<AstPtr<K>>) -> InFile<SyntaxNodePtr> {
 /// The number of an expansion, or `root`.
 impl Read for HygieneId {
     fn read(words: &mut Words<'_>) -> Result<HygieneId, TextError> {
-        if words.eat(b"root") {
+        if words.eat("root") {
             return Ok(HygieneId::ROOT);
         }
         Ok(HygieneId::new(SyntaxContext::Expansion(Read::read(words)?)))
@@ -76,7 +76,7 @@ impl Write for HygieneId {
 
 /// Takes a hygiene, where one comes next: else it is that of source text.
 pub fn opt_hygiene(words: &mut Words<'_>) -> Result<HygieneId, TextError> {
-    if words.flag(b"root") {
+    if words.flag("root") {
         return Ok(HygieneId::ROOT);
     }
     match words.rest() {
@@ -88,10 +88,10 @@ pub fn opt_hygiene(words: &mut Words<'_>) -> Result<HygieneId, TextError> {
 impl Read for Edition {
     fn read(words: &mut Words<'_>) -> Result<Edition, TextError> {
         match words.keyword() {
-            b"2015" => Ok(Edition::Edition2015),
-            b"2018" => Ok(Edition::Edition2018),
-            b"2021" => Ok(Edition::Edition2021),
-            b"2024" => Ok(Edition::Edition2024),
+            "2015" => Ok(Edition::Edition2015),
+            "2018" => Ok(Edition::Edition2018),
+            "2021" => Ok(Edition::Edition2021),
+            "2024" => Ok(Edition::Edition2024),
             _ => Err(TextError::Syntax),
         }
     }
@@ -105,15 +105,15 @@ pub fn opt_edition(words: &mut Words<'_>) -> Result<Edition, TextError> {
 /// A word that is known, or any text in quotes.
 impl Read for ExternAbi {
     fn read(words: &mut Words<'_>) -> Result<ExternAbi, TextError> {
-        if words.is_at(b"\"") {
+        if words.is_at("\"") {
             return Ok(ExternAbi::Named(Read::read(words)?));
         }
         match words.keyword() {
-            b"Rust" => Ok(ExternAbi::Rust),
-            b"C" => Ok(ExternAbi::C),
-            b"C-unwind" => Ok(ExternAbi::CUnwind),
-            b"system" => Ok(ExternAbi::System),
-            b"system-unwind" => Ok(ExternAbi::SystemUnwind),
+            "Rust" => Ok(ExternAbi::Rust),
+            "C" => Ok(ExternAbi::C),
+            "C-unwind" => Ok(ExternAbi::CUnwind),
+            "system" => Ok(ExternAbi::System),
+            "system-unwind" => Ok(ExternAbi::SystemUnwind),
             _ => Err(TextError::Syntax),
         }
     }
@@ -123,7 +123,7 @@ impl Read for ExternAbi {
 /// is the name of a parameter.
 pub fn opt_abi(words: &mut Words<'_>) -> Result<ExternAbi, TextError> {
     let mut ahead = *words;
-    if !ahead.prefix(b"extern:") || matches!(ahead.rest(), [b'0'..=b'9', ..]) {
+    if !ahead.prefix("extern:") || matches!(ahead.rest(), [b'0'..=b'9', ..]) {
         return Ok(ExternAbi::Rust);
     }
     *words = ahead;

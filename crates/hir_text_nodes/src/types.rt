@@ -16,27 +16,27 @@ use std::alloc::AllocError;
 impl Read for TypeRef {
     fn read(words: &mut Words<'_>) -> Result<TypeRef, TextError> {
         match words.keyword() {
-            b"never" => Ok(TypeRef::Never),
-            b"placeholder" => Ok(TypeRef::Placeholder),
-            b"error" => Ok(TypeRef::Error),
-            b"tuple" => Ok(TypeRef::Tuple(next(words)?)),
-            b"path" => Ok(TypeRef::Path(next(words)?)),
-            b"raw" => {
+            "never" => Ok(TypeRef::Never),
+            "placeholder" => Ok(TypeRef::Placeholder),
+            "error" => Ok(TypeRef::Error),
+            "tuple" => Ok(TypeRef::Tuple(next(words)?)),
+            "path" => Ok(TypeRef::Path(next(words)?)),
+            "raw" => {
                 let ty = next(words)?;
-                Ok(TypeRef::RawPtr(ty, Mutability::from_mutable(words.flag(b"mut"))))
+                Ok(TypeRef::RawPtr(ty, Mutability::from_mutable(words.flag("mut"))))
             }
-            b"ref" => Ok(TypeRef::Reference(Read::read(words)?)),
-            b"array" => {
+            "ref" => Ok(TypeRef::Reference(Read::read(words)?)),
+            "array" => {
                 let (ty, expr) = (next(words)?, next(words)?);
                 let len = ConstRef { expr };
                 Ok(TypeRef::Array(ArrayType { ty, len }))
             }
-            b"slice" => Ok(TypeRef::Slice(next(words)?)),
-            b"fn" => Ok(TypeRef::Fn(Read::read(words)?)),
-            b"impl" => Ok(TypeRef::ImplTrait(next_bounds(words)?)),
-            b"dyn" => Ok(TypeRef::DynTrait(next_bounds(words)?)),
-            b"param" => Ok(TypeRef::TypeParam(next(words)?)),
-            b"pattern" => Ok(TypeRef::PatternType(next(words)?, next(words)?)),
+            "slice" => Ok(TypeRef::Slice(next(words)?)),
+            "fn" => Ok(TypeRef::Fn(Read::read(words)?)),
+            "impl" => Ok(TypeRef::ImplTrait(next_bounds(words)?)),
+            "dyn" => Ok(TypeRef::DynTrait(next_bounds(words)?)),
+            "param" => Ok(TypeRef::TypeParam(next(words)?)),
+            "pattern" => Ok(TypeRef::PatternType(next(words)?, next(words)?)),
             _ => Err(TextError::Syntax),
         }
     }
@@ -48,7 +48,7 @@ impl Read for RefType {
         Ok(RefType {
             ty: next(words)?,
             lifetime: next(words)?,
-            mutability: Mutability::from_mutable(words.flag(b"mut")),
+            mutability: Mutability::from_mutable(words.flag("mut")),
         })
     }
 }
@@ -58,9 +58,9 @@ impl Read for FnType {
     fn read(words: &mut Words<'_>) -> Result<FnType, TextError> {
         Ok(FnType {
             binder: opt_binder(words)?,
-            is_unsafe: words.flag(b"unsafe"),
+            is_unsafe: words.flag("unsafe"),
             abi: opt_abi(words)?,
-            is_varargs: words.flag(b"varargs"),
+            is_varargs: words.flag("varargs"),
             params: each(words)?,
         })
     }
@@ -72,7 +72,7 @@ fn opt_param_name(words: &mut Words<'_>) -> Result<Option<Name>, TextError> {
         return Ok(None);
     }
     let name = Read::read(words)?;
-    words.expect(b":")?;
+    words.expect(":")?;
     Ok(Some(name))
 }
 
@@ -147,11 +147,11 @@ impl Write for TypeRef {
 impl Read for LifetimeRef {
     fn read(words: &mut Words<'_>) -> Result<LifetimeRef, TextError> {
         match words.keyword() {
-            b"named" => Ok(LifetimeRef::Named(next(words)?)),
-            b"static" => Ok(LifetimeRef::Static),
-            b"placeholder" => Ok(LifetimeRef::Placeholder),
-            b"param" => Ok(LifetimeRef::Param(next(words)?)),
-            b"error" => Ok(LifetimeRef::Error),
+            "named" => Ok(LifetimeRef::Named(next(words)?)),
+            "static" => Ok(LifetimeRef::Static),
+            "placeholder" => Ok(LifetimeRef::Placeholder),
+            "param" => Ok(LifetimeRef::Param(next(words)?)),
+            "error" => Ok(LifetimeRef::Error),
             _ => Err(TextError::Syntax),
         }
     }
@@ -188,11 +188,11 @@ impl Write for Label {
 }
 
 fn read_mode(words: &mut Words<'_>) -> BindingAnnotation {
-    if words.flag(b"mut") {
+    if words.flag("mut") {
         BindingAnnotation::Mutable
-    } else if words.flag(b"ref") {
+    } else if words.flag("ref") {
         BindingAnnotation::Ref
-    } else if words.flag(b"refmut") {
+    } else if words.flag("refmut") {
         BindingAnnotation::RefMut
     } else {
         BindingAnnotation::Unannotated
@@ -200,11 +200,11 @@ fn read_mode(words: &mut Words<'_>) -> BindingAnnotation {
 }
 
 fn opt_problem(words: &mut Words<'_>) -> Option<BindingProblems> {
-    if words.flag(b"BoundMoreThanOnce") {
+    if words.flag("BoundMoreThanOnce") {
         Some(BindingProblems::BoundMoreThanOnce)
-    } else if words.flag(b"BoundInconsistently") {
+    } else if words.flag("BoundInconsistently") {
         Some(BindingProblems::BoundInconsistently)
-    } else if words.flag(b"NotBoundAcrossAll") {
+    } else if words.flag("NotBoundAcrossAll") {
         Some(BindingProblems::NotBoundAcrossAll)
     } else {
         None

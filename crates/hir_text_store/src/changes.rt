@@ -54,43 +54,43 @@ where
 }
 
 /// Reads where a node comes from, or what a source became.
-fn read_source(word: &[u8], words: &mut Words<'_>) -> Result<Option<Change>, TextError> {
+fn read_source(word: &str, words: &mut Words<'_>) -> Result<Option<Change>, TextError> {
     Ok(Some(match word {
-        b"map-expr" => Change::MapExpr(next(words)?, next(words)?),
-        b"map-pat" => Change::MapPat(next(words)?, next(words)?),
-        b"map-label" => Change::MapLabel(next(words)?, next(words)?),
-        b"map-type" => Change::MapType(next(words)?, next(words)?),
-        b"map-lifetime" => Change::MapLifetime(next(words)?, next(words)?),
-        b"expansion" => Change::Expansion(next(words)?, next(words)?),
-        b"map-expr-back" => Change::MapExprBack(next(words)?, next(words)?),
-        b"map-pat-back" => Change::MapPatBack(next(words)?, next(words)?),
-        b"map-label-back" => Change::MapLabelBack(next(words)?, next(words)?),
-        b"map-type-back" => Change::MapTypeBack(next(words)?, next(words)?),
-        b"map-lifetime-back" => Change::MapLifetimeBack(next(words)?, next(words)?),
-        b"map-field-back" => Change::MapFieldBack(next(words)?, next(words)?),
-        b"map-pat-field-back" => Change::MapPatFieldBack(next(words)?, next(words)?),
+        "map-expr" => Change::MapExpr(next(words)?, next(words)?),
+        "map-pat" => Change::MapPat(next(words)?, next(words)?),
+        "map-label" => Change::MapLabel(next(words)?, next(words)?),
+        "map-type" => Change::MapType(next(words)?, next(words)?),
+        "map-lifetime" => Change::MapLifetime(next(words)?, next(words)?),
+        "expansion" => Change::Expansion(next(words)?, next(words)?),
+        "map-expr-back" => Change::MapExprBack(next(words)?, next(words)?),
+        "map-pat-back" => Change::MapPatBack(next(words)?, next(words)?),
+        "map-label-back" => Change::MapLabelBack(next(words)?, next(words)?),
+        "map-type-back" => Change::MapTypeBack(next(words)?, next(words)?),
+        "map-lifetime-back" => Change::MapLifetimeBack(next(words)?, next(words)?),
+        "map-field-back" => Change::MapFieldBack(next(words)?, next(words)?),
+        "map-pat-field-back" => Change::MapPatFieldBack(next(words)?, next(words)?),
         _ => return Ok(None),
     }))
 }
 
 impl Change {
     /// Reads what a line adds, after its first word; `None` where no such line begins with it.
-    pub fn read(word: &[u8], words: &mut Words<'_>) -> Result<Option<Change>, TextError> {
+    pub fn read(word: &str, words: &mut Words<'_>) -> Result<Option<Change>, TextError> {
         Ok(Some(match word {
-            b"expr" => Change::Expr(next(words)?),
-            b"pat" => Change::Pat(next(words)?),
-            b"type" => Change::Type(next(words)?),
-            b"bind" => Change::Binding(next(words)?),
-            b"label" => Change::Label(next(words)?),
-            b"lifetime" => Change::Lifetime(next(words)?),
-            b"roots" => Change::Roots,
-            b"root" => Change::Root(next(words)?),
-            b"hygiene" => Change::Hygiene(ExprOrPatId::ExprId(next(words)?), next(words)?),
-            b"pat-hygiene" => Change::Hygiene(ExprOrPatId::PatId(next(words)?), next(words)?),
-            b"owner" => Change::Owner(next(words)?, next(words)?),
-            b"block-scope" => Change::BlockScope(next(words)?),
-            b"definition" => Change::Definition(next(words)?, next(words)?),
-            b"diagnostic" => Change::Diagnostic(next(words)?),
+            "expr" => Change::Expr(next(words)?),
+            "pat" => Change::Pat(next(words)?),
+            "type" => Change::Type(next(words)?),
+            "bind" => Change::Binding(next(words)?),
+            "label" => Change::Label(next(words)?),
+            "lifetime" => Change::Lifetime(next(words)?),
+            "roots" => Change::Roots,
+            "root" => Change::Root(next(words)?),
+            "hygiene" => Change::Hygiene(ExprOrPatId::ExprId(next(words)?), next(words)?),
+            "pat-hygiene" => Change::Hygiene(ExprOrPatId::PatId(next(words)?), next(words)?),
+            "owner" => Change::Owner(next(words)?, next(words)?),
+            "block-scope" => Change::BlockScope(next(words)?),
+            "definition" => Change::Definition(next(words)?, next(words)?),
+            "diagnostic" => Change::Diagnostic(next(words)?),
             _ => return read_source(word, words),
         }))
     }

@@ -83,30 +83,30 @@ pub enum Question {
 impl Read for Arena {
     fn read(words: &mut Words<'_>) -> Result<Arena, TextError> {
         match words.keyword() {
-            b"exprs" => Ok(Arena::Exprs),
-            b"pats" => Ok(Arena::Pats),
-            b"bindings" => Ok(Arena::Bindings),
-            b"labels" => Ok(Arena::Labels),
-            b"types" => Ok(Arena::Types),
-            b"lifetimes" => Ok(Arena::Lifetimes),
+            "exprs" => Ok(Arena::Exprs),
+            "pats" => Ok(Arena::Pats),
+            "bindings" => Ok(Arena::Bindings),
+            "labels" => Ok(Arena::Labels),
+            "types" => Ok(Arena::Types),
+            "lifetimes" => Ok(Arena::Lifetimes),
             _ => Err(TextError::Syntax),
         }
     }
 }
 
 fn read_has(words: &mut Words<'_>) -> Result<Question, TextError> {
-    match prefixed(words, b"path:")? {
+    match prefixed(words, "path:")? {
         Some(id) => Ok(Question::HasPath(PathId::from_type_ref_unchecked(id))),
         None => Ok(Question::Has(next(words)?)),
     }
 }
 
 fn read_calls(words: &mut Words<'_>) -> Result<Question, TextError> {
-    if words.flag(b"path") {
+    if words.flag("path") {
         Ok(Question::CallsOfPath(next(words)?))
-    } else if words.flag(b"args") {
+    } else if words.flag("args") {
         Ok(Question::CallsOfArgs(next(words)?))
-    } else if words.flag(b"bound") {
+    } else if words.flag("bound") {
         Ok(Question::CallsOfBound(next(words)?))
     } else {
         Ok(Question::Calls(next(words)?))
@@ -122,45 +122,45 @@ fn read_root_of(words: &mut Words<'_>) -> Result<Question, TextError> {
     }
 }
 
-fn read_on_sources(word: &[u8], words: &mut Words<'_>) -> Result<Option<Question>, TextError> {
+fn read_on_sources(word: &str, words: &mut Words<'_>) -> Result<Option<Question>, TextError> {
     Ok(Some(match word {
-        b"syntax" => Question::Syntax(next(words)?),
-        b"expr-syntax" => Question::ExprSyntax(next(words)?),
-        b"pat-syntax" => Question::PatSyntax(next(words)?),
-        b"type-syntax" => Question::TypeSyntax(next(words)?),
-        b"label-syntax" => Question::LabelSyntax(next(words)?),
-        b"field-syntax" => Question::FieldSyntax(next(words)?),
-        b"pat-field-syntax" => Question::PatFieldSyntax(next(words)?),
-        b"patterns-for" => Question::PatternsFor(next(words)?),
-        b"diagnostics" => Question::Diagnostics,
-        b"node-expr" => Question::NodeExpr(next(words)?),
-        b"node-pat" => Question::NodePat(next(words)?),
-        b"node-type" => Question::NodeType(next(words)?),
-        b"node-label" => Question::NodeLabel(next(words)?),
-        b"macro-expansion-expr" => Question::MacroExpansionExpr(next(words)?),
-        b"node-macro-file" => Question::NodeMacroFile(next(words)?),
-        b"expansion-of" => Question::ExpansionOf(next(words)?),
-        b"expansions" => Question::Expansions,
+        "syntax" => Question::Syntax(next(words)?),
+        "expr-syntax" => Question::ExprSyntax(next(words)?),
+        "pat-syntax" => Question::PatSyntax(next(words)?),
+        "type-syntax" => Question::TypeSyntax(next(words)?),
+        "label-syntax" => Question::LabelSyntax(next(words)?),
+        "field-syntax" => Question::FieldSyntax(next(words)?),
+        "pat-field-syntax" => Question::PatFieldSyntax(next(words)?),
+        "patterns-for" => Question::PatternsFor(next(words)?),
+        "diagnostics" => Question::Diagnostics,
+        "node-expr" => Question::NodeExpr(next(words)?),
+        "node-pat" => Question::NodePat(next(words)?),
+        "node-type" => Question::NodeType(next(words)?),
+        "node-label" => Question::NodeLabel(next(words)?),
+        "macro-expansion-expr" => Question::MacroExpansionExpr(next(words)?),
+        "node-macro-file" => Question::NodeMacroFile(next(words)?),
+        "expansion-of" => Question::ExpansionOf(next(words)?),
+        "expansions" => Question::Expansions,
         _ => return Ok(None),
     }))
 }
 
 /// Reads a question on what is below a node or above it, or on sources.
-fn read_on_tree(word: &[u8], words: &mut Words<'_>) -> Result<Option<Question>, TextError> {
+fn read_on_tree(word: &str, words: &mut Words<'_>) -> Result<Option<Question>, TextError> {
     Ok(Some(match word {
-        b"children" => Question::Visited(Walk::Children(next(words)?)),
-        b"children-without-pats" => { Question::Visited(Walk::ChildrenWithoutPats(next(words)?)) }
-        b"walk-pats" => Question::Visited(Walk::Pats(next(words)?)),
-        b"walk-pats-shallow" => Question::Visited(Walk::PatsShallow(next(words)?)),
-        b"bindings-in" => Question::Visited(Walk::Bindings(next(words)?)),
-        b"exprs-in" => Question::Visited(Walk::Exprs(next(words)?)),
-        b"child-pats" => Question::ChildPats(next(words)?),
-        b"root-of" => read_root_of(words)?,
-        b"node-parent" => Question::Parent(next(words)?),
-        b"ancestors" => Question::Ancestors(next(words)?),
-        b"enclosing-closure" => Question::EnclosingClosure(next(words)?),
-        b"enclosing-loop" => Question::EnclosingLoop(next(words)?),
-        b"jump-target" => Question::JumpTarget(next(words)?),
+        "children" => Question::Visited(Walk::Children(next(words)?)),
+        "children-without-pats" => { Question::Visited(Walk::ChildrenWithoutPats(next(words)?)) }
+        "walk-pats" => Question::Visited(Walk::Pats(next(words)?)),
+        "walk-pats-shallow" => Question::Visited(Walk::PatsShallow(next(words)?)),
+        "bindings-in" => Question::Visited(Walk::Bindings(next(words)?)),
+        "exprs-in" => Question::Visited(Walk::Exprs(next(words)?)),
+        "child-pats" => Question::ChildPats(next(words)?),
+        "root-of" => read_root_of(words)?,
+        "node-parent" => Question::Parent(next(words)?),
+        "ancestors" => Question::Ancestors(next(words)?),
+        "enclosing-closure" => Question::EnclosingClosure(next(words)?),
+        "enclosing-loop" => Question::EnclosingLoop(next(words)?),
+        "jump-target" => Question::JumpTarget(next(words)?),
         _ => return read_on_sources(word, words),
     }))
 }
@@ -345,23 +345,23 @@ fn put_diagnostics(
 
 impl Question {
     /// Reads a question, after its first word; `None` where no such question begins with it.
-    pub fn read(word: &[u8], words: &mut Words<'_>) -> Result<Option<Question>, TextError> {
+    pub fn read(word: &str, words: &mut Words<'_>) -> Result<Option<Question>, TextError> {
         Ok(Some(match word {
-            b"nodes" => Question::Counts,
-            b"list-roots" => Question::Roots,
-            b"line" => Question::Line(next(words)?),
-            b"lines" => Question::Lines(next(words)?),
-            b"store-lines" => Question::StoreLines,
-            b"has" => read_has(words)?,
-            b"calls" => read_calls(words)?,
-            b"precedence" => Question::Precedence(next(words)?),
-            b"negate" => Question::Negate(next(words)?),
-            b"owner-of" => Question::OwnerOf(next(words)?),
-            b"hygiene-of" => Question::HygieneOf(next(words)?),
-            b"coroutine-for-closure" => Question::CoroutineForClosure(next(words)?),
-            b"closure-for-coroutine" => Question::ClosureForCoroutine(next(words)?),
-            b"sound" => Question::Sound(next(words)?),
-            b"bound-path" => Question::BoundPath(next(words)?),
+            "nodes" => Question::Counts,
+            "list-roots" => Question::Roots,
+            "line" => Question::Line(next(words)?),
+            "lines" => Question::Lines(next(words)?),
+            "store-lines" => Question::StoreLines,
+            "has" => read_has(words)?,
+            "calls" => read_calls(words)?,
+            "precedence" => Question::Precedence(next(words)?),
+            "negate" => Question::Negate(next(words)?),
+            "owner-of" => Question::OwnerOf(next(words)?),
+            "hygiene-of" => Question::HygieneOf(next(words)?),
+            "coroutine-for-closure" => Question::CoroutineForClosure(next(words)?),
+            "closure-for-coroutine" => Question::ClosureForCoroutine(next(words)?),
+            "sound" => Question::Sound(next(words)?),
+            "bound-path" => Question::BoundPath(next(words)?),
             _ => return read_on_tree(word, words),
         }))
     }

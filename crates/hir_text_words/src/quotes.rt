@@ -21,9 +21,9 @@ fn char_of(digits: &[u8]) -> Option<char> {
 
 /// Takes a character's number in braces, in hexadecimal.
 fn read_char(words: &mut Words<'_>) -> Result<char, TextError> {
-    words.expect(b"{")?;
-    let digits = words.keyword();
-    words.expect(b"}")?;
+    words.expect("{")?;
+    let digits = words.keyword().as_bytes();
+    words.expect("}")?;
     if digits.is_empty() {
         return Err(TextError::Syntax);
     }
@@ -32,7 +32,7 @@ fn read_char(words: &mut Words<'_>) -> Result<char, TextError> {
 
 /// Takes what comes after a backslash, and puts the bytes that it stands for after the others.
 fn read_escape(words: &mut Words<'_>, bytes: &mut Vec<u8>) -> Result<(), TextError> {
-    if words.eat(b"u") {
+    if words.eat("u") {
         let c = read_char(words)?;
         return Ok(bytes.extend_from_slice(c.encode_utf8(&mut [0u8; 4]).as_bytes())?);
     }
@@ -55,12 +55,12 @@ fn read_next(
     bytes: &mut Vec<u8>,
     has_bytes: bool,
 ) -> Result<bool, TextError> {
-    if words.eat(b"\"") {
+    if words.eat("\"") {
         return Ok(false);
     }
-    if has_bytes && words.eat(b"\\x") {
+    if has_bytes && words.eat("\\x") {
         bytes.push(read_byte(words)?)?;
-    } else if words.eat(b"\\") {
+    } else if words.eat("\\") {
         read_escape(words, bytes)?;
     } else {
         bytes.extend_from_slice(words.take(1))?;
@@ -70,7 +70,7 @@ fn read_next(
 
 /// Takes the text in quotes, in which bytes may be written as `\xHH` where this says so.
 pub(crate) fn read_quoted(words: &mut Words<'_>, has_bytes: bool) -> Result<Vec<u8>, TextError> {
-    words.expect(b"\"")?;
+    words.expect("\"")?;
     let mut bytes = Vec::new(words.alloc());
     for _ in 0..words.most_items() {
         if !read_next(words, &mut bytes, has_bytes)? {

@@ -24,7 +24,7 @@ pub(crate) fn number_of(digits: &[u8], base: u32) -> Option<u128>
 impl<'a> Words<'a> {
     /// Takes a number below 2^128, without a sign or a needless zero.
     pub fn big(&mut self) -> Result<u128, TextError> {
-        match self.take_of(Part::Digits) {
+        match self.take_of(Part::Digits).as_bytes() {
             [] | [b'0', _, ..] => Err(TextError::Syntax),
             digits => number_of(digits, 10).ok_or(TextError::Syntax),
         }
@@ -32,7 +32,7 @@ impl<'a> Words<'a> {
 
     /// Takes a number of 128 bits with a sign: a `-` where it is negative.
     pub fn int(&mut self) -> Result<i128, TextError> {
-        if !self.eat(b"-") {
+        if !self.eat("-") {
             return Ok(i128::try_from(self.big()?)?);
         }
         match 0i128.checked_sub_unsigned(self.big()?) {
@@ -43,14 +43,14 @@ impl<'a> Words<'a> {
 
     /// Takes a name, bare or in quotes.
     pub fn string(&mut self) -> Result<String, TextError> {
-        if self.is_at(b"\"") {
+        if self.is_at("\"") {
             return self.quoted();
         }
         let bare = self.bare_name();
         if bare.is_empty() {
             return Err(TextError::Syntax);
         }
-        self.text_of(bare)
+        Ok(String::from_str(self.alloc(), bare)?)
     }
 
     /// Takes a text in quotes.
@@ -65,13 +65,5 @@ impl<'a> Words<'a> {
     /// Takes bytes in quotes.
     pub fn bytes(&mut self) -> Result<Vec<u8>, TextError> {
         quotes::read_quoted(self, true)
-    }
-
-    /// Returns a copy of bytes that were taken, which are a text.
-    pub fn text_of(&self, bytes: &[u8]) -> Result<String, TextError> {
-        match std::str::from_utf8(bytes) {
-            Ok(text) => Ok(String::from_str(self.alloc(), text)?),
-            Err(_) => Err(TextError::Syntax),
-        }
     }
 }

@@ -118,35 +118,35 @@ impl<'a> Words<'a> {
         taken
     }
 
-    /// Takes what is of this at the front.
-    pub fn take_of(&mut self, part: Part) -> &'a [u8] {
+    /// Takes what is of this at the front; no text where the bytes are none.
+    pub fn take_of(&mut self, part: Part) -> &'a str {
         let taken = self.take(part.len_in(self.rest));
         if taken.is_empty() {
             self.begin_word();
         }
-        taken
+        std::str::from_utf8(taken).unwrap_or("")
     }
 
-    /// Returns whether the line goes on with these bytes.
-    pub fn is_at(&self, text: &[u8]) -> bool {
-        self.rest.starts_with(text)
+    /// Returns whether the line goes on with this text.
+    pub fn is_at(&self, text: &str) -> bool {
+        self.rest.starts_with(text.as_bytes())
     }
 
-    /// Returns whether the line goes on with these bytes, which are then taken.
-    pub fn eat(&mut self, text: &[u8]) -> bool {
-        let is_there = self.rest.starts_with(text);
+    /// Returns whether the line goes on with this text, which is then taken.
+    pub fn eat(&mut self, text: &str) -> bool {
+        let is_there = self.is_at(text);
         if is_there {
             let _ = self.take(text.len());
         }
         is_there
     }
 
-    /// Takes these bytes. A word begins after a space.
-    pub fn expect(&mut self, text: &[u8]) -> Result<(), TextError> {
+    /// Takes this text. A word begins after a space.
+    pub fn expect(&mut self, text: &str) -> Result<(), TextError> {
         if !self.eat(text) {
             return Err(self.stop_here());
         }
-        if text == b" ".as_slice() {
+        if text == " " {
             self.begin_word();
         }
         Ok(())
@@ -159,7 +159,7 @@ impl<'a> Words<'a> {
 
     /// Returns whether a word ends here.
     pub fn is_word_end(&self) -> bool {
-        self.is_end() || self.is_at(b" ")
+        self.is_end() || self.is_at(" ")
     }
 
     /// Takes the end of the line.
@@ -172,18 +172,18 @@ impl<'a> Words<'a> {
     }
 
     /// Takes the letters, digits, `-` and `_` that come next.
-    pub fn keyword(&mut self) -> &'a [u8] {
+    pub fn keyword(&mut self) -> &'a str {
         self.take_of(Part::Keyword)
     }
 
     /// Takes the keyword after a space.
-    pub fn next_keyword(&mut self) -> Result<&'a [u8], TextError> {
-        self.expect(b" ")?;
+    pub fn next_keyword(&mut self) -> Result<&'a str, TextError> {
+        self.expect(" ")?;
         Ok(self.keyword())
     }
 
     /// Returns whether the next word is this one, which is then taken.
-    pub fn flag(&mut self, word: &[u8]) -> bool {
+    pub fn flag(&mut self, word: &str) -> bool {
         let mut ahead = *self;
         let is_there = ahead.prefix(word) && ahead.is_word_end();
         if is_there {
@@ -193,9 +193,9 @@ impl<'a> Words<'a> {
     }
 
     /// Returns whether the next word begins with this, which is then taken.
-    pub fn prefix(&mut self, start: &[u8]) -> bool {
+    pub fn prefix(&mut self, start: &str) -> bool {
         let mut ahead = *self;
-        let is_there = ahead.expect(b" ").is_ok() && ahead.eat(start);
+        let is_there = ahead.expect(" ").is_ok() && ahead.eat(start);
         if is_there {
             *self = ahead;
         }
@@ -204,15 +204,15 @@ impl<'a> Words<'a> {
 
     /// Returns whether a name, bare or in quotes, comes next.
     pub fn is_at_name(&self) -> bool {
-        self.is_at(b"\"") || bare_len(self.rest) > 0
+        self.is_at("\"") || bare_len(self.rest) > 0
     }
 
-    /// Takes the bytes of a bare name; none where no such name comes next.
-    pub fn bare_name(&mut self) -> &'a [u8] {
+    /// Takes a bare name; no text where no such name comes next.
+    pub fn bare_name(&mut self) -> &'a str {
         let name = self.take(bare_len(self.rest));
         if name.is_empty() {
             self.begin_word();
         }
-        name
+        std::str::from_utf8(name).unwrap_or("")
     }
 }
