@@ -63,7 +63,7 @@ fn ask_rest(tables: &Tables, words: &mut Words<'_>, answer: &mut Answer) -> Resu
     }
 }
 
-/// `beside DEF QUESTION`
+/// Reads the words after `beside`, a definition and a question, and returns the answer of its store.
 pub fn ask_beside(
     alloc: Global,
     tables: &Tables,

@@ -203,7 +203,7 @@ fn write_fault(
     }
 }
 
-/// `fault TYPE VARIANT`
+/// Reads the words after `fault`, a type and a variant, and returns the answer: the text of this fault.
 pub fn ask_fault(alloc: Global, words: Words<'_>) -> Result<Option<Answer>, TextError> {
     let mut words = words;
     let Some(kind) = value_of(&KINDS, words.next_keyword()?) else {

@@ -13,7 +13,7 @@ use std::collections::BTreeMap;
 
 /// What a probe asks.
 #[derive(Drop)]
-enum Kind {
+enum ProbeKind {
     Equal(Node, Node),
     Copies,
     SameStore,
@@ -30,23 +30,23 @@ enum Kind {
 
 /// A probe of a store.
 #[derive(Drop)]
-pub struct Probe(Kind);
+pub struct Probe(ProbeKind);
 
-fn read_parens(words: &mut Words<'_>) -> Result<Kind, TextError> {
+fn read_parens(words: &mut Words<'_>) -> Result<ProbeKind, TextError> {
     let child = precedences::next_precedence(words)?;
-    Ok(Kind::Parens(child, precedences::next_precedence(words)?))
+    Ok(ProbeKind::Parens(child, precedences::next_precedence(words)?))
 }
 
-fn read_path(words: &mut Words<'_>) -> Result<Kind, TextError> {
+fn read_path(words: &mut Words<'_>) -> Result<ProbeKind, TextError> {
     let path = next(words)?;
     match paths::next_part(words) {
-        Ok(part) => Ok(Kind::Path(path, part)),
+        Ok(part) => Ok(ProbeKind::Path(path, part)),
         Err(stop) => Err(stop),
     }
 }
 
 /// The walk that can stop of this word.
-fn read_walk(word: &str, words: &mut Words<'_>) -> Result<Option<Kind>, TextError> {
+fn read_walk(word: &str, words: &mut Words<'_>) -> Result<Option<ProbeKind>, TextError> {
     let way = match word {
         "try-children" => Way::Children,
         "try-children-without-pats" => Way::ChildrenWithoutPats,
@@ -57,22 +57,22 @@ fn read_walk(word: &str, words: &mut Words<'_>) -> Result<Option<Kind>, TextErro
     };
     let from = next(words)?;
     let end = next(words)?;
-    Ok(Some(Kind::TryWalk(TryWalk { way, from, end })))
+    Ok(Some(ProbeKind::TryWalk(TryWalk { way, from, end })))
 }
 
 /// The probe of this word, where it is one; the line may go on.
-fn read_front(word: &str, words: &mut Words<'_>) -> Result<Option<Kind>, TextError> {
+fn read_front(word: &str, words: &mut Words<'_>) -> Result<Option<ProbeKind>, TextError> {
     Ok(Some(match word {
-        "equal" => Kind::Equal(next(words)?, next(words)?),
-        "copies" => Kind::Copies,
-        "same-store" => Kind::SameStore,
-        "same-sources" => Kind::SameSources,
-        "same-scopes" => Kind::SameScopes,
-        "counted-scopes" => Kind::CountedScopes,
-        "scopes-by-tables" => Kind::ScopesByTables(opt_next(words)?),
-        "counted-root-of" => Kind::CountedRoot(roots::next_rooted(words)?),
+        "equal" => ProbeKind::Equal(next(words)?, next(words)?),
+        "copies" => ProbeKind::Copies,
+        "same-store" => ProbeKind::SameStore,
+        "same-sources" => ProbeKind::SameSources,
+        "same-scopes" => ProbeKind::SameScopes,
+        "counted-scopes" => ProbeKind::CountedScopes,
+        "scopes-by-tables" => ProbeKind::ScopesByTables(opt_next(words)?),
+        "counted-root-of" => ProbeKind::CountedRoot(roots::next_rooted(words)?),
         "parens" => read_parens(words)?,
-        "blocks" => Kind::Blocks(blocks::read_maps(words)?),
+        "blocks" => ProbeKind::Blocks(blocks::read_maps(words)?),
         "path" => read_path(words)?,
         _ => return read_walk(word, words),
     }))
@@ -99,22 +99,25 @@ impl Probe {
     ) -> Result<(), TextError> {
         let store = asked.store;
         match &self.0 {
-            Kind::Equal(first, second) => equality::equal(store, first, second, answer)?,
-            Kind::Copies => equality::copies(store, answer)?,
-            Kind::SameStore => equality::same_store(kept, store, answer)?,
-            Kind::SameSources => equality::same_sources(kept, asked.sources, answer)?,
-            Kind::SameScopes => scopes::ask_same(alloc, kept, asked, answer)?,
-            Kind::CountedScopes => scopes::ask_counted(alloc, asked, answer)?,
-            Kind::ScopesByTables(owner) => {
+            ProbeKind::Equal(first, second) => equality::equal(store, first, second, answer)?,
+            ProbeKind::Copies => equality::copies(store, answer)?,
+            ProbeKind::SameStore => equality::same_store(kept, store, answer)?,
+            ProbeKind::SameSources => equality::same_sources(kept, asked.sources, answer)?,
+            ProbeKind::SameScopes => scopes::ask_same(alloc, kept, asked, answer)?,
+            ProbeKind::CountedScopes => scopes::ask_counted(alloc, asked, answer)?,
+            ProbeKind::ScopesByTables(owner) => {
                 scopes::ask_by_tables(alloc, asked, owner, answer)?;
             }
-            Kind::CountedRoot(node) => put_found(answer, &roots::counted_root_of(store, *node))?,
-            Kind::TryWalk(walk) => try_walks::ask(alloc, store, *walk, answer)?,
-            Kind::Parens(child, parent) => {
+            ProbeKind::CountedRoot(node) => put_found(
+                answer,
+                &roots::counted_root_of(store, *node),
+            )?,
+            ProbeKind::TryWalk(walk) => try_walks::ask(alloc, store, *walk, answer)?,
+            ProbeKind::Parens(child, parent) => {
                 put_yes_or_no(answer, child.needs_parentheses_in(*parent))?;
             }
-            Kind::Blocks(maps) => blocks::write(store, maps, answer)?,
-            Kind::Path(path, part) => paths::write_part(alloc, path, *part, answer)?,
+            ProbeKind::Blocks(maps) => blocks::write(store, maps, answer)?,
+            ProbeKind::Path(path, part) => paths::write_part(alloc, path, *part, answer)?,
         }
         Ok(())
     }

@@ -3,7 +3,7 @@
 use crate::scopes::ScopeQuestion;
 use hir_base::ExpressionStoreOwnerId;
 use hir_text_defs::Asked;
-use hir_text_nodes::{Answer, TextError};
+use hir_text_words::{Answer, TextError};
 use std::alloc::{AllocError, Global};
 use std::collections::HashMap;
 

@@ -1,11 +1,12 @@
-//! The lines of the grammar: each is read to its end before it does anything.
+//! The lines of the grammar: each is read to its end before it does anything. What a store is asked.
 
 use crate::scopes::ScopeQuestion;
 use crate::texts::{StoreText, TablesText};
 use hir_base::ExpressionStoreOwnerId;
 use hir_text_defs::{Asked, BodyQuestion, Definition, Entry, Part};
-use hir_text_nodes::{Answer, TextError, Words, next};
+use hir_text_nodes::next;
 use hir_text_store::Change;
+use hir_text_words::{Answer, TextError, Words};
 
 /// What a line makes that has no answer.
 #[derive(Drop)]

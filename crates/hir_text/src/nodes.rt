@@ -2,8 +2,8 @@
 
 use hir_store::{ExpressionStoreBuilder, FinishFault};
 use hir_text_defs::{Finished, Subject};
-use hir_text_nodes::{Answer, TextError};
 use hir_text_store::{Change, answer_unknown, refuse};
+use hir_text_words::{Answer, TextError};
 use std::alloc::{AllocError, Global};
 use std::mem;
 

@@ -6,9 +6,8 @@ use crate::usages::{NewName, OfUsages};
 use hir_base::{HygieneId, Name, SyntaxContext};
 use hir_node::ExprId;
 use hir_scope::{Expansion, ExprScopes, ScopeEntry, ScopeId};
-use hir_text_nodes::{
-    Answer, Read, TextError, Words, next, opt_edition, opt_hygiene, put, put_prefixed,
-};
+use hir_text_nodes::{Read, next, opt_edition, opt_hygiene, put, put_prefixed};
+use hir_text_words::{Answer, TextError, Words};
 use hir_usages::visible_names;
 use std::alloc::AllocError;
 use std::collections::HashMap;

@@ -10,8 +10,9 @@ use hir_pretty::{
     print_path, print_signature, print_struct, print_variant_body_hir,
 };
 use hir_text_defs::{Asked, asked_def};
-use hir_text_nodes::{Answer, TextError, Words, next, opt_edition, prefixed};
+use hir_text_nodes::{next, opt_edition, prefixed};
 use hir_text_store::{answer_unknown, refuse_missing};
+use hir_text_words::{Answer, TextError, Words};
 use std::alloc::Global;
 
 /// A text of the body that is asked.

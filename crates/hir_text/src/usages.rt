@@ -7,7 +7,8 @@ use hir_node::{BindingId, ExprOrPatId};
 use hir_pretty::print_body_hir;
 use hir_scope::ExprScopes;
 use hir_text_defs::Asked;
-use hir_text_nodes::{Answer, TextError, Write, put, put_each};
+use hir_text_nodes::{Write, put, put_each};
+use hir_text_words::{Answer, TextError};
 use hir_usages::{RenameFault, Usage, Usages, rename, renamed};
 use std::alloc::AllocError;
 

@@ -1,4 +1,4 @@
-//! The store that questions ask.
+//! The store that questions ask, beside the tables that it is in.
 
 use crate::bodies::asked_def;
 use crate::subject::Subject;
@@ -20,7 +20,7 @@ pub struct Asked<'a> {
 }
 
 impl<'a> Asked<'a> {
-    /// Returns what this subject is in these tables, where there is one.
+    /// Returns the store of this subject, or of its owner in these tables, where there is one.
     pub fn new(tables: &'a Tables, subject: &'a Subject) -> Option<Asked<'a>> {
         match subject {
             Subject::Store(finished) => Some(Asked {

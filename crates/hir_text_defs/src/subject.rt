@@ -1,4 +1,4 @@
-//! The store that questions ask.
+//! Whose store questions ask.
 
 use hir_base::ExpressionStoreOwnerId;
 use hir_store::{ExpressionStore, ExpressionStoreSourceMap};

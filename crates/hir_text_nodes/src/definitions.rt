@@ -36,7 +36,7 @@ impl Read for LangItemTarget {
     }
 }
 
-// (what a `?` carries has only types that the function has a value of: so each id of a macro has a name below)
+// (what a `?` carries has only types that the function has a value of, so each id of a macro has a name)
 impl Read for GenericDefId {
     fn read(words: &mut Words<'_>) -> Result<GenericDefId, TextError> {
         match LangItemTarget::read(words)? {

@@ -31,7 +31,7 @@ pub fn part<T: Read>(words: &mut Words<'_>) -> Result<T, TextError> {
     T::read(words)
 }
 
-/// Takes what comes after these bytes, where the line goes on with them.
+/// Takes what comes after this text, where the line goes on with it.
 pub(crate) fn after<T: Read>(words: &mut Words<'_>, start: &str) -> Result<Option<T>, TextError> {
     if words.eat(start) {
         return Ok(Some(T::read(words)?));

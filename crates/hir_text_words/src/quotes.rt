@@ -2,7 +2,7 @@
 
 use crate::text_error::TextError;
 use crate::values::number_of;
-use crate::words::Words;
+use crate::words::{Part, Words};
 use std::alloc::AllocError;
 
 fn read_byte(words: &mut Words<'_>) -> Result<u8, TextError> {
@@ -22,7 +22,7 @@ fn char_of(digits: &[u8]) -> Option<char> {
 /// Takes a character's number in braces, in hexadecimal.
 fn read_char(words: &mut Words<'_>) -> Result<char, TextError> {
     words.expect("{")?;
-    let digits = words.keyword().as_bytes();
+    let digits = words.take_bytes_of(Part::Keyword);
     words.expect("}")?;
     if digits.is_empty() {
         return Err(TextError::Syntax);

@@ -24,7 +24,7 @@ pub(crate) fn number_of(digits: &[u8], base: u32) -> Option<u128>
 impl<'a> Words<'a> {
     /// Takes a number below 2^128, without a sign or a needless zero.
     pub fn big(&mut self) -> Result<u128, TextError> {
-        match self.take_of(Part::Digits).as_bytes() {
+        match self.take_bytes_of(Part::Digits) {
             [] | [b'0', _, ..] => Err(TextError::Syntax),
             digits => number_of(digits, 10).ok_or(TextError::Syntax),
         }

@@ -94,8 +94,8 @@ impl<'a> Words<'a> {
         self.rest.len().saturating_add(1)
     }
 
-    /// Returns what is left from where reading stopped, after a call that couldn't read: from the beginning of
-    /// the word that isn't what is wanted, or from the first byte of it that isn't.
+    /// Returns what is left from where reading stopped, after a call that couldn't read: from the beginning
+    /// of the word that isn't what is wanted, or from the first byte of it that isn't.
     pub fn stop(&self) -> &'a [u8] {
         self.stop
     }
@@ -118,13 +118,19 @@ impl<'a> Words<'a> {
         taken
     }
 
-    /// Takes what is of this at the front; no text where the bytes are none.
-    pub fn take_of(&mut self, part: Part) -> &'a str {
+    /// Takes the bytes that are of this at the front.
+    pub(crate) fn take_bytes_of(&mut self, part: Part) -> &'a [u8] {
         let taken = self.take(part.len_in(self.rest));
         if taken.is_empty() {
             self.begin_word();
         }
-        std::str::from_utf8(taken).unwrap_or("")
+        taken
+    }
+
+    /// Takes what is of this at the front. Where its bytes aren't UTF-8, as those of a `Word` may be, they
+    /// are taken too, and the text is empty.
+    pub fn take_of(&mut self, part: Part) -> &'a str {
+        std::str::from_utf8(self.take_bytes_of(part)).unwrap_or("")
     }
 
     /// Returns whether the line goes on with this text.
@@ -207,7 +213,7 @@ impl<'a> Words<'a> {
         self.is_at("\"") || bare_len(self.rest) > 0
     }
 
-    /// Takes a bare name; no text where no such name comes next.
+    /// Takes a bare name, which is ASCII; an empty text where no such name comes next.
     pub fn bare_name(&mut self) -> &'a str {
         let name = self.take(bare_len(self.rest));
         if name.is_empty() {

@@ -1,4 +1,4 @@
-//! The loops over the lines of a text: one writes the answers one after the other, one lists them.
+//! Taking the lines of a text one after the other: the answers are written, or listed.
 
 ghost use Rattle.std.specs.Prelude.{◌≡◌, Ok, Some};
 ghost use Rattle.hir_text_words.specs.TakesText.{Adds, DoesLine, TakesText};
@@ -80,7 +80,7 @@ fn list_answer<L: Lines>(
     Ok(())
 }
 
-/// Reads a text of lines by what takes them, and gives the answer to each question in it.
+/// Reads a text of lines by what takes them, and puts the answer to each question in it after the others.
 pub fn answer_by<L: Lines>(
     lines: &mut L,
     text: &str,

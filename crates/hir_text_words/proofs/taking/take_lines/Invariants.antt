@@ -2,7 +2,7 @@ use Rattle.std.proofs.Common.{ℕ, List, length, option_map}
 use Rattle.hir_text_words.specs.declared.lines.Outcome.{Outcome}
 use Rattle.hir_text_words.specs.AnswerLines.{lines_left}
 use Rattle.hir_text_words.specs.TakesText.{next_number, TakesLines, TakesText}
-use Rattle.hir_text_words.proofs.loops.take_lines.Given as goal
+use Rattle.hir_text_words.proofs.taking.take_lines.Given as goal
 
 -- what comes of the lines that are left comes of the text
 abbrev pub invariant-lines : goal.invariant-lines
