@@ -1,5 +1,5 @@
 -- A name that is found is captured where the scope that binds it is among the outermost.
-use Rattle.std.proofs.Common.{◌≡◌, ℕ, suc, ◌+◌, ◌<◌, ◌≤◌, ◌-◌, List, [], ◌∷◌, ◌++◌, Option, Some, None, take, drop, length, length-append}
+use Rattle.std.proofs.Common.{◌≡◌, ℕ, suc, ◌+◌, ◌<◌, ◌≤◌, ◌-◌, List, [], ◌∷◌, ◌++◌, Option, Some, None, take, drop, length, length-append, rules}
 use Rattle.std.proofs.Common.{refl, ap, sym, ◌∙◌, arith}
 use Rattle.std.proofs.Math.Seq.{take-append-add}
 use Rattle.std.proofs.lemmas.{List.take-append-drop, List.take-append-le, List.Concat.flat_map-append}
@@ -13,6 +13,7 @@ use Rattle.hir_scope.specs.Scopes.{Scope, ParentsStandEarlier, frame_of}
 use Rattle.hir_scope.specs.declared.scope.ScopeEntry.{ScopeEntry}
 use Rattle.hir_scope.proofs.{PathLemmas.path_step, ResolveLemmas.resolve_append, ResolveLemmas.found_resolves}
 use Rattle.hir_captures.specs.Captures.{outer_entry, resolve_outside}
+use Rattle.std.proofs.lemmas.Grind.{common_steps}
 
 -- 1. Scopes of a chain
 
@@ -29,32 +30,18 @@ one_frame scopes s x ids e = ap (λ (o : Option Scope). all_of (λ (y : Scope). 
 
 pub as_many : (scopes : List Scope) (ids : List ℕ) → AllInRange scopes ids → length (frames scopes ids) ≡ length ids
 as_many scopes [] h = refl
-as_many scopes (s ∷ ids) h =
-    let x = item_at scopes s h.0 in
-    ap (length {A = Frame}) (one_frame scopes s x.0 ids x.1) ∙ ap suc (as_many scopes ids h.1)
+as_many scopes (s ∷ ids) h = grind (arith, common_steps, item_at scopes s h.0, one_frame, as_many scopes ids h.1)
 
 -- 2. The prefix of a chain
 
 module _ (n : List ℕ) (h : SyntaxContext) where
   none_in_front : (m : ℕ) (xs : Chain) → resolve xs n h ≡ None → resolve (take m xs) n h ≡ None
-  none_in_front m xs e =
-      at (resolve (take m xs) n h)
-      (sym (resolve_append n h (take m xs) (drop m xs))
-      ∙ (ap (λ (c : Chain). resolve c n h) (take-append-drop m xs) ∙ e)) where
-        at : (o : Option ScopeEntry) → option_or o (resolve (drop m xs) n h) ≡ None → o ≡ None
-        at None q = refl
-        at (Some x) q = absurd cc
-
-  -- what resolves to nothing captures nothing
-  pub none_captured : (m : ℕ) (xs : Chain) → resolve xs n h ≡ None → resolve_outside m xs n h ≡ None
-  none_captured m xs e = λ i. outer_entry (none_in_front m xs e i) (e i)
+  none_in_front m xs e = grind (arith, common_steps, resolve_append n h (take m xs) (drop m xs), take-append-drop m xs)
 
   -- an entry of the first frame is in the prefix
   found_in_front : (f : Frame) (entry : ScopeEntry) → resolve (f ∷ []) n h ≡ Some entry → (k : ℕ) (fs : Chain) →
       resolve (take (suc k) (f ∷ fs)) n h ≡ Some entry
-  found_in_front f entry e k fs =
-      resolve_append n h (f ∷ []) (take k fs)
-      ∙ ap (λ (o : Option ScopeEntry). option_or o (resolve (take k fs) n h)) e
+  found_in_front f entry e k fs = grind (arith, common_steps, resolve_append n h (f ∷ []) (take k fs))
 
 -- 3. What is found
 
@@ -80,14 +67,7 @@ module _ (scopes : List Scope) (earlier : ParentsStandEarlier scopes) (from : �
 
   -- among the outermost scopes
   pub found_behind : length outer ≤ outermost → resolve_outside (length whole - outermost) whole n h ≡ Some entry.binding
-  found_behind l =
-      let m = length whole - outermost in
-      let few : m ≤ length inner = omega (arith, long, l) in
-      let front : resolve (take m whole) n h ≡ None =
-      ap (λ (c : Chain). resolve (take m c) n h) parts
-      ∙ (ap (λ (c : Chain). resolve c n h) (take-append-le m inner outer few)
-      ∙ none_in_front n h m inner f.none_before) in
-      λ i. outer_entry (front i) (means i)
+  found_behind l = search (rules, long, parts, take-append-le, none_in_front, means)
 
   -- further in
   pub found_within : outermost < length outer → resolve_outside (length whole - outermost) whole n h ≡ None

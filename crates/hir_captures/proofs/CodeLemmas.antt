@@ -1,26 +1,23 @@
 -- The code of a closure, and the chains of what is in it.
-use Rattle.std.proofs.Common.{◌≡◌, ◌<◌, ℕ, List, [], ◌∷◌, ◌++◌, Option, Some, None, map, refl, sym, ap, ◌∙◌, append_assoc, Contains}
+use Rattle.std.proofs.Common.{◌≡◌, ◌<◌, ℕ, List, [], ◌∷◌, ◌++◌, Option, Some, None, map, refl, sym, ap, ◌∙◌, append_assoc, Contains, rules}
 use Rattle.std.proofs.Common.{arith, subst, zero, suc, length, length-append, ◌-◌}
 use Rattle.std.proofs.Math.Path.{fun_ext}
 use Rattle.std.proofs.Math.Seq.{take-append_seam}
 use Rattle.std.proofs.lemmas.List.Sorted.{IsPermutation-sym, Contains-permutation}
-use Rattle.std.specs.List.{flat_map, slice_get, cons_option, AllByRecursion}
-use Rattle.std.specs.Option.{option_or}
+use Rattle.std.specs.List.{flat_map, slice_get, AllByRecursion}
 use Rattle.std.specs.Prelude.{filter_map}
 use Rattle.hir_base.specs.declared.hygiene.SyntaxContext.{SyntaxContext}
-use Rattle.hir_path.specs.declared.ids.ExprOrPatId.TheVariants.{ExprId, PatId}
 use Rattle.hir_node.specs.ChildCalls.{Call, OnExpr, OnPat}
 use Rattle.hir_node.specs.declared.{expr.Expr.Expr, node_id.NodeId.NodeId, pat.Pat.Pat}
 use Rattle.hir_validate.specs.Recursion.{rank, RankDecreases, AgreeOn, DependsOnChildren}
 use Rattle.hir_validate.specs.Nodes.{Has, children_of}
 use Rattle.hir_validate.specs.declared.node_arenas.Nodes.{Nodes}
 use Rattle.hir_validate.proofs.RecursionLemmas.{fold_down_at, parent_in_range}
-use Rattle.hir_store_core.specs.{Contents.Contents, SideTables.hygiene_of, Under.IsReached}
+use Rattle.hir_store_core.specs.{Contents.Contents, Under.IsReached}
 use Rattle.hir_scope.specs.Chains.{InContext, child_in_context, on_base, Occurs, child, HasChain, within_own}
 use Rattle.hir_scope.specs.ScopingForms.{form_of, ScopingForm, form_at, expr_form}
 use Rattle.hir_scope.specs.ScopingForms as form
 use Rattle.hir_scope.specs.{Frames.Chain, PathResolution.local_name, Order.met_in_form, Resolution.resolve}
-use Rattle.hir_scope.specs.declared.scope.ScopeEntry.{ScopeEntry}
 use Rattle.hir_scope.proofs.ResolveLemmas.{resolve_append}
 use Rattle.hir_scope.specs.ChildContexts.{Base, Scope, ConstScope, ChildContext, child_with_base, children_with_base, child_contexts}
 use Rattle.hir_scope.specs.ChildContexts.{own_frame}
@@ -28,9 +25,10 @@ use Rattle.hir_scope.proofs.ChildLemmas.{children_in, child_contexts_children, c
 use Rattle.hir_scope.proofs.UnderLemmas.{mapped, child_contexts_agree}
 use Rattle.hir_captures.specs.Captures.{IsClosure, IsOn, IsCapturedBinding, EachCaptures, captured_binding, outer_entry, resolve_outside}
 use Rattle.hir_captures.specs.Uses.{Spot, spot, in_code, of_pattern, child_code, assignment_at, code_step, code_under, Use, if_assignment}
-use Rattle.hir_captures.specs.Uses.{use_of, expr_uses, pat_uses, uses_at, spot_uses, uses_in}
+use Rattle.hir_captures.specs.Uses.{use_of, expr_uses, pat_uses, spot_uses, uses_in}
 use Rattle.hir_captures.specs.declared.tasks.Task.{Task}
 use Rattle.hir_captures.specs.internal.Pending.{tasks_of, task_node, code_of, AreInRange}
+use Rattle.std.proofs.lemmas.Grind.{common_steps}
 
 -- 1. The code under a node is the node, and then the code of its children in the order of its child contexts: that of
 -- the tasks that reading it puts.
@@ -44,22 +42,14 @@ module _ (f g : Codes) where
   child_contexts_read : (a : Option ℕ) (xs : List ChildContext) → AgreeOn f g (children_in xs) →
       flat_map (child_code f a) xs ≡ flat_map (child_code g a) xs
   child_contexts_read a [] h = refl
-  child_contexts_read a (x ∷ xs) h =
-      cc (
-        ap (λ (w : Option ℕ → List Spot). in_code x.base (w (of_pattern x.child a))) h.0,
-        child_contexts_read a xs h.1,
-      )
+  child_contexts_read a (x ∷ xs) h = search (rules, child_contexts_read a xs h.1)
 
 module _ (s : Nodes) where
   pub child_in_range : (n k : NodeId) → Contains (children_in (child_contexts s n)) k → Contains (children_of s n) k
-  child_in_range n k m =
-      Contains-permutation (children_in (child_contexts s n)) (children_of s n) k
-      (IsPermutation-sym (children_of s n) (children_in (child_contexts s n)) (child_contexts_children s n)) m
+  child_in_range n k m = search (rules, Contains-permutation, children_in, IsPermutation-sym, child_contexts_children)
 
   code_asks : DependsOnChildren s (code_step s)
-  code_asks f g n h =
-      fun_ext (λ a. ap (λ (xs : List Spot). spot n a ∷ xs)
-      (child_contexts_read f g (assignment_at s n a) (child_contexts s n) (child_contexts_agree f g s n h)))
+  code_asks f g n h = grind (arith, common_steps, fun_ext, child_contexts_read, child_contexts_agree f g s n h)
 
   -- the code under a node is its step's, at the code under its children
   pub code_at : RankDecreases s → (n : NodeId) (a : Option ℕ) → code_under s n a ≡ code_step s (code_under s) n a
@@ -88,9 +78,7 @@ module _ (f : Codes) (a : Option ℕ) where
   of_calls (_ ∷ cs) = of_calls cs
 
   of_node : (s : Nodes) (n : NodeId) → flat_map (child_code f a) (child_contexts s n) ≡ flat_map (call_code f a) (met_in_form (form_of s n))
-  of_node s n =
-      of_child_contexts (child_contexts s n)
-      ∙ (ap (flat_map at_base) (child_contexts_follow s n) ∙ of_calls (met_in_form (form_of s n)))
+  of_node s n = search (rules, of_child_contexts, child_contexts_follow, of_calls)
 
 -- the code of tasks is that of their calls
 task_code : (s : Nodes) (a : Option ℕ) (cs : List Call) → code_of s (tasks_of a cs) ≡ flat_map (call_code (code_under s) a) cs
@@ -104,9 +92,13 @@ task_code s a (_ ∷ cs) = task_code s a cs
 pub code_read : (s : Nodes) → RankDecreases s → (n : NodeId) (a : Option ℕ) → code_under s n a
     ≡ spot n a ∷ code_of s (tasks_of (assignment_at s n a) (met_in_form (form_of s n)))
 code_read s fall n a =
-    code_at s fall n a
-    ∙ ap (λ (xs : List Spot). spot n a ∷ xs)
-    (of_node (code_under s) (assignment_at s n a) s n ∙ sym (task_code s (assignment_at s n a) (met_in_form (form_of s n))))
+    grind (
+      arith,
+      common_steps,
+      code_at s fall n a,
+      of_node (code_under s) (assignment_at s n a) s n,
+      task_code s (assignment_at s n a) (met_in_form (form_of s n)),
+    )
 
 -- What tasks name exists
 
@@ -253,17 +245,7 @@ module _ (s : Nodes) (entry_nodes : List InContext) (from : List NodeId) (base :
 pub uses_on : (c : Contents) (entry_nodes : List InContext) (from : List NodeId) (base : Chain) (xs : List Spot) →
     SpotsOn c.nodes entry_nodes from base xs → UsesOn c.nodes entry_nodes from base (flat_map (spot_uses c) xs)
 uses_on c entry_nodes from base [] h = tt
-uses_on c entry_nodes from base (x ∷ xs) h =
-    all_two (UseOn c.nodes entry_nodes from base) (spot_uses c x) (flat_map (spot_uses c) xs)
-    (one x.node x.assignment h.0.0 h.0.1) (uses_on c entry_nodes from base xs h.1) where
-      one : (n : NodeId) (a : Option ℕ) → StandsOn c.nodes entry_nodes from base n →
-          TargetOn c.nodes entry_nodes from base a → UsesOn c.nodes entry_nodes from base (uses_at c n a)
-      one (NodeId.Expr id) a on t =
-          of_expr c.nodes entry_nodes from base (hygiene_of c.side_tables (ExprId id)) id
-          (slice_get c.nodes.exprs id) on
-      one (NodeId.Pat id) a on t =
-          of_pat c.nodes entry_nodes from base (hygiene_of c.side_tables (PatId id)) a (slice_get c.nodes.pats id) t
-      one (NodeId.TypeRef id) a on t = tt
+uses_on c entry_nodes from base (x ∷ xs) h = search (rules, all_two, of_expr, of_pat, uses_on c entry_nodes from base xs h.1)
 
 -- What a use captures, by lengths
 
@@ -271,20 +253,11 @@ module _ (n : List ℕ) (h : SyntaxContext) where
   -- an entry that is found, and not further in, is found along the outer frames
   found_outside : (between own : Chain) → outer_entry (resolve between n h) (resolve (between ++ own) n h)
       ≡ outer_entry (resolve between n h) (resolve own n h)
-  found_outside between own =
-      ap (λ (o : Option ScopeEntry). outer_entry (resolve between n h) o) (resolve_append n h between own)
-      ∙ cases (resolve between n h) (resolve own n h) where
-        cases : (o p : Option ScopeEntry) → outer_entry o (option_or o p) ≡ outer_entry o p
-        cases None p = refl
-        cases (Some entry) p = refl
+  found_outside between own = search (rules, resolve_append)
 
   by_append : (between own : Chain) → resolve_outside (length (between ++ own) - length own) (between ++ own) n h
       ≡ outer_entry (resolve between n h) (resolve own n h)
-  by_append between own =
-      let many : length (between ++ own) - length own ≡ length between = omega (arith, length-append between own) in
-      ap (λ (m : ℕ). resolve_outside m (between ++ own) n h) many
-      ∙ (ap (λ (c : Chain). outer_entry (resolve c n h) (resolve (between ++ own) n h)) (take-append_seam between own)
-      ∙ found_outside between own)
+  by_append between own = grind (arith, common_steps, length-append, take-append_seam, found_outside)
 
   by_length : (chain between own : Chain) → chain ≡ between ++ own →
       resolve_outside (length chain - length own) chain n h ≡ outer_entry (resolve between n h) (resolve own n h)
@@ -298,10 +271,7 @@ each_by_length : (chain : ℕ → Chain) (closure : ℕ) (us : List Use) →
     AllByRecursion (λ (u : Use). IsOn (chain closure) (chain u.expr)) us →
     EachCaptures chain closure (captured_binding chain closure) us
 each_by_length chain closure [] h = tt
-each_by_length chain closure (u ∷ us) h = (
-  record { between = h.0.0; on = h.0.1; is = by_length u.name u.hygiene (chain u.expr) h.0.0 (chain closure) h.0.1 },
-  each_by_length chain closure us h.1,
-)
+each_by_length chain closure (u ∷ us) h = search (rules, by_length, each_by_length chain closure us h.1)
 
 -- The chains of uses
 
@@ -367,18 +337,15 @@ module _ (c : Contents) (entry_nodes : List InContext) (from : List NodeId) (fal
       EachCaptures f closure a us → EachCaptures g closure d us → filter_map a us ≡ filter_map d us
   same_captures f g p q e a d [] h k m = refl
   same_captures f g p q e a d (u ∷ us) h k m =
-      let x = one u.expr (f u.expr) (g u.expr) (p u.expr h.0.reached) (q u.expr h.0.reached) in
-      let same : captured_binding f closure u ≡ captured_binding g closure u =
-      λ i. resolve_outside (length (x i) - length (e i)) (x i) u.name u.hygiene in
-      let first : a u ≡ d u =
-      by_its_length (f closure) (f u.expr) u (a u) k.0
-      ∙ (same ∙ sym (by_its_length (g closure) (g u.expr) u (d u) m.0)) in
-      let rest = same_captures f g p q e a d us h.1 k.1 m.1 in
-      λ i. cons_option (first i) (rest i)
+      grind (
+        arith,
+        common_steps,
+        by_its_length (f closure) (f u.expr) u (a u) k.0,
+        by_its_length (g closure) (g u.expr) u (d u) m.0,
+        same_captures f g p q e a d us h.1 k.1 m.1,
+      )
 
   pub one_list : (f g : Chains) → AreTheirs f → AreTheirs g → (a d : Use → Option ℕ) →
       EachCaptures f closure a (uses_in c closure) → EachCaptures g closure d (uses_in c closure) →
       filter_map a (uses_in c closure) ≡ filter_map d (uses_in c closure)
-  one_list f g p q a d k m =
-      same_captures f g p q (one closure (f closure) (g closure) (p closure reached) (q closure reached)) a d
-      (uses_in c closure) (all_on f p) k m
+  one_list f g p q a d k m = search (rules, same_captures, all_on)

@@ -1,26 +1,27 @@
 -- What a run of child calls leaves to be read, and what reading a node finds.
-use Rattle.std.proofs.Common.{◌≡◌, ℕ, List, ◌∷◌, refl, ap, ◌∙◌, subst, Option, ◌<◌, [], ◌++◌, Some, None, fold, length, sym, arith}
+use Rattle.std.proofs.Common.{◌≡◌, ℕ, List, ◌∷◌, refl, ap, ◌∙◌, Option, [], ◌++◌, Some, None, fold, length, sym, arith, rules}
 use Rattle.std.proofs.lemmas.List.{append-nil}
 use Rattle.std.proofs.lemmas.List.{Concat.flat_map-append, Elements.filter_map-append, Sums.fold-append}
 use Rattle.std.specs.FinMap as map
-use Rattle.std.specs.List.{flat_map, filter_map, slice_get}
-use Rattle.std.specs.Prelude.{IsSome, IfOk, Result, Ok, Err, ◌↔◌, ◌-◌}
+use Rattle.std.specs.List.{filter_map, slice_get}
+use Rattle.std.specs.Prelude.{IsSome, IfOk, Result, Ok, Err, ◌↔◌}
 use Rattle.hir_node.specs.{ChildCalls.Call, ChildCalls.pat_calls, Runs.Runs, Runs.no_call, Runs.a_call}
 use Rattle.hir_node.specs.declared.{expr.Expr.Expr, node_id.NodeId.NodeId, pat.Pat.Pat}
-use Rattle.hir_validate.specs.{Recursion.RankDecreases, declared.node_arenas.Nodes.Nodes}
+use Rattle.hir_validate.specs.{Recursion.RankDecreases}
 use Rattle.hir_store_core.specs.Contents.{Contents}
 use Rattle.hir_body.specs.Bodies.{BodyContents, BodyReaches}
 use Rattle.hir_collections.specs.Stacks.{Defers}
 use Rattle.hir_collections.proofs.DeferredLemmas.{defers_none, defers_two}
-use Rattle.hir_scope.specs.{BodyScopes.ChainsAreFrames, BodyScopes.entry_nodes_of_body, Chains.HasChain}
+use Rattle.hir_scope.specs.{BodyScopes.ChainsAreFrames, BodyScopes.entry_nodes_of_body}
 use Rattle.hir_scope.specs.ScopingForms.{form_of, form_at, expr_form, pat_form}
 use Rattle.hir_scope.specs.{Order.met_in_form, Paths.chain, Scopes.Scopes}
-use Rattle.hir_captures.specs.Captures.{resolve_outside, with_new, captures_by, AreChains}
-use Rattle.hir_captures.specs.Uses.{Spot, Use, uses_in, spot, if_assignment, assignment_at, uses_at, spot_uses, code_under}
+use Rattle.hir_captures.specs.Captures.{with_new, captures_by, AreChains}
+use Rattle.hir_captures.specs.Uses.{Use, uses_in, spot, if_assignment, assignment_at, uses_at}
 use Rattle.hir_captures.specs.declared.{code.Code.Code, tasks.Task.Task, tasks.Tasks.Tasks}
 use Rattle.hir_captures.specs.internal.Pending.{task_of, tasks_of, pat_task, task_node, task_target, code_of, AreInRange}
 use Rattle.hir_captures.specs.internal.Reading.{chain_in, captured_binding_in, with_uses, with_code, ReadsTask}
 use Rattle.hir_captures.proofs.CodeLemmas.{code_read, children_in_range}
+use Rattle.std.proofs.lemmas.Grind.{common_steps}
 
 -- 1. What a run of child calls leaves to be read.
 
@@ -32,21 +33,9 @@ DefersCall v c w = (w.assignment ≡ v.assignment) × Defers v.stack (task_of v.
 
 pub defers_all : {v w : Tasks} {cs : List Call} → Runs DefersCall v cs w → DefersCalls v cs w
 defers_all {v} no_call = (refl, defers_none v.stack)
-defers_all {v} {w} (a_call {v = u} {c = c} {cs = cs} step rest) =
-    let later = defers_all rest in
-    let same = subst (λ (a : Option ℕ). Defers u.stack (tasks_of a cs) w.stack) step.0 later.1 in
-    (later.0 ∙ step.0, defers_two v.stack u.stack w.stack (task_of v.assignment c) (tasks_of v.assignment cs) step.1 same)
+defers_all {v} {w} (a_call {v = u} {c = c} {cs = cs} step rest) = grind (arith, common_steps, defers_two, defers_all rest)
 
 -- 2. Reading a node leaves what is to be found as it was.
-
-pub no_assignment : (id : ℕ) (x : Expr) → ((target value : ℕ) → x ≡ Expr.Assignment target value → ⊥) → None ≡ if_assignment id (Some x)
-no_assignment id (Expr.Assignment target value) h = absurd (h target value refl)
-no_assignment id _ h = refl
-
--- the pattern of a task exists
-pub pat_in_range : (s : Nodes) (a : Option ℕ) (id : ℕ) (rest : List Task) → AreInRange s (pat_task a id ∷ rest) → id < length s.pats
-pat_in_range s None id rest h = h.0
-pat_in_range s (Some a) id rest h = h.0
 
 module _ (code : Code) where
   abbrev c : Contents
@@ -62,27 +51,19 @@ module _ (code : Code) where
     defer = tasks_of (assignment_at c.nodes (task_node t) (task_target t)) (met_in_form (form_of c.nodes (task_node t))) ++ rest
 
     code_now : code_of c.nodes (t ∷ rest) ≡ spot (task_node t) (task_target t) ∷ code_of c.nodes defer
-    code_now =
-        let children = tasks_of (assignment_at c.nodes (task_node t) (task_target t)) (met_in_form (form_of c.nodes (task_node t))) in
-        ap (λ (xs : List Spot). xs ++ code_of c.nodes rest) (code_read c.nodes fall (task_node t) (task_target t))
-        ∙ ap (λ (xs : List Spot). spot (task_node t) (task_target t) ∷ xs)
-        (sym (flat_map-append (λ (x : Task). code_under c.nodes (task_node x) (task_target x)) children rest))
+    code_now = search (rules, code_read, flat_map-append)
 
     -- one node is read
     read_one : AreInRange c.nodes (t ∷ rest) → after
         ≡ with_uses code before (uses_at c (task_node t) (task_target t)) → new ≡ defer →
         ReadsTask code before (t ∷ rest) after new
-    read_one in_range found is = record {
-      in_range = subst (AreInRange c.nodes) (sym is)
-          (children_in_range c.nodes fall (task_node t)
-          (assignment_at c.nodes (task_node t) (task_target t)) rest in_range.0 in_range.1);
-      finds =
-          ap (λ (spots : List Spot). with_uses code before (flat_map (spot_uses c) spots)) code_now
-          ∙ (uses_two before (uses_at c (task_node t) (task_target t)) (flat_map (spot_uses c) (code_of c.nodes defer))
-          ∙ (ap (λ (xs : List ℕ). with_code code xs defer) (sym found)
-          ∙ ap (with_code code after) (sym is)));
-      shorter = omega (arith, ap (length {A = Spot}) code_now, ap (λ (ts : List Task). length (code_of c.nodes ts)) is);
-    }
+    read_one in_range found is =
+        grind (
+          arith,
+          common_steps,
+          children_in_range c.nodes fall (task_node t) (assignment_at c.nodes (task_node t) (task_target t)) rest in_range.0 in_range.1,
+          code_now,
+        )
 
   pub read_expr : RankDecreases c.nodes → (id : ℕ) (x : Expr) (rest new : List Task) (before after : List ℕ) →
       slice_get c.nodes.exprs id ≡ Some x → AreInRange c.nodes (Task.Expr id ∷ rest) →
@@ -110,27 +91,14 @@ module _ (code : Code) where
 pub chains_are : (b : BodyContents) (scopes : Scopes) →
     ((x : ℕ) → IsSome (map.get scopes.scope_by_expr x) ↔ BodyReaches b (NodeId.Expr x)) →
     ChainsAreFrames b.store.nodes (entry_nodes_of_body b) scopes → AreChains b (chain_in scopes)
-chains_are b scopes reached chains x r = at (map.get scopes.scope_by_expr x) refl ((reached x).1 r) where
-  at : (o : Option ℕ) → map.get scopes.scope_by_expr x ≡ o → IsSome o →
-      HasChain b.store.nodes (entry_nodes_of_body b) x (chain scopes.scopes (map.get scopes.scope_by_expr x))
-  at None e h = absurd cc
-  at (Some scope) e h =
-      subst (λ (o : Option ℕ). HasChain b.store.nodes (entry_nodes_of_body b) x (chain scopes.scopes o)) (sym e)
-      (chains x scope e)
+chains_are b scopes reached chains x r = search rules
 
 pub are_by_length : (b : BodyContents) (code : Code) (closure scope : ℕ) (found : List ℕ) → code.store.now ≡ b.store →
     code.outermost ≡ length (chain code.scopes.now.scopes (Some scope)) →
     map.get code.scopes.now.scope_by_expr closure ≡ Some scope → found ≡ with_code code [] (Task.Expr closure ∷ []) →
     found ≡ captures_by (chain_in code.scopes.now) b.store closure
 unfolding uses_in
-are_by_length b code closure scope found same out is e =
-    let scopes = code.scopes.now in
-    let own : code.outermost ≡ length (chain_in scopes closure) = out ∙ ap (λ (o : Option ℕ). length (chain scopes.scopes o)) (sym is) in
-    let by : ℕ → Use → Option ℕ = λ n u. resolve_outside (length (chain_in scopes u.expr) - n) (chain_in scopes u.expr) u.name u.hygiene in
-    e
-    ∙ (ap (λ (spots : List Spot). with_uses code [] (flat_map (spot_uses code.store.now) spots))
-    (append-nil (code_under code.store.now.nodes (NodeId.Expr closure) None))
-    ∙ (λ i. fold with_new [] (filter_map (by (own i)) (uses_in (same i) closure))))
+are_by_length b code closure scope found same out is e = search (rules, append-nil)
 
 -- two facts on what was returned are one
 pub ok_both : {X E : Type 0} (r : Result X E) (P Q R : X → Type 0) → ((x : X) → P x → Q x → R x) → IfOk r P → IfOk r Q → IfOk r R

@@ -1,5 +1,5 @@
 -- What a page becomes as the text grows.
-use Rattle.std.proofs.Common.{◌≡◌, ℕ, suc, false, List, [], ◌∷◌, ◌++◌, length, get_or, take, replicate, ◌-◌, ◌==◌, ◌||◌, nat_lt, refl, sym, ap, ◌∙◌, arith, ◌≤◌, subst, append_assoc, append-nil}
+use Rattle.std.proofs.Common.{◌≡◌, ℕ, suc, false, List, [], ◌∷◌, ◌++◌, length, get_or, take, replicate, ◌-◌, ◌==◌, ◌||◌, nat_lt, refl, sym, ap, ◌∙◌, arith, ◌≤◌, subst, append_assoc, append-nil, rules}
 use Rattle.std.proofs.lemmas.Bool.Decides.{nat_tests}
 use Rattle.hir_pretty_layout.specs.declared.line_format.LineFormat.{LineFormat}
 use Rattle.hir_pretty_layout.specs.Buffer.{lines_of, IsTrimmedLen, IsGrown}
@@ -11,6 +11,7 @@ use Rattle.std.specs.Str.{IsUtf8}
 use Rattle.std.proofs.lemmas.Str.{IsCharBoundary-from_take}
 use Rattle.std.proofs.Math.Seq.{take-append_seam}
 use Rattle.std.specs.String.Boundary.{IsSplitPoint}
+use Rattle.std.proofs.lemmas.Grind.{common_steps}
 
 -- the page of a text, a level and a format
 abbrev pub page : List ℕ → ℕ → LineFormat → Page
@@ -27,26 +28,16 @@ page_end bs level format = let make : Lines → Page = λ l. record { above = l.
 
 -- whether the last line is blank, by the trimmed length
 pub blank_by_len : (text : List ℕ) (len : ℕ) → IsTrimmedLen text len → is_blank (lines_of text).1 ≡ ((len == 0) || (get_or text (len - 1) 0 == 10))
-blank_by_len text len t =
-    let e = ending text len t in
-    ap (λ l. is_blank l.1) e.whole ∙ e.blank ∙ e.empty
+blank_by_len text len t = grind (arith, common_steps, ending text len t)
 
 -- the text up to its trimmed length is that without its trailing spaces
 pub page_trimmed : (text : List ℕ) (len level : ℕ) (format : LineFormat) → IsTrimmedLen text len
     → page (take len text) level format ≡ record (page text level format) { last = trim (lines_of text).1 }
-page_trimmed text len level format t =
-    let e = ending text len t in
-    let make : Lines → Page = λ l. record { above = l.0; last = l.1; level = level; format = format } in
-    let make_trimmed : Lines → Page = λ l. record { above = l.0; last = trim l.1; level = level; format = format } in
-    let make_last : List ℕ → Page = λ k. record { above = e.above; last = k; level = level; format = format } in
-    ap make e.short ∙ sym (ap make_trimmed e.whole ∙ ap make_last e.cut)
+page_trimmed text len level format t = grind (arith, common_steps, ending text len t)
 
 -- whether the last line ends in a space, and whether there is no text
 pub space_by_len : (text : List ℕ) (len : ℕ) → IsTrimmedLen text len → ends_in_space (lines_of text).1 ≡ nat_lt len (length text)
-space_by_len text len t =
-    let e = ending text len t in
-    let same : nat_lt 0 (length text - len) ≡ nat_lt len (length text) = grind (arith, nat_tests) in
-    ap (λ l. ends_in_space l.1) e.whole ∙ e.space ∙ same
+space_by_len text len t = grind (arith, common_steps, ending text len t, nat_tests)
 
 not_zero : (n : ℕ) → (suc n == 0) ≡ false
 not_zero n = grind (arith, nat_tests)
@@ -60,11 +51,7 @@ empty_by_text (line ∷ above) last = some (lines_text above line)
     some (c ∷ cs) = refl
 
 pub empty_by_len : (text : List ℕ) → is_empty_text (lines_of text).0 (lines_of text).1 ≡ (length text == 0)
-empty_by_len text = empty_by_text (lines_of text).0 (lines_of text).1 ∙ ap is_empty_line (text_of_lines text) ∙ empty text
-  where
-    empty : (cs : List ℕ) → is_empty_line cs ≡ (length cs == 0)
-    empty [] = refl
-    empty (c ∷ cs) = sym (not_zero (length cs))
+empty_by_len text = search (rules, empty_by_text, text_of_lines, not_zero)
 
 -- Pages to which text was added.
 
@@ -72,24 +59,14 @@ pub grown_none : {p : Page} → IsGrown p p
 grown_none {p} = record { added = []; text = sym (append-nil (page_text p)); level = refl }
 
 pub grown_then : {p q r : Page} → IsGrown p q → IsGrown q r → IsGrown p r
-grown_then {p} {q} {r} g h = record {
-  added = g.added ++ h.added;
-  text = h.text ∙ ap (λ t. t ++ h.added) g.text ∙ append_assoc (page_text p) g.added h.added;
-  level = h.level ∙ g.level;
-}
-
--- in another format
-pub grown_format : {p q : Page} (r : Page) (format : LineFormat) → IsGrown p q → r ≡ q → IsGrown p (record r { format = format })
-grown_format {p} r format g e = let h = subst (IsGrown p) (sym e) g in record { added = h.added; text = h.text; level = h.level }
+grown_then {p} {q} {r} g h = search (rules, append_assoc)
 
 pub grown_by : (bs added : List ℕ) (level : ℕ) (format : LineFormat) → IsGrown (page bs level format) (page (bs ++ added) level format)
 grown_by bs added level format = record { added = added; text = text_of_lines (bs ++ added) ∙ ap (λ t. t ++ added) (sym (text_of_lines bs)); level = refl }
 
 -- the text that was there is left where what was added is cut off
 pub grown_back : (bs cs : List ℕ) {l m : ℕ} {f g : LineFormat} (n : ℕ) → n ≡ length bs → IsGrown (page bs l f) (page cs m g) → take n cs ≡ bs
-grown_back bs cs n e h =
-    let whole : cs ≡ bs ++ h.added = sym (text_of_lines cs) ∙ h.text ∙ ap (λ t. t ++ h.added) (text_of_lines bs) in
-    ap (λ k. take k cs) e ∙ ap (take (length bs)) whole ∙ take-append_seam bs h.added
+grown_back bs cs n e h = search (rules, text_of_lines, take-append_seam)
 
 pub grown_cut : (bs cs : List ℕ) {l m : ℕ} {f g : LineFormat} (n : ℕ) → IsUtf8 bs → IsUtf8 cs → n ≡ length bs → n ≤ length cs → IsGrown (page bs l f) (page cs m g) → IsSplitPoint cs n
 grown_cut bs cs n u v e le h =

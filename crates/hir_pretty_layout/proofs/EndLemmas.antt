@@ -1,5 +1,5 @@
 -- The end of a text: its trailing spaces and what stands before them.
-use Rattle.std.proofs.Common.{◌≡◌, ◌≢◌, ℕ, zero, suc, ◌+◌, ◌-◌, ◌<◌, ◌≤◌, Bool, true, false, List, [], ◌∷◌, ◌++◌, length, get_or, take, drop, take-append-drop, replicate, ◌==◌, ◌||◌, cond, refl, sym, ap, ap₂, ◌∙◌, nat_lt, append-nil, arith, le_refl, ◌*◌, length-append}
+use Rattle.std.proofs.Common.{◌≡◌, ◌≢◌, ℕ, zero, suc, ◌+◌, ◌-◌, ◌<◌, ◌≤◌, Bool, true, false, List, [], ◌∷◌, ◌++◌, length, get_or, take, drop, take-append-drop, replicate, ◌==◌, ◌||◌, cond, refl, sym, ap, ap₂, ◌∙◌, nat_lt, append-nil, arith, ◌*◌, length-append, rules}
 use Rattle.std.proofs.lemmas.Bool.Decides.{nat_tests}
 use Rattle.std.proofs.lemmas.Grind.{common_steps}
 use Rattle.std.proofs.lemmas.List.{drop_more, take_more, take_all, drop-append-le, length-replicate, get_or_append_left, get_or-append-add, replicate-append-replicate}
@@ -29,21 +29,15 @@ blank_spaces (suc n) = blank_spaces n
 
 blank_not : (x : List ℕ) (c n : ℕ) → c ≢ 32 → is_blank ((x ++ (c ∷ [])) ++ replicate n 32) ≡ false
 blank_not [] c n ne = ap (λ b. cond b (is_blank (replicate n 32)) false) (is_space c ne)
-blank_not (d ∷ x) c n ne = rw (blank_not x c n ne) (both (d == 32))
-  where
-    both : (b : Bool) → cond b false false ≡ false
-    both true = refl
-    both false = refl
+blank_not (d ∷ x) c n ne = search (rules, blank_not x c n ne)
 
 trimmed_spaces : (n : ℕ) → trim (replicate n 32) ≡ []
 trimmed_spaces zero = refl
 trimmed_spaces (suc n) = ap (λ b. cond b [] (32 ∷ trim (replicate n 32))) (blank_spaces n)
 
 trimmed_kept : (x : List ℕ) (c n : ℕ) → c ≢ 32 → trim ((x ++ (c ∷ [])) ++ replicate n 32) ≡ x ++ (c ∷ [])
-trimmed_kept [] c n ne =
-    ap (λ b. cond b [] (c ∷ trim (replicate n 32))) (blank_not [] c n ne) ∙ ap (λ cs. c ∷ cs) (trimmed_spaces n)
-trimmed_kept (d ∷ x) c n ne =
-    ap (λ b. cond b [] (d ∷ trim ((x ++ (c ∷ [])) ++ replicate n 32))) (blank_not (d ∷ x) c n ne) ∙ ap (λ cs. d ∷ cs) (trimmed_kept x c n ne)
+trimmed_kept [] c n ne = search (rules, blank_not, trimmed_spaces)
+trimmed_kept (d ∷ x) c n ne = search (rules, blank_not, trimmed_kept x c n ne)
 
 -- a line that ends in a space, and one that doesn't
 ends_spaces : (x : List ℕ) (n : ℕ) → ends_in_space (x ++ replicate (suc n) 32) ≡ true
@@ -70,11 +64,7 @@ space_if_some x (suc n) e = ends_spaces x n ∙ sym (some_more n)
 pub unspaced_blank : (line : List ℕ) → ends_in_space line ≡ false → is_blank line ≡ is_empty_line line
 unspaced_blank [] e = refl
 unspaced_blank (c ∷ []) e = ap (λ b. cond b true false) e
-unspaced_blank (c ∷ d ∷ cs) e = ap (λ b. cond (c == 32) b false) (unspaced_blank (d ∷ cs) e) ∙ both (c == 32)
-  where
-    both : (b : Bool) → cond b false false ≡ false
-    both true = refl
-    both false = refl
+unspaced_blank (c ∷ d ∷ cs) e = search (rules, unspaced_blank (d ∷ cs) e)
 
 -- The lines of a text, by its trimmed length: the lines above, the last line without its trailing spaces, and what is known of it.
 pub record Ending (text : List ℕ) (len : ℕ) : Type 0 where
@@ -108,16 +98,7 @@ unfolding lines_of
 lines_of-nil = refl
 
 pub ending : (text : List ℕ) (len : ℕ) → IsTrimmedLen text len → Ending text len
-ending text zero t = record {
-  above = [];
-  kept = [];
-  whole = whole_of text zero t [] [] lines_of-nil;
-  short = lines_of-nil;
-  blank = blank_spaces (length text - 0);
-  cut = trimmed_spaces (length text - 0);
-  space = space_if_some [] (length text - 0) refl;
-  empty = refl;
-}
+ending text zero t = search (rules, whole_of, lines_of-nil, blank_spaces, trimmed_spaces, space_if_some)
 ending text (suc n) t = by_end (get_or text n 0 == 10) refl
   where
     index : suc n - 1 ≡ n
@@ -168,10 +149,7 @@ ending text (suc n) t = by_end (get_or text n 0 == 10) refl
 -- the last character and what stands before it
 module _ (text : List ℕ) (some : 0 < length text) where
   pub push_back : text ≡ take (length text - 1) text ++ (get_or text (length text - 1) 0 ∷ [])
-  push_back =
-      let n = length text - 1 in
-      let all : n + 1 ≡ length text = omega arith in
-      sym (take_all (length text) text (le_refl (length text))) ∙ ap (λ k. take k text) (sym all) ∙ take_more text n 0 (omega arith)
+  push_back = search (rules, take_all, take_more)
 
   pub lines_at_end : get_or text (length text - 1) 0 ≡ 10 → lines_of text ≡ ((lines_of (take (length text - 1) text)).1 ∷ (lines_of (take (length text - 1) text)).0, [])
   lines_at_end e = ap lines_of (push_back ∙ ap (λ c. take (length text - 1) text ++ (c ∷ [])) e) ∙ lines_of-end (take (length text - 1) text)
@@ -188,11 +166,7 @@ cut_push (line ∷ above) (d ∷ x) c = refl
 -- a text that does not end in a line end is cut
 pub cut_done : (text : List ℕ) → (EndsInLineEnd text → ⊥) → cut_lines (lines_of text).0 (lines_of text).1 ≡ lines_of text
 cut_done [] h = ap (λ l. cut_lines l.0 l.1) lines_of-nil ∙ sym lines_of-nil
-cut_done (b ∷ bs) h =
-    let text = b ∷ bs in
-    let some : 0 < length text = omega arith in
-    let is = lines_in_line text some (λ e. h (some, e)) in
-    ap (λ l. cut_lines l.0 l.1) is ∙ cut_push _ _ _ ∙ sym is
+cut_done (b ∷ bs) h = search (rules, lines_in_line, cut_push)
 
 -- a text that does is cut as the text before its last character
 pub cut_more : (text : List ℕ) → EndsInLineEnd text → cut_lines (lines_of text).0 (lines_of text).1 ≡ (let l = lines_of (take (length text - 1) text) in cut_lines l.0 l.1)
@@ -202,41 +176,19 @@ cut_more text e = ap (λ l. cut_lines l.0 l.1) (lines_at_end text e.0 e.1)
 
 -- spaces more
 pub kept_spaces : (text : List ℕ) (kept n : ℕ) → IsTrimmedLen text kept → IsTrimmedLen (text ++ replicate n 32) kept
-kept_spaces text kept n t =
-    let all : length (text ++ replicate n 32) ≡ length text + n = length-append text (replicate n 32) ∙ ap (λ k. length text + k) (length-replicate n 32) in
-    let within = t.within in
-    let count : (length text - kept) + n ≡ length (text ++ replicate n 32) - kept = omega arith in
-    record {
-      within = omega arith;
-      spaces = drop-append-le kept text (replicate n 32) t.within ∙ ap (λ d. d ++ replicate n 32) t.spaces ∙ replicate-append-replicate (length text - kept) n 32
-          ∙ ap (λ k. replicate k 32) count;
-      before = λ some. rw (get_or_append_left text (replicate n 32) 0 (kept - 1) (omega arith)) (t.before some);
-    }
+kept_spaces text kept n t = search (rules, length-append, length-replicate, drop-append-le, replicate-append-replicate, get_or_append_left)
 
 -- a part more that doesn't hold spaces alone
 pub kept_part : (text part : List ℕ) (of_part : ℕ) → IsTrimmedLen part of_part → 0 < of_part → IsTrimmedLen (text ++ part) (length text + of_part)
-kept_part text part of_part t some =
-    let all = length-append text part in
-    let within = t.within in
-    let count : length part - of_part ≡ length (text ++ part) - (length text + of_part) = omega arith in
-    let last : (length text + of_part) - 1 ≡ length text + (of_part - 1) = omega arith in
-    record {
-      within = omega arith;
-      spaces = drop-append-add text part of_part ∙ t.spaces ∙ ap (λ k. replicate k 32) count;
-      before = λ _. rw (last, get_or-append-add text part (of_part - 1) 0) (t.before some);
-    }
+kept_part text part of_part t some = search (rules, length-append, drop-append-add, get_or-append-add)
 
 -- a part more that holds spaces alone
 pub kept_blank : (text part : List ℕ) (kept : ℕ) → IsTrimmedLen text kept → IsTrimmedLen part 0 → IsTrimmedLen (text ++ part) kept
-kept_blank text part kept t blank =
-    let spaces : part ≡ replicate (length part) 32 = blank.spaces ∙ ap (λ k. replicate k 32) (omega arith) in
-    rw spaces (kept_spaces text kept (length part) t)
+kept_blank text part kept t blank = grind (arith, common_steps, kept_spaces)
 
 -- an indentation of so many levels
 pub level_is : (spaces : List ℕ) (level : ℕ) → spaces ≡ replicate (4 * level) 32 → level_of spaces ≡ level
-level_is spaces level e =
-    let count : length spaces ≡ 4 * level = ap length e ∙ length-replicate (4 * level) 32 in
-    omega arith
+level_is spaces level e = search (rules, length-replicate)
 
 pub indentation_more : (spaces : List ℕ) → spaces ≡ replicate (4 * level_of spaces) 32
     → (spaces ++ replicate 4 32 ≡ replicate (4 * level_of (spaces ++ replicate 4 32)) 32) × (level_of (spaces ++ replicate 4 32) ≡ level_of spaces + 1)

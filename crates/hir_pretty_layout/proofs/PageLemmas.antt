@@ -1,11 +1,12 @@
 -- How lines grow.
-use Rattle.std.proofs.Common.{◌≡◌, ◌≢◌, ℕ, suc, ◌<◌, Bool, true, false, List, [], ◌∷◌, ◌++◌, length, ◌==◌, cond, refl, sym, ap, ◌∙◌, append_assoc, append-nil, arith, ◌*◌, replicate}
+use Rattle.std.proofs.Common.{◌≡◌, ◌≢◌, ℕ, suc, ◌<◌, Bool, true, false, List, [], ◌∷◌, ◌++◌, length, ◌==◌, cond, refl, sym, ap, ◌∙◌, append_assoc, append-nil, arith, ◌*◌, replicate, rules}
 use Rattle.std.proofs.lemmas.Bool.Decides.{nat_tests}
 use Rattle.hir_pretty_layout.specs.declared.line_format.LineFormat.{LineFormat}
 use Rattle.hir_pretty_layout.specs.declared.line_format.LineFormat.TheVariants.{Oneline, Newline, Indentation}
 use Rattle.hir_pretty_layout.specs.Buffer.{one_more, continue_lines, lines_of}
 use Rattle.hir_pretty_layout.specs.internal.Buffer.{HasNoEnd}
-use Rattle.hir_pretty_layout.specs.Page.{Lines, Page, begin, begin_in, indent, is_blank, put, put_all, lines_text, format_in_line, format_after_end, trim, line_ended}
+use Rattle.hir_pretty_layout.specs.Page.{Lines, Page, begin, is_blank, put, put_all, lines_text, format_in_line, trim, line_ended}
+use Rattle.std.proofs.lemmas.Grind.{common_steps}
 
 pub continued-append : (l : Lines) (xs ys : List ℕ) → continue_lines l (xs ++ ys) ≡ continue_lines (continue_lines l xs) ys
 continued-append l [] ys = refl
@@ -33,10 +34,7 @@ lines_of-end xs = lines_of-append xs (10 ∷ [])
 
 -- a character that is no line end
 pub put_plain : (c : ℕ) (p : Page) → c ≢ 10 → put c p ≡ (let q = begin p in record q { last = q.last ++ (c ∷ []); format = format_in_line p.format })
-put_plain c p ne =
-    let q = begin p in
-    let both : Bool → Page = λ b. cond b (record q { above = q.last ∷ q.above; last = []; format = format_after_end p.format }) (record q { last = q.last ++ (c ∷ []); format = format_in_line p.format }) in
-    ap both (not_end c ne)
+put_plain c p ne = search (rules, not_end)
 
 -- a character that is no line end, within a line
 put_in_line : (c : ℕ) (above : List (List ℕ)) (last : List ℕ) (level : ℕ) (format : LineFormat) → c ≢ 10
@@ -48,8 +46,7 @@ put_in_line c above last level Indentation ne = put_plain c (record { above = ab
 -- a text without a line end, within a line
 put_all-plain : (above : List (List ℕ)) (last : List ℕ) (level : ℕ) (format : LineFormat) (cs : List ℕ) → HasNoEnd cs
     → put_all cs (record { above = above; last = last; level = level; format = format_in_line format }) ≡ record { above = above; last = last ++ cs; level = level; format = format_in_line format }
-put_all-plain above last level format [] h =
-    let page : List ℕ → Page = λ l. record { above = above; last = l; level = level; format = format_in_line format } in ap page (sym (append-nil last))
+put_all-plain above last level format [] h = search (rules, append-nil)
 put_all-plain above last level format (c ∷ cs) h =
     let page : List ℕ → Page = λ l. record { above = above; last = l; level = level; format = format_in_line format } in
     ap (put_all cs) (put_in_line c above last level format (h 0 (omega arith))) ∙ put_all-plain above (last ++ (c ∷ [])) level format cs (λ i lt. h (suc i) (omega arith))
@@ -57,10 +54,7 @@ put_all-plain above last level format (c ∷ cs) h =
 
 -- a text without a line end, where text goes on in its line
 pub put_all_in_line : (p : Page) (cs : List ℕ) → p.format ≡ format_in_line p.format → HasNoEnd cs → put_all cs p ≡ record p { last = p.last ++ cs }
-put_all_in_line p cs e h =
-    let before : LineFormat → Page = λ f. record p { format = f } in
-    let after : LineFormat → Page = λ f. record p { last = p.last ++ cs; format = f } in
-    ap (λ f. put_all cs (before f)) e ∙ put_all-plain p.above p.last p.level p.format cs h ∙ ap after (sym e)
+put_all_in_line p cs e h = grind (arith, common_steps, put_all-plain p.above p.last p.level p.format cs h)
 
 -- a text that is not empty and has no line end
 pub put_line : (p : Page) (cs : List ℕ) → 0 < length cs → HasNoEnd cs → put_all cs p ≡ (let q = begin p in record q { last = q.last ++ cs; format = format_in_line p.format })
@@ -84,11 +78,8 @@ text_continued l (c ∷ cs) = text_continued (one_more c l) cs ∙ ap (λ t. t +
     in_last (line ∷ above) = sym (append_assoc (lines_text above line) (10 ∷ l.1) (c ∷ []))
 
     text_one_more : (b : Bool) → (c == 10) ≡ b → lines_text (one_more c l).0 (one_more c l).1 ≡ lines_text l.0 l.1 ++ (c ∷ [])
-    text_one_more true e =
-        let is : c ≡ 10 = grind (arith, nat_tests) in
-        ap (λ (m : Lines). lines_text m.0 m.1) (ap (λ b. cond b (l.1 ∷ l.0, []) (l.0, l.1 ++ (c ∷ []))) e) ∙ ap (λ k. lines_text l.0 l.1 ++ (k ∷ [])) (sym is)
-    text_one_more false e =
-        ap (λ (m : Lines). lines_text m.0 m.1) (ap (λ b. cond b (l.1 ∷ l.0, []) (l.0, l.1 ++ (c ∷ []))) e) ∙ in_last l.0
+    text_one_more true e = search (rules, nat_tests)
+    text_one_more false e = search (rules, in_last)
 
 -- the lines of a text, joined, are the text
 pub text_of_lines : (bs : List ℕ) → lines_text (lines_of bs).0 (lines_of bs).1 ≡ bs
@@ -97,16 +88,7 @@ text_of_lines bs = text_continued ([], []) bs
 
 -- a begun line keeps the format
 pub begun_format : (p : Page) → (begin p).format ≡ p.format
-begun_format p = by_format p.format refl
-  where
-    either : (b : Bool) → (indent (cond b p (record p { above = p.last ∷ p.above; last = [] }))).format ≡ p.format
-    either true = refl
-    either false = refl
-
-    by_format : (f : LineFormat) → p.format ≡ f → (begin_in f p).format ≡ p.format
-    by_format Oneline e = refl
-    by_format Newline e = refl
-    by_format Indentation e = either (is_blank p.last)
+begun_format p = search rules
 
 -- What a break makes of a line that is not blank, where the next text begins a line.
 
@@ -120,11 +102,4 @@ trimmed_not_blank (c ∷ cs) e = ap (λ b. is_blank (cond b [] (c ∷ trim cs)))
 
 pub two_lines_ended : (p : Page) → p.format ≡ Indentation → is_blank p.last ≡ false
     → line_ended p ≡ record p { above = replicate (4 * p.level) 32 ∷ trim p.last ∷ p.above; last = [] }
-two_lines_ended p e h =
-    let cut : LineFormat → Page = λ f. record p { last = trim p.last; format = f } in
-    let begun_by : Bool → Page = λ b. indent (cond b (cut Indentation) (record p { above = trim p.last ∷ p.above; last = []; format = Indentation })) in
-    let ended : Page → Page = λ q. record q { above = q.last ∷ q.above; last = []; format = Indentation } in
-    ap (λ b. cond b p (put 10 (record p { last = trim p.last }))) h
-    ∙ ap (λ f. put 10 (cut f)) e
-    ∙ ap (λ b. ended (begun_by b)) (trimmed_not_blank p.last h)
-    ∙ ap (λ f. record p { above = replicate (4 * p.level) 32 ∷ trim p.last ∷ p.above; last = []; format = f }) (sym e)
+two_lines_ended p e h = search (rules, trimmed_not_blank)

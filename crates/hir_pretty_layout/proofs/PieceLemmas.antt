@@ -1,11 +1,12 @@
 -- Lists of pieces, written one after another.
-use Rattle.std.proofs.Common.{◌≡◌, ℕ, ◌<◌, ◌≤◌, Bool, true, false, List, [], ◌∷◌, ◌++◌, length, cond, ◌==◌, ◌||◌, nat_lt, codes, refl, sym, ap, subst, ◌∙◌, append_assoc, append-nil, arith}
+use Rattle.std.proofs.Common.{◌≡◌, ℕ, ◌<◌, ◌≤◌, true, false, List, [], ◌∷◌, ◌++◌, length, cond, ◌==◌, ◌||◌, nat_lt, codes, refl, sym, ap, subst, ◌∙◌, append_assoc, append-nil, arith, rules}
 use Rattle.std.specs.Prelude.{Result, Ok, Err, OnErr}
 use Rattle.std.specs.Char.{digit_char, encode_utf8, is_ascii_control}
 use Rattle.std.proofs.lemmas.Bool.Decides.{nat_tests}
 use Rattle.hir_pretty_layout.specs.Layouts.{Layout, Text}
 use Rattle.hir_pretty_layout.specs.Steps.{steps, StopsIn}
 use Rattle.hir_pretty_layout.specs.Literals.{escaped_by, long_escape, control_escape, hexadecimal, two_digits, byte_escape}
+use Rattle.std.proofs.lemmas.Grind.{common_steps}
 
 -- what is true whatever was answered
 pub on_err : {T E P : Type 0} (r : Result T E) → P → OnErr r P
@@ -16,9 +17,6 @@ module _ {W : Type 0} (step : Layout → W → W) where
   pub steps-append : (ps qs : List Layout) (value : W) → steps step (ps ++ qs) value ≡ steps step qs (steps step ps value)
   steps-append [] qs value = refl
   steps-append (p ∷ ps) qs value = steps-append ps qs (step p value)
-
-  pub last_written : (first last : Layout) (ps : List Layout) (old : W) {one two new : W} → one ≡ step first old → two ≡ steps step ps one → new ≡ step last two → new ≡ steps step (first ∷ (ps ++ (last ∷ []))) old
-  last_written first last ps old e f g = g ∙ ap (step last) (f ∙ ap (steps step ps) e) ∙ sym (steps-append ps (last ∷ []) (step first old))
 
 -- The first pieces of a list were written, and these are left.
 pub record LeftOf {W : Type 0} (step : Layout → W → W) (whole rest : List Layout) (old new : W) : Type 0 where
@@ -31,24 +29,21 @@ module _ {W : Type 0} {step : Layout → W → W} where
   all_left = record { done = []; parts = refl; value = refl }
 
   pub some_written : {whole : List Layout} (ps : List Layout) {rest : List Layout} {old between new : W} → LeftOf step whole (ps ++ rest) old between → new ≡ steps step ps between → LeftOf step whole rest old new
-  some_written ps {rest} {old} l e = record {
-    done = l.done ++ ps;
-    parts = l.parts ∙ sym (append_assoc l.done ps rest);
-    value = e ∙ ap (steps step ps) l.value ∙ sym (steps-append step l.done ps old);
-  }
+  some_written ps {rest} {old} l e = grind (arith, common_steps, append_assoc l.done ps rest, steps-append step l.done ps old)
 
   pub none_left : {whole : List Layout} {old new : W} → LeftOf step whole [] old new → new ≡ steps step whole old
   none_left {old = old} l = l.value ∙ ap (λ ps. steps step ps old) (sym (l.parts ∙ append-nil l.done))
 
 module _ {W : Type 0} {step : Layout → W → W} {refuses : Layout → W → W → Type 0} where
   pub stops_in_rest : {whole ps : List Layout} (rest : List Layout) {old between new : W} → LeftOf step whole (ps ++ rest) old between → StopsIn step refuses ps between new → StopsIn step refuses whole old new
-  stops_in_rest rest {old} {new = new} l s = record {
-    before = l.done ++ s.before;
-    refused = s.refused;
-    after = s.after ++ rest;
-    parts = l.parts ∙ ap (λ ps. l.done ++ (ps ++ rest)) s.parts ∙ ap (λ ps. l.done ++ ps) (append_assoc s.before (s.refused ∷ s.after) rest) ∙ sym (append_assoc l.done s.before (s.refused ∷ (s.after ++ rest)));
-    value = subst (λ v. refuses s.refused v new) (ap (steps step s.before) l.value ∙ sym (steps-append step l.done s.before old)) s.value;
-  }
+  stops_in_rest rest {old} {new = new} l s =
+      grind (
+        arith,
+        common_steps,
+        append_assoc s.before (s.refused ∷ s.after) rest,
+        append_assoc l.done s.before (s.refused ∷ (s.after ++ rest)),
+        steps-append step l.done s.before old,
+      )
 
   -- a list whose first piece is refused, or is written
   pub stops_here : {p : Layout} {ps : List Layout} {old new : W} → refuses p old new → StopsIn step refuses (p ∷ ps) old new
@@ -77,22 +72,13 @@ pub hexadecimal_one : (n : ℕ) → n < 16 → hexadecimal n ≡ Text (digit_cha
 hexadecimal_one n lt = let e : nat_lt n 16 ≡ true = grind (arith, nat_tests) in ap (λ b. cond b (Text (digit_char n ∷ []) ∷ []) (two_digits n)) e
 
 pub byte_plain : (b : ℕ) → 32 ≤ b → b ≤ 126 → byte_escape b ≡ Text (b ∷ []) ∷ []
-byte_plain b low high =
-    let e : nat_lt b 32 ≡ false = grind (arith, nat_tests) in
-    let f : nat_lt 126 b ≡ false = grind (arith, nat_tests) in
-    ap (λ x. cond (x || nat_lt 126 b) (Text (codes "\\x") ∷ two_digits b) (Text (b ∷ []) ∷ [])) e ∙ ap (λ x. cond x (Text (codes "\\x") ∷ two_digits b) (Text (b ∷ []) ∷ [])) f
+byte_plain b low high = search (rules, nat_tests)
 
 pub byte_low : (b : ℕ) → b < 32 → byte_escape b ≡ Text (codes "\\x") ∷ two_digits b
 byte_low b low = let e : nat_lt b 32 ≡ true = grind (arith, nat_tests) in ap (λ x. cond (x || nat_lt 126 b) (Text (codes "\\x") ∷ two_digits b) (Text (b ∷ []) ∷ [])) e
 
 pub byte_high : (b : ℕ) → 126 < b → byte_escape b ≡ Text (codes "\\x") ∷ two_digits b
-byte_high b high =
-    let e : nat_lt 126 b ≡ true = grind (arith, nat_tests) in
-    ap (λ x. cond (nat_lt b 32 || x) (Text (codes "\\x") ∷ two_digits b) (Text (b ∷ []) ∷ [])) e ∙ either (nat_lt b 32)
-  where
-    either : (x : Bool) → cond (x || true) (Text (codes "\\x") ∷ two_digits b) (Text (b ∷ []) ∷ []) ≡ Text (codes "\\x") ∷ two_digits b
-    either true = refl
-    either false = refl
+byte_high b high = search (rules, nat_tests)
 
 -- the piece of a text that is the escape, where there is one
 pub is_escape : (escape : List ℕ) (long : List Layout) → (length escape == 0) ≡ false → escaped_by escape long ≡ Text escape ∷ []

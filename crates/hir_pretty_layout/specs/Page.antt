@@ -1,5 +1,5 @@
 -- A page of text, and what layouts make of it.
-use Rattle.std.specs.Prelude.{◌≡◌, ℕ, ◌+◌, ◌*◌, ◌-◌, Bool, true, false, List, [], ◌∷◌, ◌++◌, replicate, ◌==◌, if◌then◌else◌}
+use Rattle.std.specs.Prelude.{ℕ, ◌+◌, ◌*◌, ◌-◌, Bool, true, false, List, [], ◌∷◌, ◌++◌, replicate, ◌==◌, if◌then◌else◌}
 use Rattle.hir_pretty_layout.specs.declared.line_format.LineFormat.{LineFormat}
 use Rattle.hir_pretty_layout.specs.declared.line_format.LineFormat.TheVariants.{Oneline, Newline, Indentation}
 use Rattle.hir_pretty_layout.specs.Layouts.{Layout, Text, SoftSpace, Break, Indent, Outdent}

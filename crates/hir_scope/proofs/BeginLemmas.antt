@@ -1,6 +1,6 @@
 -- The state in which the walk over a body or a signature begins: it is ready, what it has to do is what is under the
 -- entry nodes, and what its frames and those to come weigh are the counts of scopes and entries.
-use Rattle.std.proofs.Common.{◌≡◌, ℕ, ◌+◌, ◌<◌, List, [], ◌∷◌, ◌++◌, map, length, refl, sym, ap, ◌∙◌, arith, subst, inl, inr, ⊎_elim}
+use Rattle.std.proofs.Common.{◌≡◌, ℕ, ◌+◌, ◌<◌, List, [], ◌∷◌, ◌++◌, map, length, refl, sym, ap, ◌∙◌, arith, subst, rules}
 use Rattle.std.proofs.Common.{Option, Some, None, Contains, length-append}
 use Rattle.std.proofs.lemmas.Grind.{get_or_default_zero}
 use Rattle.std.proofs.lemmas.List.{append-nil, length-map}
@@ -19,17 +19,17 @@ use Rattle.hir_body.specs.{declared.formals.Param.Param}
 use Rattle.hir_scope.specs.BodyScopes.{entry_nodes_of_body, entry_nodes_of_signature, limit, BodyIsTooLarge, SignatureIsTooLarge}
 use Rattle.hir_scope.specs.BodyScopes.{body_frames, signature_frames}
 use Rattle.hir_scope.specs.Chains.{InContext}
-use Rattle.hir_scope.specs.Counts.{count_if_some, frames_opened, frames_of_nodes, form_scopes, node_entries, body_scope_count, body_entry_count, signature_scope_count}
+use Rattle.hir_scope.specs.Counts.{count_if_some, frames_of_nodes, form_scopes, node_entries, body_scope_count, body_entry_count, signature_scope_count}
 use Rattle.hir_scope.specs.Counts.{signature_entry_count}
 use Rattle.hir_scope.specs.ScopingForms.{form_of}
-use Rattle.hir_scope.specs.Frames.{Frame, Chain, entry_at, binds, empty}
+use Rattle.hir_scope.specs.Frames.{Frame, entry_at, binds, empty}
 use Rattle.hir_scope.specs.{Paths.paths, Scopes.frame_of}
 use Rattle.hir_scope.specs.declared.tasks.Task.{Task}
 use Rattle.hir_scope.specs.internal.Begins.{IsSound, IsSoundBody, IsSoundStore, root_entries, body_root, body_begins, signature_root}
 use Rattle.hir_scope.specs.internal.Begins.{signature_begins}
-use Rattle.hir_scope.specs.internal.WalkState.{IsReady, AreInRange, LeavesWithin, Exceeds, about, chain_of, future_of}
+use Rattle.hir_scope.specs.internal.WalkState.{IsReady, LeavesWithin, Exceeds, about, chain_of, future_of}
 use Rattle.hir_scope.specs.internal.WalkState.{node_frames, one, count_entries, total, weight, weight_left}
-use Rattle.hir_scope.specs.internal.Pending.{tasks_of, task_frames, future}
+use Rattle.hir_scope.specs.internal.Pending.{tasks_of}
 use Rattle.hir_scope.specs.internal.ContextsUnder.{exprs_under}
 use Rattle.hir_scope.proofs.CountLemmas.{bound_by, calls_open, form_ones, form_opens, frame_entries, reached_total}
 use Rattle.hir_scope.proofs.DoneLemmas.{in_range_all, leaves_calls}
@@ -38,6 +38,7 @@ use Rattle.hir_scope.proofs.FutureLemmas.{body_future, body_top_nodes, signature
 use Rattle.hir_scope.proofs.ChildLemmas.{about_calls}
 use Rattle.hir_scope.proofs.MemberLemmas.{In, in_contains, contains_in, in_map, sum_flat, sum_same, sum_mapped, sum_none, sum_ones}
 use Rattle.hir_scope.proofs.MovingLemmas.{scopes_weigh, entries_weigh}
+use Rattle.std.proofs.lemmas.Grind.{common_steps}
 
 -- the roots of a store exist
 pub roots_in_range : (c : Contents) → RootsStandApart (rooted_of c) → (n : NodeId) → Contains (root_entry_nodes c) n → Has c.nodes n
@@ -55,26 +56,16 @@ roots_in_range c stand n m =
 scopes_total : (s : Nodes) → IsSound s → (nodes : List NodeId) → ((n : NodeId) → In n nodes → Has s n) →
     sum_by (total s (λ n. sum_by one (node_frames s n))) nodes
     ≡ sum_by (λ n. form_scopes (form_of s n)) (reached_nodes s nodes)
-scopes_total s sound nodes in_range =
-    sym (reached_total s sound.fall sound.under (λ n. sum_by one (node_frames s n)) nodes in_range)
-    ∙ sum_same (λ n. sum_by one (node_frames s n)) (λ n. form_scopes (form_of s n)) (reached_nodes s nodes)
-    (λ n i. form_ones s no_around (form_of s n))
+scopes_total s sound nodes in_range = search (rules, reached_total, sum_same, form_ones, no_around)
 
 frames_total : (s : Nodes) → IsSound s → (w : Frame → ℕ) (nodes : List NodeId) → ((n : NodeId) → In n nodes → Has s n) →
     sum_by (total s (λ n. sum_by w (node_frames s n))) nodes ≡ sum_by w (frames_of_nodes s (reached_nodes s nodes))
-frames_total s sound w nodes in_range =
-    let reached = reached_nodes s nodes in
-    sym (reached_total s sound.fall sound.under (λ n. sum_by w (node_frames s n)) nodes in_range)
-    ∙ (sum_same (λ n. sum_by w (node_frames s n)) (λ n. sum_by w (frames_opened s (form_of s n))) reached
-    (λ n i. form_opens s w no_around (form_of s n))
-    ∙ sym (sum_flat w (λ n. frames_opened s (form_of s n)) reached))
+frames_total s sound w nodes in_range = search (rules, reached_total, sum_same, form_opens, no_around, sum_flat)
 
 entries_under : (s : Nodes) → IsSound s → (nodes : List NodeId) → ((n : NodeId) → In n nodes → Has s n) →
     sum_by (bound_by s) nodes + sum_by (total s (entries_of_node s)) nodes
     ≡ sum_by (node_entries s) (reached_nodes s nodes)
-entries_under s sound nodes in_range =
-    sym (entries_total s sound.fall sound.pats sound.bindings nodes in_range)
-    ∙ sym (reached_total s sound.fall sound.under (node_entries s) nodes in_range)
+entries_under s sound nodes in_range = search (rules, entries_total, reached_total)
 
 -- 2. Bodies
 
@@ -83,9 +74,7 @@ bound_formals : (s : Nodes) (formals : List ℕ) (last : Option ℕ) →
     ≡ sum_by (λ q. length (binds s q)) formals
 bound_formals s [] None = refl
 bound_formals s [] (Some root) = refl
-bound_formals s (x ∷ formals) last =
-    let a = sum_by-cons (bound_by s) (NodeId.Pat x) (map NodeId.Pat formals ++ option_to_list (option_map NodeId.Expr last)) in
-    omega (arith, a, sum_by-cons (λ q. length (binds s q)) x formals, bound_formals s formals last)
+bound_formals s (x ∷ formals) last = search (rules, sum_by-cons, bound_by, bound_formals s formals last)
 
 abbrev SelfIsInRange : Nodes → Option (Param ℕ) → Type 0
 SelfIsInRange s self = IfSome self (AreBelow (length s.bindings))
@@ -110,10 +99,7 @@ module _ (b : BodyContents) where
   body_same = body_top_nodes s (option_map (λ (q : Param ℕ). q.formal) b.self_param) (formals_of b.params) (last_root b.store)
 
   pub body_whole : future_of s (body_begins b) ≡ exprs_under s (entry_nodes_of_body b)
-  body_whole =
-      ap (λ (c : Chain). future s (chain_of (body_root b ∷ [])) c c (tasks_of top_calls)) (first_chain b)
-      ∙ body_future s (chain_of (body_root b ∷ [])) (option_map (λ (q : Param ℕ). q.formal) b.self_param)
-      (formals_of b.params) (last_root b.store)
+  body_whole = search (rules, first_chain, body_future)
 
   about_entry_nodes : about (tasks_of top_calls) ≡ body.entry_nodes b
   about_entry_nodes = about_calls top_calls ∙ top_children (formals_of b.params) (last_root b.store)
@@ -123,72 +109,54 @@ module _ (b : BodyContents) where
     entry_nodes_in_range n i = sound.in_range n (contains_in (body.entry_nodes b) n i)
 
     pub body_ready : IsReady s (body_begins b)
-    body_ready = record {
-      scope = omega arith;
-      const_scope = omega arith;
-      leaves = subst (LeavesWithin 1) (append-nil (tasks_of top_calls)) (leaves_calls 1 top_calls [] tt);
-      known = subst (AreInRange s) (sym about_entry_nodes) (in_range_all s (body.entry_nodes b) sound.in_range);
-    }
+    body_ready = grind (arith, common_steps, append-nil, leaves_calls, about_entry_nodes, in_range_all)
 
     body_left : (w : Frame → ℕ) → weight_left s w (tasks_of top_calls)
         ≡ sum_by (total s (λ n. sum_by w (node_frames s n))) (body.entry_nodes b)
-    body_left w =
-        omega (
-          arith,
-          calls_open s w top_calls,
-          ap
-              (λ (ns : List NodeId). sum_by (total s (λ n. sum_by w (node_frames s n))) ns) about_entry_nodes,
-        )
+    body_left w = search (rules, calls_open, about_entry_nodes)
 
     pub body_frames_weigh : (w : Frame → ℕ) → weight s w (body_begins b) ≡ sum_by w (body_frames b)
     body_frames_weigh w =
-        omega (
+        grind (
           arith,
+          common_steps,
           body_left w,
           frames_total s sound.nodes w (body.entry_nodes b) entry_nodes_in_range,
+          entry_nodes_in_range,
           sum_by-cons w (frame_of (body_root b)) (frames_of_nodes s (body_nodes b)),
         )
 
     pub body_scopes_weigh : weight s one (body_begins b) ≡ body_scope_count s (body_nodes b)
-    body_scopes_weigh =
-        omega (
-          arith,
-          scopes_weigh (body_root b ∷ []),
-          body_left one,
-          scopes_total s sound.nodes
-              (body.entry_nodes b) entry_nodes_in_range,
-        )
+    body_scopes_weigh = search (rules, scopes_weigh, body_left, scopes_total, entry_nodes_in_range)
 
     root_length : length (root_entries b) ≡ count_if_some b.self_param + sum_by (bound_by s) (body.entry_nodes b)
-    root_length =
-        let a = length-append (all_of (entry_at s) (option_map (λ (q : Param ℕ). q.formal) b.self_param))
-        (flat_map (binds s) (formals_of b.params)) in
-        let d = bound_formals s (formals_of b.params) (last_root b.store) in
-        omega (arith, a, self_entries s b.self_param sound.self_in_range, frame_entries s (formals_of b.params), d)
+    root_length = search (rules, length-append, bound_formals, self_entries, frame_entries)
 
     pub body_entries_weigh : weight s count_entries (body_begins b) ≡ body_entry_count s b.self_param (body_nodes b)
     body_entries_weigh =
-        omega (
+        grind (
           arith,
+          common_steps,
           entries_weigh (body_root b ∷ []),
           body_left count_entries,
-          entries_under s sound.nodes
-              (body.entry_nodes b) entry_nodes_in_range,
+          entries_under s sound.nodes (body.entry_nodes b) entry_nodes_in_range,
+          entry_nodes_in_range,
           root_length,
         )
 
     -- what it may fail by
     pub body_exceeds : Exceeds s (body_begins b) → BodyIsTooLarge b
-    body_exceeds h =
-        let a = body_scopes_weigh in
-        let d = body_entries_weigh in
-        ⊎_elim (λ l. inl (omega (arith, a, l))) (λ l. inr (omega (arith, d, l))) h
+    body_exceeds h = search (rules, body_scopes_weigh, body_entries_weigh)
 
     pub root_exceeds : limit < length (root_entries b) → BodyIsTooLarge b
     root_exceeds h =
-        let r = root_length in
-        let t = entries_under s sound.nodes (body.entry_nodes b) entry_nodes_in_range in
-        inr (omega (arith, r, t, h))
+        grind (
+          arith,
+          common_steps,
+          root_length,
+          entries_under s sound.nodes (body.entry_nodes b) entry_nodes_in_range,
+          entry_nodes_in_range,
+        )
 
 -- 3. Signatures
 
@@ -210,13 +178,7 @@ bound_roots s roots = sum_mapped (bound_by s) NodeId.Expr roots ∙ sum_none (λ
 -- an empty frame for each root
 repeated : (w : Frame → ℕ) (roots : List ℕ) → sum_by w (replicate (length roots) empty) ≡ sum_by (λ (root : ℕ). sum_by w (empty ∷ [])) roots
 repeated w [] = refl
-repeated w (root ∷ roots) =
-    omega (
-      arith,
-      repeated w roots,
-      sum_by-cons w empty (replicate (length roots) empty),
-      sum_by-cons (λ (r : ℕ). sum_by w (empty ∷ [])) root roots,
-    )
+repeated w (root ∷ roots) = search (rules, sum_by-cons, repeated w roots)
 
 module _ (c : Contents) where
   abbrev t : Nodes
@@ -229,60 +191,59 @@ module _ (c : Contents) where
   signature_same = signature_top_nodes roots
 
   pub signature_whole : future_of t (signature_begins c) ≡ exprs_under t (entry_nodes_of_signature c)
-  signature_whole =
-      let chain = chain_of (signature_root ∷ []) in
-      signature_future t chain (chain 0) (chain 0) roots first_root_chain
+  signature_whole = search (rules, signature_future, first_root_chain)
 
   module _ (sound : IsSoundStore c) where
     pub roots_in : (n : NodeId) → In n (root_entry_nodes c) → Has t n
     roots_in n i = sound.in_range n (contains_in (root_entry_nodes c) n i)
 
     pub signature_ready : IsReady t (signature_begins c)
-    signature_ready = record {
-      scope = omega arith;
-      const_scope = omega arith;
-      leaves = roots_leave roots;
-      known = subst (AreInRange t) (sym (about_roots roots)) (in_range_all t (root_entry_nodes c) sound.in_range);
-    }
+    signature_ready = search (rules, roots_leave, about_roots, in_range_all)
 
     -- a root opens one frame, without entries
     roots_left : (w : Frame → ℕ) → weight_left t w (map Task.Root roots)
         ≡ sum_by (λ (root : ℕ). sum_by w (empty ∷ [])) roots + sum_by (total t (λ n. sum_by w (node_frames t n))) (root_entry_nodes c)
-    roots_left w =
-        let a : sum_by (λ (x : Task). sum_by w (task_frames t x)) (map Task.Root roots)
-        ≡ sum_by (λ (root : ℕ). sum_by w (empty ∷ [])) roots =
-        sum_mapped (λ (x : Task). sum_by w (task_frames t x)) Task.Root roots in
-        omega (arith, a, ap (λ (ns : List NodeId). sum_by (total t (λ n. sum_by w (node_frames t n))) ns) (about_roots roots))
+    roots_left w = search (rules, sum_mapped, about_roots)
 
     pub signature_frames_weigh : (w : Frame → ℕ) → weight t w (signature_begins c) ≡ sum_by w (signature_frames c)
     signature_frames_weigh w =
-        let own = replicate (length c.roots) empty in
-        let under = frames_of_nodes t (signature_nodes c) in
-        let a : sum_by w own ≡ sum_by (λ (root : ℕ). sum_by w (empty ∷ [])) roots =
-        ap (λ (n : ℕ). sum_by w (replicate n empty)) (sym (length-map c.roots (λ r. r.node))) ∙ repeated w roots in
-        omega (
+        grind (
           arith,
+          common_steps,
+          length-map,
+          repeated w roots,
           roots_left w,
           frames_total t sound.nodes w (root_entry_nodes c) roots_in,
-          a,
-          sum_by-cons w empty (own ++ under),
-          sum_by-append w own under,
+          roots_in,
+          sum_by-cons,
+          sum_by-append,
         )
 
     pub signature_scopes_weigh : weight t one (signature_begins c) ≡ signature_scope_count t (length c.roots) (signature_nodes c)
     signature_scopes_weigh =
-        let a = scopes_total t sound.nodes (root_entry_nodes c) roots_in in
-        let b = sum_ones (λ (root : ℕ). sum_by one (empty ∷ [])) roots (λ root i. refl) in
-        omega (arith, scopes_weigh (signature_root ∷ []), a, b, length-map c.roots (λ r. r.node), roots_left one)
+        grind (
+          arith,
+          common_steps,
+          scopes_total t sound.nodes (root_entry_nodes c) roots_in,
+          roots_in,
+          sum_ones,
+          scopes_weigh (signature_root ∷ []),
+          length-map,
+          roots_left one,
+        )
 
     pub signature_entries_weigh : weight t count_entries (signature_begins c) ≡ signature_entry_count t (signature_nodes c)
     signature_entries_weigh =
-        let a = entries_under t sound.nodes (root_entry_nodes c) roots_in in
-        let b = sum_none (λ (root : ℕ). sum_by count_entries (empty ∷ [])) roots (λ root. refl) in
-        omega (arith, entries_weigh (signature_root ∷ []), a, b, roots_left count_entries, bound_roots t roots)
+        grind (
+          arith,
+          common_steps,
+          entries_under t sound.nodes (root_entry_nodes c) roots_in,
+          roots_in,
+          sum_none,
+          entries_weigh (signature_root ∷ []),
+          roots_left count_entries,
+          bound_roots t roots,
+        )
 
     pub signature_exceeds : Exceeds t (signature_begins c) → SignatureIsTooLarge c
-    signature_exceeds h =
-        let a = signature_scopes_weigh in
-        let d = signature_entries_weigh in
-        ⊎_elim (λ l. inl (omega (arith, a, l))) (λ l. inr (omega (arith, d, l))) h
+    signature_exceeds h = search (rules, signature_scopes_weigh, signature_entries_weigh)

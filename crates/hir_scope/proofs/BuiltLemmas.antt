@@ -1,13 +1,13 @@
 -- What a whole walk made.
-use Rattle.std.proofs.Common.{◌≡◌, ℕ, List, [], ◌∷◌, refl, sym, ap, ◌∙◌, subst, Option, Some, None, inl, inr, ◌⊎◌, ⊎_elim, Bool, true}
-use Rattle.std.proofs.Common.{false, cond, ◌↔◌, ◌+◌, ◌++◌, map, length, arith, append-nil, ◌<◌}
+use Rattle.std.proofs.Common.{◌≡◌, ℕ, List, [], ◌∷◌, refl, sym, ap, ◌∙◌, subst, Option, Some, None, inl, inr, ◌⊎◌, ⊎_elim, Bool, true, rules}
+use Rattle.std.proofs.Common.{false, cond, ◌↔◌, ◌+◌, map, length, arith, append-nil, ◌<◌}
 use Rattle.std.proofs.lemmas.{List.length-map, List.Elements.All-contains}
 use Rattle.std.specs.Cmp.{nat_cmp_total, tied_itself}
-use Rattle.std.specs.FinMap.{get-insert, get-empty, nat_cmp-IsAntisymmetric}
+use Rattle.std.specs.FinMap.{get-insert, get-empty}
 use Rattle.std.specs.FinMap as finmap
 use Rattle.std.specs.List.{sum_by, Sorted.IsPermutation}
 use Rattle.std.specs.Ordering.{nat_cmp, is_eq, eq_by_cmp}
-use Rattle.std.specs.{Prelude.IsSome, declared.cmp.Ordering.Ordering}
+use Rattle.std.specs.{Prelude.IsSome}
 use Rattle.hir_node.specs.declared.node_id.NodeId.{NodeId}
 use Rattle.hir_validate.specs.Nodes.{Has}
 use Rattle.hir_validate.specs.declared.node_arenas.Nodes.{Nodes}
@@ -17,10 +17,10 @@ use Rattle.hir_signature.specs.{Signatures.root_entry_nodes}
 use Rattle.hir_scope.specs.BodyScopes.{ChainsAreFrames, expr_count, entry_nodes_of_body, entry_nodes_of_signature, AreBodyScopes}
 use Rattle.hir_scope.specs.BodyScopes.{AreSignatureScopes, body_frames, signature_frames, BodyIsTooLarge, SignatureIsTooLarge, limit}
 use Rattle.hir_scope.specs.{Counts.frames_of_scopes, Frames.Frame}
-use Rattle.hir_scope.specs.{Chains.InContext, Chains.Occurs, Chains.within_own, ScopingForms.form_of, Scopes.entry_count}
+use Rattle.hir_scope.specs.{Chains.InContext, Chains.Occurs, Scopes.entry_count}
 use Rattle.hir_scope.specs.internal.Begins.{IsSound, IsSoundBody, IsSoundStore, root_entries, body_begins, signature_begins}
-use Rattle.hir_scope.specs.internal.WalkState.{ScopeAssigned, write_all, WalkState, WalkSteps, IsRight, context_assigned, future_of}
-use Rattle.hir_scope.specs.internal.WalkState.{chain_of, IsReady, Exceeds, one, count_entries, weight, weight_left}
+use Rattle.hir_scope.specs.internal.WalkState.{ScopeAssigned, write_all, WalkState, WalkSteps, context_assigned, future_of}
+use Rattle.hir_scope.specs.internal.WalkState.{IsReady, Exceeds, one, count_entries, weight}
 use Rattle.hir_scope.specs.internal.Pending.{future}
 use Rattle.hir_scope.specs.internal.ContextsUnder.{exprs_under}
 use Rattle.hir_scope.proofs.BeginLemmas.{body_ready, body_exceeds, root_exceeds, signature_ready, signature_exceeds, body_same}
@@ -38,11 +38,7 @@ abbrev ScopesById : Type 0
 ScopesById = finmap.FinMap nat_cmp ℕ
 
 tied_same : (q k : ℕ) → eq_by_cmp nat_cmp q k ≡ true → q ≡ k
-tied_same q k e = nat_cmp-IsAntisymmetric q k (is_equal (nat_cmp q k) e) where
-  is_equal : (r : Ordering) → is_eq r ≡ true → r ≡ Ordering.Equal
-  is_equal Ordering.Less e = absurd cc
-  is_equal Ordering.Equal e = refl
-  is_equal Ordering.Greater e = absurd cc
+tied_same q k e = search rules
 
 -- a value that exists was there before, or was written
 pub written_or : (m : ScopesById) (gs : List ScopeAssigned) (expr scope : ℕ) → finmap.get (write_all m gs) expr
@@ -113,34 +109,20 @@ module _ (s : Nodes) (sound : IsSound s) (entry_nodes : List InContext) (nodes :
       ≡ exprs_under s entry_nodes) (none : old.scopes.scope_by_expr ≡ finmap.empty) (done : new.tasks ≡ []) where
     contexts : map context_assigned gone.given ≡ exprs_under s entry_nodes
     unfolding future
-    contexts =
-        let scopes = new.scopes.scopes in
-        let last : future_of s new ≡ [] =
-        ap (λ ts. future s (chain_of scopes) (chain_of scopes new.current.scope)
-        (chain_of scopes new.current.const_scope) ts) done in
-        sym (append-nil (map context_assigned gone.given))
-        ∙ (ap (λ (ps : List InContext). map context_assigned gone.given ++ ps) (sym last)
-        ∙ (sym gone.in_order ∙ whole))
+    contexts = search (rules, append-nil, gone, whole)
 
     written : new.scopes.scope_by_expr ≡ write_all finmap.empty gone.given
     written = gone.written ∙ ap (λ m. write_all m gone.given) none
 
     given_occurs : (g : ScopeAssigned) → In g gone.given → Occurs s entry_nodes (context_assigned g)
-    given_occurs g i =
-        exprs_stand s sound.fall entry_nodes contexts_in_range (context_assigned g)
-        (subst (In (context_assigned g)) contexts (map_in context_assigned g gone.given i))
+    given_occurs g i = search (rules, exprs_stand, contexts_in_range, In, contexts, map_in, gone)
 
     was_given : (expr scope : ℕ) → finmap.get new.scopes.scope_by_expr expr ≡ Some scope →
         (g : ScopeAssigned) × In g gone.given × (g.expr ≡ expr) × (g.assigned ≡ scope)
     was_given expr scope e = written_once gone.given expr scope (sym (ap (λ m. finmap.get m expr) written) ∙ e)
 
     to_reached : (expr : ℕ) → IsSome (finmap.get new.scopes.scope_by_expr expr) → IsReached s nodes (NodeId.Expr expr)
-    to_reached expr h =
-        let v = some_is (finmap.get new.scopes.scope_by_expr expr) h in
-        let g = was_given expr v.0 v.1 in
-        subst (λ (x : ℕ). IsReached s nodes (NodeId.Expr x)) g.2
-        (subst (λ ns. IsReached s ns (NodeId.Expr g.0.expr)) same
-        (occurs_reached s entry_nodes (context_assigned g.0) (given_occurs g.0 g.1)))
+    to_reached expr h = search (rules, some_is, was_given, occurs_reached, given_occurs)
 
     from_reached : (expr : ℕ) → IsReached s nodes (NodeId.Expr expr) → IsSome (finmap.get new.scopes.scope_by_expr expr)
     from_reached expr h =
@@ -156,16 +138,7 @@ module _ (s : Nodes) (sound : IsSound s) (entry_nodes : List InContext) (nodes :
     reached expr = (to_reached expr, from_reached expr)
 
     pub chains : ChainsAreFrames s entry_nodes new.scopes
-    chains expr scope e =
-        let g = was_given expr scope e in
-        let right = All-contains (IsRight s new.scopes.scopes) gone.given g.0 gone.right (contains_in gone.given g.0 g.1) in
-        record {
-          at = context_assigned g.0;
-          occurs = given_occurs g.0 g.1;
-          is_node = ap NodeId.Expr g.2;
-          is_chain = ap (chain_of new.scopes.scopes) (sym g.3)
-              ∙ (right.is ∙ ap (λ (x : ℕ). within_own (form_of s (NodeId.Expr x)) g.0.scope) g.2);
-        }
+    chains expr scope e = search (rules, was_given, All-contains, gone, contains_in, given_occurs)
 
     pub ticked : after ≡ before + expr_count (reached_nodes s nodes)
     ticked = omega (arith, length-map gone.given context_assigned, ap (λ (ps : List InContext). length ps) contexts, counted, gone.ticks)
@@ -177,20 +150,13 @@ module _ (s : Nodes) (sound : IsSound s) (entry_nodes : List InContext) (nodes :
 module _ (s : Nodes) (old new : WalkState) (done : new.tasks ≡ []) where
   all_frames : (frames : List Frame) → ((w : Frame → ℕ) → weight s w old ≡ weight s w new) →
       ((w : Frame → ℕ) → weight s w old ≡ sum_by w frames) → IsPermutation frames (frames_of_scopes new.scopes.scopes)
-  all_frames frames e is =
-      same_frames frames (frames_of_scopes new.scopes.scopes) (λ w.
-      let l : weight_left s w new.tasks ≡ 0 = ap (weight_left s w) done in
-      let a = e w in let b = is w in omega (arith, a, b, l))
+  all_frames frames e is = search (rules, same_frames)
 
   all_scopes : weight s one old ≡ weight s one new → length new.scopes.scopes ≡ weight s one old
-  all_scopes e =
-      let l : weight_left s one new.tasks ≡ 0 = ap (weight_left s one) done in
-      omega (arith, e, l, scopes_weigh new.scopes.scopes)
+  all_scopes e = search (rules, scopes_weigh)
 
   all_entries : weight s count_entries old ≡ weight s count_entries new → entry_count new.scopes.scopes ≡ weight s count_entries old
-  all_entries e =
-      let l : weight_left s count_entries new.tasks ≡ 0 = ap (weight_left s count_entries) done in
-      omega (arith, e, l, entries_weigh new.scopes.scopes)
+  all_entries e = search (rules, entries_weigh)
 
 module _ (b : BodyContents) (sound : IsSoundBody b) where
   abbrev nodes : Nodes
@@ -208,10 +174,7 @@ module _ (b : BodyContents) (sound : IsSoundBody b) where
     body_starts = subst (λ (x : Contents). IsReady x.nodes start) (sym same) (subst (IsReady nodes) (sym is) (body_ready b sound))
 
     pub body_at_most : length (future_of c.nodes start) ≡ expr_count (body_nodes b)
-    body_at_most =
-        ap (λ (x : Contents). length (future_of x.nodes start)) same
-        ∙ (ap (λ ps. length ps) whole ∙ counted nodes sound.nodes (entry_nodes_of_body b) (entry_nodes b)
-        (body_same b) (entry_nodes_in_range b sound))
+    body_at_most = search (rules, whole, counted, body_same, entry_nodes_in_range)
 
     pub body_fails : Exceeds c.nodes start → BodyIsTooLarge b
     body_fails h = body_exceeds b sound (subst (Exceeds nodes) is (subst (λ (x : Contents). Exceeds x.nodes start) same h))
@@ -224,9 +187,7 @@ module _ (b : BodyContents) (sound : IsSoundBody b) where
       none = ap (λ m. m.scopes.scope_by_expr) is
 
       pub body_ticks : after ≡ before + expr_count (body_nodes b)
-      body_ticks =
-          ticked nodes sound.nodes (entry_nodes_of_body b) (entry_nodes b) (body_same b)
-          (entry_nodes_in_range b sound) start new before after gone whole none done
+      body_ticks = search (rules, ticked, body_same, entry_nodes_in_range, gone, whole, none)
 
       pub body_made : AreBodyScopes b new.scopes
       body_made = record {

@@ -1,6 +1,6 @@
 -- The child contexts of a node follow the order in which scopes are made; its calls in that order, and its tasks, are
 -- about its children, each once.
-use Rattle.std.proofs.Common.{◌≡◌, ℕ, List, [], ◌∷◌, ◌++◌, map, refl, sym, ap, ◌∙◌, append_assoc, Option, Some, None, subst}
+use Rattle.std.proofs.Common.{◌≡◌, ℕ, List, [], ◌∷◌, ◌++◌, map, refl, sym, ap, ◌∙◌, append_assoc, Option, Some, None, subst, rules}
 use Rattle.std.proofs.lemmas.{List.map-append, List.append-nil, List.Concat.flat_map-append}
 use Rattle.std.proofs.lemmas.List.Sorted.{IsPermutation-refl, IsPermutation-trans, IsPermutation-append_comm, IsPermutation-append_left}
 use Rattle.std.proofs.lemmas.List.Sorted.{IsPermutation-append_right}
@@ -15,7 +15,7 @@ use Rattle.hir_validate.specs.declared.node_arenas.Nodes.{Nodes}
 use Rattle.hir_scope.specs.ScopingForms.{ScopingForm, form_at, form_of, expr_form, pat_form, type_form}
 use Rattle.hir_scope.specs.ScopingForms as form
 use Rattle.hir_scope.specs.Frames.{Chain, frame, empty, of_kind}
-use Rattle.hir_scope.specs.OpenFrames.{open_frames, open_frames_of_calls, open_frames_of_call}
+use Rattle.hir_scope.specs.OpenFrames.{open_frames, open_frames_of_call}
 use Rattle.hir_scope.specs.Order.{met_in_statement, met_in_arm, met_in_form, met_in_closure}
 use Rattle.hir_scope.specs.ChildContexts.{Base, ChildContext, child_with_base, children_with_base, call_child_context, in_turn, own_frame}
 use Rattle.hir_scope.specs.ChildContexts.{block_const_frames, frames_after, const_frames_after, statement_child_contexts}
@@ -65,8 +65,7 @@ expr_shuffled (Expr.If c y (Some f)) = same
 expr_shuffled (Expr.Let pat x) = swapped (p pat) (e x)
 expr_shuffled (Expr.Block id xs tail label unsafe_) =
     both (all_shuffled statement_calls met_in_statement statement_shuffled xs) (same {xs = opt e tail})
-expr_shuffled (Expr.Closure args arg_types ret_type body kind by) =
-    closure_shuffled (e body) (flat_map p args) (flat_map (opt t) arg_types) (opt t ret_type)
+expr_shuffled (Expr.Closure args arg_types ret_type body kind by) = search (rules, closure_shuffled)
 expr_shuffled (Expr.Match x arms) =
     both (same {xs = e x}) (all_shuffled arm_calls met_in_arm (λ arm. arm_shuffled arm.pat arm.guard arm.expr) arms)
 expr_shuffled _ = same
@@ -92,16 +91,13 @@ in_parts {ys = ys} {us = us} a b h = subst (λ ns. IsPermutation ns ys) (sym a) 
 
 children_shuffled : {xs ys : List Call} → IsShuffle xs ys → IsPermutation (children xs) (children ys)
 children_shuffled (same {xs}) = IsPermutation-refl (children xs)
-children_shuffled (swapped xs ys) =
-    in_parts (flat_map-append child xs ys) (flat_map-append child ys xs)
-    (IsPermutation-append_comm (children xs) (children ys))
+children_shuffled (swapped xs ys) = search (rules, in_parts, flat_map-append, IsPermutation-append_comm)
 children_shuffled (both {xs} {us} {ys} {vs} f g) =
     in_parts (flat_map-append child xs ys) (flat_map-append child us vs)
     (IsPermutation-trans (children xs ++ children ys) (children us ++ children ys) (children us ++ children vs)
     (IsPermutation-append_left (children ys) (children xs) (children us) (children_shuffled f))
     (IsPermutation-append_right (children us) (children ys) (children vs) (children_shuffled g)))
-children_shuffled (again {xs} {ys} {zs} f g) =
-    IsPermutation-trans (children xs) (children ys) (children zs) (children_shuffled f) (children_shuffled g)
+children_shuffled (again {xs} {ys} {zs} f g) = search (rules, IsPermutation-trans, children_shuffled f, children_shuffled g)
 
 -- the children in the order in which scopes are made
 pub met_children : (s : Nodes) (n : NodeId) → IsPermutation (children_of s n) (children (met_in_form (form_of s n)))
@@ -127,29 +123,20 @@ module _ (s : Nodes) where
   of_turn : (const_frames frames : Chain) (cs : List Call) → contexts (in_turn s const_frames frames cs) ≡ of_calls cs
   of_turn const_frames frames [] = refl
   of_turn const_frames frames (c ∷ cs) =
-      map-append child_with_base (call_child_context const_frames frames c)
-      (in_turn s const_frames (open_frames_of_call (open_frames s) c ++ frames) cs)
-      ∙ (λ i. of_call const_frames frames c i ++ of_turn const_frames (open_frames_of_call (open_frames s) c ++ frames) cs i)
+      search (rules, map-append, of_call, of_turn const_frames (open_frames_of_call (open_frames s) c ++ frames) cs)
 
   two_turns : (const_frames k frames more : Chain) (cs ds : List Call) →
       contexts (in_turn s const_frames frames cs ++ in_turn s k more ds) ≡ of_calls (cs ++ ds)
-  two_turns const_frames k frames more cs ds =
-      two (in_turn s const_frames frames cs) (in_turn s k more ds) cs ds (of_turn const_frames frames cs)
-      (of_turn k more ds)
+  two_turns const_frames k frames more cs ds = search (rules, two, of_turn)
 
   of_arms : (frames : Chain) (arms : List MatchArm) → contexts (flat_map (arm_child_contexts s frames) arms)
       ≡ of_calls (flat_map met_in_arm arms)
   of_arms frames [] = refl
-  of_arms frames (arm ∷ arms) =
-      two (arm_child_contexts s frames arm) (flat_map (arm_child_contexts s frames) arms) (met_in_arm arm)
-      (flat_map met_in_arm arms) (of_turn [] (frame s (arm.pat ∷ []) ∷ frames) (met_in_arm arm)) (of_arms frames arms)
+  of_arms frames (arm ∷ arms) = search (rules, two, of_turn, of_arms frames arms)
 
   of_statement : (const_frames frames : Chain) (x : Statement) →
       contexts (statement_child_contexts s const_frames frames x) ≡ of_calls (met_in_statement x)
-  of_statement const_frames frames (Statement.Let pat ty x y) =
-      two_turns const_frames const_frames frames
-      (frame s (pat ∷ []) ∷ (open_frames_of_calls (open_frames s) (opt e x ++ opt e y) ++ frames))
-      (opt t ty ++ opt e x ++ opt e y) (p pat)
+  of_statement const_frames frames (Statement.Let pat ty x y) = search (rules, two_turns)
   of_statement const_frames frames (Statement.Expr x semi) = of_turn const_frames frames (e x)
   of_statement const_frames frames (Statement.Item x) = refl
 
@@ -158,22 +145,15 @@ module _ (s : Nodes) where
       ≡ of_calls (flat_map met_in_statement xs ++ opt e tail)
   of_block const_frames frames [] tail = of_turn const_frames frames (opt e tail)
   of_block const_frames frames (x ∷ xs) tail =
-      two (statement_child_contexts s const_frames frames x)
-      (block_child_contexts s (const_frames_after x ++ const_frames) (frames_after s x ++ frames) xs tail)
-      (met_in_statement x) (flat_map met_in_statement xs ++ opt e tail)
-      (of_statement const_frames frames x) (of_block (const_frames_after x ++ const_frames) (frames_after s x ++ frames) xs tail)
-      ∙ ap of_calls (sym (append_assoc (met_in_statement x) (flat_map met_in_statement xs) (opt e tail)))
+      search (rules, two, of_statement, append_assoc, of_block (const_frames_after x ++ const_frames) (frames_after s x ++ frames) xs tail)
 
   contexts_of_form : (x : ScopingForm) → contexts (child_contexts_of_form s x) ≡ of_calls (met_in_form x)
   contexts_of_form (form.If c y o) = two_turns [] [] (empty ∷ []) [] (e c ++ e y) (opt e o)
   contexts_of_form (form.Let pat x) = two_turns [] [] [] (frame s (pat ∷ []) ∷ open_frames s (NodeId.Expr x)) (e x) (p pat)
   contexts_of_form (form.Block id label xs tail) = of_block (block_const_frames id) (own_frame id label ∷ []) xs tail
   contexts_of_form (form.Loop label body) = of_turn [] (of_kind (loop_kind label) ∷ []) (e body)
-  contexts_of_form (form.Closure types ret args body) =
-      two_turns [] [] [] (frame s args ∷ []) (flat_map (opt t) types ++ opt t ret) (flat_map p args ++ e body)
-  contexts_of_form (form.Match x arms) =
-      two (in_turn s [] [] (e x)) (flat_map (arm_child_contexts s (open_frames s (NodeId.Expr x))) arms) (e x)
-      (flat_map met_in_arm arms) (of_turn [] [] (e x)) (of_arms (open_frames s (NodeId.Expr x)) arms)
+  contexts_of_form (form.Closure types ret args body) = search (rules, two_turns)
+  contexts_of_form (form.Match x arms) = search (rules, two, of_turn, of_arms)
   contexts_of_form (form.Assignment target value) = two_turns [] [] (frame s (target ∷ []) ∷ []) [] (p target) (e value)
   contexts_of_form (form.PatternType ty pat) = two_turns [] [] [] (frame s (pat ∷ []) ∷ []) (t ty) (p pat)
   contexts_of_form (form.InTurn cs) = of_turn [] [] cs
@@ -228,18 +208,14 @@ left_after : (cs : List Call) (a : CurrentScopes) → about (tasks_of cs ++ leav
 left_after cs a = flat_map-append task_children (tasks_of cs) (leave a ∷ []) ∙ (append-nil (about (tasks_of cs)) ∙ about_calls cs)
 
 about_statement : (x : Statement) → about (statement_tasks x) ≡ children (met_in_statement x)
-about_statement (Statement.Let pat ty x y) =
-    two_about (tasks_of (opt t ty ++ opt e x ++ opt e y)) (Task.Bound pat ∷ []) (opt t ty ++ opt e x ++ opt e y)
-    (p pat) (about_calls (opt t ty ++ opt e x ++ opt e y)) refl
+about_statement (Statement.Let pat ty x y) = search (rules, two_about, about_calls)
 about_statement (Statement.Expr x semi) = refl
 about_statement (Statement.Item (Item.MacroDef id)) = refl
 about_statement (Statement.Item Item.Other) = refl
 
 about_statements : (xs : List Statement) → about (flat_map statement_tasks xs) ≡ children (flat_map met_in_statement xs)
 about_statements [] = refl
-about_statements (x ∷ xs) =
-    two_about (statement_tasks x) (flat_map statement_tasks xs) (met_in_statement x) (flat_map met_in_statement xs)
-    (about_statement x) (about_statements xs)
+about_statements (x ∷ xs) = search (rules, two_about, about_statement, about_statements xs)
 
 about_guarded : (pat expr : ℕ) (guard : Option ℕ) → task_children (guarded_task pat expr guard) ≡ children (p pat ++ opt e guard ++ e expr)
 about_guarded pat expr None = refl
@@ -247,22 +223,12 @@ about_guarded pat expr (Some guard) = refl
 
 about_arms : (arms : List MatchArm) → about (flat_map one_arm arms) ≡ children (flat_map met_in_arm arms)
 about_arms [] = refl
-about_arms (arm ∷ arms) =
-    cc (
-      about_guarded arm.pat arm.expr arm.guard,
-      about_arms arms,
-      flat_map-append child (met_in_arm arm)
-          (flat_map met_in_arm arms),
-    )
+about_arms (arm ∷ arms) = search (rules, about_guarded, flat_map-append, about_arms arms)
 
 -- the tasks of what is inside a node are about its children, in the order of its child contexts
 pub about_form : (a : CurrentScopes) (x : ScopingForm) → about (form_tasks a x) ≡ children (met_in_form x)
-about_form a (form.If c y f) =
-    two_about (tasks_of (e c ++ e y)) (leave a ∷ tasks_of (opt e f)) (e c ++ e y) (opt e f) refl
-    (about_calls (opt e f))
-about_form a (form.Block id label xs tail) =
-    two_about (flat_map statement_tasks xs) (tasks_of (opt e tail) ++ leave a ∷ []) (flat_map met_in_statement xs)
-    (opt e tail) (about_statements xs) (left_after (opt e tail) a)
+about_form a (form.If c y f) = search (rules, two_about, about_calls)
+about_form a (form.Block id label xs tail) = search (rules, two_about, about_statements, left_after)
 about_form a (form.Closure types ret args body) = left_after (met_in_closure types ret args body) a
 about_form a (form.Match x arms) = ap (λ (ns : List NodeId). NodeId.Expr x ∷ ns) (about_arms arms)
 about_form a (form.InTurn cs) = about_calls cs

@@ -1,5 +1,5 @@
 -- Sums: over tasks and all nodes under those that they are about, over what is reached, and over frames, as scopes and as entries.
-use Rattle.std.proofs.Common.{◌≡◌, ℕ, zero, suc, ◌+◌, ◌<◌, List, [], ◌∷◌, map, length, refl, sym, ap, ◌∙◌, arith, Bool, cond, ◌++◌}
+use Rattle.std.proofs.Common.{◌≡◌, ℕ, zero, suc, ◌+◌, ◌<◌, List, [], ◌∷◌, map, length, refl, sym, ap, ◌∙◌, arith, Bool, cond, ◌++◌, rules}
 use Rattle.std.proofs.Common.{append-nil, Option, Some, None}
 use Rattle.std.proofs.lemmas.List.Concat.{flat_map-append, length-flat_map}
 use Rattle.std.proofs.lemmas.List.Sorted.{sum_by-IsPermutation}
@@ -8,7 +8,7 @@ use Rattle.std.specs.List.{flat_map, sum_by}
 use Rattle.hir_base.specs.declared.mod_path.PathKind.TheVariants.{Plain}
 use Rattle.hir_path.specs.declared.bound.{TypeBound.TypeBound, UseArgRef.UseArgRef}
 use Rattle.hir_path.specs.declared.path.{GenericArgs.GenericArgs, Path.Path}
-use Rattle.hir_node.specs.ChildCalls.{Call, OnLifetime, e, p, t, l, opt, pat_of_call, use_calls, bound_calls, args_calls, path_calls}
+use Rattle.hir_node.specs.ChildCalls.{Call, OnLifetime, e, p, t, l, opt, pat_of_call, use_calls, bound_calls, args_calls}
 use Rattle.hir_node.specs.ChildCalls.{spread_calls, array_calls, children}
 use Rattle.hir_node.specs.declared.expr.Expr.{Expr}
 use Rattle.hir_node.specs.declared.expr_types.{Array.Array, Item.Item, MatchArm.MatchArm}
@@ -26,24 +26,22 @@ use Rattle.hir_scope.specs.ScopingForms as form
 use Rattle.hir_scope.specs.{Frames.Frame, Frames.binds, Frames.frame, Order.met_in_closure, Order.met_in_form}
 use Rattle.hir_scope.specs.ChildContexts.{ChildContext, child_contexts, own_frame, block_const_frames}
 use Rattle.hir_scope.specs.declared.tasks.{CurrentScopes.CurrentScopes, Task.Task}
-use Rattle.hir_scope.specs.internal.WalkState.{total, about, one, count_entries, total_step, tasks_weight, node_tasks, node_frames}
-use Rattle.hir_scope.specs.internal.WalkState.{weight_left, task_turns, node_turns, turns_left}
+use Rattle.hir_scope.specs.internal.WalkState.{total, about, one, count_entries, tasks_weight, node_tasks, node_frames}
+use Rattle.hir_scope.specs.internal.WalkState.{weight_left, node_turns, turns_left}
 use Rattle.hir_scope.specs.internal.Pending.{task_of, tasks_of, one_arm, guarded_task, leave, statement_tasks, form_tasks, opened_frames}
 use Rattle.hir_scope.specs.internal.Pending.{opened_const_frames, task_children, task_frames}
 use Rattle.hir_scope.specs.internal.ContextsUnder.{contexts_under, exprs_under}
 use Rattle.hir_scope.proofs.ChildLemmas.{children_in, child_contexts_children, children_of_form, about_form}
 use Rattle.hir_scope.proofs.MemberLemmas.{In, contains_in, sum_flat, sum_same, sum_mapped, sum_plus, sum_none, sum_ones, agree_in}
 use Rattle.hir_scope.proofs.UnderLemmas.{under_at, child_in_range, child_lower}
+use Rattle.std.proofs.lemmas.Grind.{common_steps}
 
 -- 1. Sums over tasks and all nodes under those that they are about: what a node weighs is what it weighs itself, and what its tasks weigh.
 
 module _ (s : Nodes) (fall : RankDecreases s) (u : NodeId → ℕ) where
   pub total_at : (n : NodeId) → Has s n → total s u n ≡ u n + sum_by (total s u) (children_of s n)
   unfolding total
-  total_at n h =
-      fold_down_at s fall (total_step s u) 0
-      (λ f g m agree. ap (λ (x : ℕ). u m + x) (sum_same f g (children_of s m) (agree_in f g (children_of s m) agree)))
-      n
+  total_at n h = search (rules, fold_down_at, sum_same, agree_in)
 
   met_total : (n : NodeId) → sum_by (total s u) (children (met_in_form (form_of s n))) ≡ sum_by (total s u) (children_of s n)
   unfolding child_contexts
@@ -55,20 +53,7 @@ module _ (s : Nodes) (fall : RankDecreases s) (u : NodeId → ℕ) where
   pub left_met : (v : Task → ℕ) (a : CurrentScopes) (n : NodeId) (ts : List Task) → Has s n →
       let inside = form_tasks a (form_of s n) in (total s u n + tasks_weight s u v ts) + sum_by v inside
       ≡ u n + tasks_weight s u v (inside ++ ts)
-  left_met v a n ts h =
-      let inside = form_tasks a (form_of s n) in
-      let b =
-      ap (λ (ns : List NodeId). sum_by (total s u) ns) (flat_map-append task_children inside ts)
-      ∙ sum_by-append (total s u) (about inside) (about ts) in
-      omega (
-        arith,
-        total_at n h,
-        met_total n,
-        ap (λ (ns : List NodeId). sum_by (total s u) ns)
-            (about_form a (form_of s n)),
-        sum_by-append v inside ts,
-        b,
-      )
+  left_met v a n ts h = search (rules, flat_map-append, sum_by-append, total_at, met_total, about_form)
 
 -- 2. What is still to come, as sums: a node that is met leaves what its tasks weigh, less what it opens itself.
 
@@ -85,22 +70,9 @@ module _ (v : Task → ℕ) (a b : CurrentScopes) (same : v (leave a) ≡ v (lea
   around_last us = let x = sum_by-append v us (leave a ∷ []) in let y = sum_by-append v us (leave b ∷ []) in omega (arith, x, y, same)
 
   around_same : (x : ScopingForm) → sum_by v (form_tasks a x) ≡ sum_by v (form_tasks b x)
-  around_same (form.If c y f) =
-      let us = tasks_of (e c ++ e y) in
-      let ts = tasks_of (opt e f) in
-      omega (
-        arith,
-        sum_by-append v us (leave a ∷ ts),
-        sum_by-append v us (leave b ∷ ts),
-        sum_by-cons v (leave a) ts,
-        sum_by-cons v (leave b) ts,
-        same,
-      )
+  around_same (form.If c y f) = search (rules, sum_by-append, sum_by-cons)
   around_same (form.Let pat x) = refl
-  around_same (form.Block id label xs tail) =
-      let us = flat_map statement_tasks xs in
-      let ts = tasks_of (opt e tail) in
-      omega (arith, sum_by-append v us (ts ++ leave a ∷ []), sum_by-append v us (ts ++ leave b ∷ []), around_last ts)
+  around_same (form.Block id label xs tail) = search (rules, sum_by-append, around_last)
   around_same (form.Loop label body) = around_last (Task.Expr body ∷ [])
   around_same (form.Closure types ret args body) = around_last (tasks_of (met_in_closure types ret args body))
   around_same (form.Match x arms) = refl
@@ -115,22 +87,11 @@ module _ (s : Nodes) (fall : RankDecreases s) where
   pub weight_met : (w : Frame → ℕ) (a : CurrentScopes) (n : NodeId) (ts : List Task) → Has s n → let x = form_of s n in
       total s (λ (m : NodeId). sum_by w (node_frames s m)) n + weight_left s w ts
       ≡ sum_by w (opened_frames s x ++ opened_const_frames x) + weight_left s w (form_tasks a x ++ ts)
-  weight_met w a n ts h =
-      let x = form_of s n in
-      let v : Task → ℕ = λ t. sum_by w (task_frames s t) in
-      let d = left_met s fall (λ (m : NodeId). sum_by w (node_frames s m)) v a n ts h in
-      let b = sum_by-append w (opened_frames s x ++ opened_const_frames x) (flat_map (task_frames s) (node_tasks s n)) in
-      omega (arith, d, b, sum_flat w (task_frames s) (node_tasks s n), around_same v a (record { scope = 0; const_scope = 0 }) refl x)
+  weight_met w a n ts h = grind (arith, common_steps, left_met, sum_by-append, sum_flat w (task_frames s) (node_tasks s n), around_same)
 
   pub turns_met : (a : CurrentScopes) (n : NodeId) (ts : List Task) → Has s n →
       total s (node_turns s) n + turns_left s ts ≡ 2 + turns_left s (form_tasks a (form_of s n) ++ ts)
-  turns_met a n ts h =
-      omega (
-        arith,
-        left_met s fall (node_turns s) task_turns a n ts h,
-        around_same task_turns a
-            (record { scope = 0; const_scope = 0 }) refl (form_of s n),
-      )
+  turns_met a n ts h = grind (arith, common_steps, left_met, around_same)
 
 -- 3. Sums over what is reached, however it is listed: by nodes, by places, or told from each node by its children.
 
@@ -154,10 +115,7 @@ module _ (s : Nodes) (fall : RankDecreases s) (listing : (n : NodeId) → nodes_
 
   pub reached_total : (entry_nodes : List NodeId) → ((n : NodeId) → In n entry_nodes → Has s n) →
       sum_by f (reached_nodes s entry_nodes) ≡ sum_by (total s f) entry_nodes
-  reached_total entry_nodes in_range =
-      sum_flat f (nodes_under s) entry_nodes
-      ∙ sum_same (λ k. sum_by f (nodes_under s k)) (total s f) entry_nodes
-      (λ k i. nodes_total (suc (rank s k)) k (omega arith) (in_range k i))
+  reached_total entry_nodes in_range = search (rules, sum_flat, sum_same, nodes_total)
 
 module _ (s : Nodes) (fall : RankDecreases s) (f : NodeId → ℕ) where
   abbrev at_context : InContext → ℕ
@@ -183,11 +141,7 @@ module _ (s : Nodes) (fall : RankDecreases s) (f : NodeId → ℕ) where
   pub context_total : (entry_nodes : List InContext) → ((p : InContext) → In p entry_nodes → Has s p.node) →
       sum_by at_context (flat_map (contexts_under s) entry_nodes)
       ≡ sum_by (total s f) (map (λ (p : InContext). p.node) entry_nodes)
-  context_total entry_nodes in_range =
-      sum_flat at_context (contexts_under s) entry_nodes
-      ∙ (sum_same (λ q. sum_by at_context (contexts_under s q)) (λ (q : InContext). total s f q.node) entry_nodes
-      (λ q i. contexts_total (suc (rank s q.node)) q (omega arith) (in_range q i))
-      ∙ sym (sum_mapped (total s f) (λ (p : InContext). p.node) entry_nodes))
+  context_total entry_nodes in_range = search (rules, sum_flat, sum_same, contexts_total, sum_mapped)
 
 -- As many expressions are listed by places as by nodes
 
@@ -200,12 +154,7 @@ pub exprs_counted : (s : Nodes) → RankDecreases s →
     ((p : InContext) → In p entry_nodes → Has s p.node) → ((n : NodeId) → In n nodes → Has s n) →
     length (exprs_under s entry_nodes) ≡ expr_count (reached_nodes s nodes)
 unfolding exprs_under
-exprs_counted s fall listing entry_nodes nodes same in_range in_range_too =
-    length-filter (λ (p : InContext). is_expr p.node) (flat_map (contexts_under s) entry_nodes)
-    ∙ (context_total s fall expr_one entry_nodes in_range
-    ∙ (ap (λ (ns : List NodeId). sum_by (total s expr_one) ns) (sym same)
-    ∙ (sym (reached_total s fall listing expr_one nodes in_range_too)
-    ∙ sym (length-filter is_expr (reached_nodes s nodes)))))
+exprs_counted s fall listing entry_nodes nodes same in_range in_range_too = search (rules, length-filter, context_total, reached_total)
 
 -- 4. What the frames of a node are, counted: as scopes, by its form; and as entries, by the patterns among its children.
 
@@ -216,9 +165,7 @@ form_frames s current x = (opened_frames s x ++ opened_const_frames x) ++ flat_m
 frames_split : (s : Nodes) (w : Frame → ℕ) (current : CurrentScopes) (x : ScopingForm) →
     sum_by w (form_frames s current x) ≡ (sum_by w (opened_frames s x) + sum_by w (opened_const_frames x)) + sum_by
     (λ t. sum_by w (task_frames s t)) (form_tasks current x)
-frames_split s w current x =
-    let b = sum_by-append w (opened_frames s x ++ opened_const_frames x) (flat_map (task_frames s) (form_tasks current x)) in
-    omega (arith, b, sum_by-append w (opened_frames s x) (opened_const_frames x), sum_flat w (task_frames s) (form_tasks current x))
+frames_split s w current x = search (rules, sum_by-append, sum_flat)
 
 -- Each frame
 
@@ -236,54 +183,30 @@ module _ (s : Nodes) (w : Frame → ℕ) where
   calls_open cs = sum_flat (weigh s w) task_of cs ∙ sum_none (λ c. sum_by (weigh s w) (task_of c)) cs call_opens
 
   statement_opens : (x : Statement) → sum_by (weigh s w) (statement_tasks x) ≡ sum_by w (statement_frames s x)
-  statement_opens (Statement.Let pat ty x y) =
-      let cs = opt t ty ++ opt e x ++ opt e y in
-      omega (arith, sum_by-append (weigh s w) (tasks_of cs) (Task.Bound pat ∷ []), calls_open cs)
+  statement_opens (Statement.Let pat ty x y) = search (rules, sum_by-append, calls_open)
   statement_opens (Statement.Expr x semi) = refl
   statement_opens (Statement.Item (Item.MacroDef id)) = omega arith
   statement_opens (Statement.Item Item.Other) = refl
 
   statements_open : (xs : List Statement) → sum_by (weigh s w) (flat_map statement_tasks xs) ≡ sum_by w (flat_map (statement_frames s) xs)
-  statements_open xs =
-      sum_flat (weigh s w) statement_tasks xs
-      ∙ (sum_same (λ x. sum_by (weigh s w) (statement_tasks x)) (λ x. sum_by w (statement_frames s x)) xs (λ x i. statement_opens x)
-      ∙ sym (sum_flat w (statement_frames s) xs))
+  statements_open xs = search (rules, sum_flat, sum_same, statement_opens)
 
   guarded_opens : (pat expr : ℕ) (guard : Option ℕ) → weigh s w (guarded_task pat expr guard) ≡ w (frame s (pat ∷ []))
   guarded_opens pat expr None = omega arith
   guarded_opens pat expr (Some guard) = omega arith
 
   arms_open : (arms : List MatchArm) → sum_by (weigh s w) (flat_map one_arm arms) ≡ sum_by w (map (λ arm. frame s (arm.pat ∷ [])) arms)
-  arms_open arms =
-      sum_flat (weigh s w) one_arm arms
-      ∙ (sum_same (λ arm. sum_by (weigh s w) (one_arm arm)) (λ arm. w (frame s (arm.pat ∷ []))) arms
-      (λ arm i. let r = guarded_opens arm.pat arm.expr arm.guard in omega (arith, r))
-      ∙ sym (sum_mapped w (λ arm. frame s (arm.pat ∷ [])) arms))
+  arms_open arms = search (rules, sum_flat, sum_same, guarded_opens, sum_mapped)
 
   -- what a form opens as it is met, and by its tasks
   tasks_open : (current : CurrentScopes) (x : ScopingForm) →
       (sum_by w (opened_frames s x) + sum_by w (opened_const_frames x)) + sum_by (weigh s w) (form_tasks current x)
       ≡ sum_by w (frames_opened s x)
-  tasks_open current (form.If c y f) =
-      let b = sum_by-append (weigh s w) (tasks_of (e c ++ e y)) (leave current ∷ tasks_of (opt e f)) in
-      omega (arith, b, sum_by-cons (weigh s w) (leave current) (tasks_of (opt e f)), calls_open (e c ++ e y), calls_open (opt e f))
+  tasks_open current (form.If c y f) = search (rules, sum_by-append, sum_by-cons, calls_open)
   tasks_open current (form.Let pat x) = omega arith
-  tasks_open current (form.Block id label xs tail) =
-      let b = sum_by-append (weigh s w) (flat_map statement_tasks xs) (tasks_of (opt e tail) ++ leave current ∷ []) in
-      let opened = block_const_frames id ++ flat_map (statement_frames s) xs in
-      omega (
-        arith,
-        b,
-        sum_by-append (weigh s w) (tasks_of (opt e tail)) (leave current ∷ []),
-        statements_open xs,
-        calls_open (opt e tail),
-        sum_by-cons w (own_frame id label) opened,
-        sum_by-append w (block_const_frames id) (flat_map (statement_frames s) xs),
-      )
+  tasks_open current (form.Block id label xs tail) = search (rules, sum_by-append, statements_open, calls_open, sum_by-cons)
   tasks_open current (form.Loop label body) = omega arith
-  tasks_open current (form.Closure types ret args body) =
-      let b = sum_by-append (weigh s w) (tasks_of (met_in_closure types ret args body)) (leave current ∷ []) in
-      omega (arith, b, calls_open (met_in_closure types ret args body))
+  tasks_open current (form.Closure types ret args body) = search (rules, sum_by-append, calls_open)
   tasks_open current (form.Match x arms) = omega (arith, sum_by-cons (weigh s w) (Task.Expr x) (flat_map one_arm arms), arms_open arms)
   tasks_open current (form.Assignment target value) = omega arith
   tasks_open current (form.PatternType ty pat) = omega arith
@@ -376,17 +299,12 @@ MeetsNone x = none []
 
 pub expr_meets : (x : Expr) → MeetsNone (expr_form x)
 expr_meets (Expr.Call callee args) = none-append (e callee) (flat_map e args) refl (none-each e (λ x. refl) args)
-expr_meets (Expr.MethodCall receiver name args generic_args) =
-    none-append (e receiver ++ flat_map e args) (opt args_calls generic_args)
-    (none-append (e receiver) (flat_map e args) refl (none-each e (λ x. refl) args)) (none-opt args_calls none-args generic_args)
+expr_meets (Expr.MethodCall receiver name args generic_args) = search (rules, none-append, none-each, none-opt, none-args)
 expr_meets (Expr.Break x label) = none-opt e (λ y. refl) x
 expr_meets (Expr.Return x) = none-opt e (λ y. refl) x
 expr_meets (Expr.Yield x) = none-opt e (λ y. refl) x
 expr_meets (Expr.Yeet x) = none-opt e (λ y. refl) x
-expr_meets (Expr.RecordLit path fields spread) =
-    none-append (flat_map (λ field. e field.expr) fields ++ spread_calls spread) (path_calls path)
-    (none-append (flat_map (λ field. e field.expr) fields) (spread_calls spread)
-    (none-each (λ field. e field.expr) (λ x. refl) fields) (none-spread spread)) (none-path path)
+expr_meets (Expr.RecordLit path fields spread) = search (rules, none-append, none-each, none-spread, none-path)
 expr_meets (Expr.Array x) = none-array x
 expr_meets (Expr.Tuple exprs) = none-each e (λ x. refl) exprs
 expr_meets (Expr.Path path) = none-path path
@@ -395,8 +313,7 @@ expr_meets _ = refl
 pub type_meets : (x : TypeRef) → MeetsNone (type_form x)
 type_meets (TypeRef.Tuple types) = none-each t (λ x. refl) types
 type_meets (TypeRef.Path path) = none-path path
-type_meets (TypeRef.Reference reference) =
-    none-append (t reference.ty) (opt l reference.lifetime) refl (none-opt l (λ x. refl) reference.lifetime)
+type_meets (TypeRef.Reference reference) = search (rules, none-append, none-opt)
 type_meets (TypeRef.Fn function) = none-each (λ entry. t entry.1) (λ x. refl) function.params
 type_meets (TypeRef.ImplTrait bounds) = none-each bound_calls none-bound bounds
 type_meets (TypeRef.DynTrait bounds) = none-each bound_calls none-bound bounds
@@ -432,10 +349,7 @@ module _ (s : Nodes) where
   task_bound _ = refl
 
   tasks_bound : (ts : List Task) → sum_by bound_by (about ts) ≡ sum_by weights_of ts + sum_by rest_of ts
-  tasks_bound ts =
-      sum_flat bound_by task_children ts
-      ∙ (sum_same (λ x. sum_by bound_by (task_children x)) (λ x. weights_of x + rest_of x) ts (λ x i. task_bound x)
-      ∙ sum_plus weights_of rest_of ts)
+  tasks_bound ts = search (rules, sum_flat, sum_same, task_bound, sum_plus)
 
   -- of calls, what the patterns among them bind
   call_rest : (c : Call) → sum_by rest_of (task_of c) ≡ sum_by (λ q. length (binds s q)) (pat_of_call c)
@@ -443,10 +357,7 @@ module _ (s : Nodes) where
   call_rest _ = refl
 
   calls_rest : (cs : List Call) → sum_by rest_of (tasks_of cs) ≡ sum_by (λ q. length (binds s q)) (flat_map pat_of_call cs)
-  calls_rest cs =
-      sum_flat rest_of task_of cs
-      ∙ (sum_same (λ c. sum_by rest_of (task_of c)) (λ c. sum_by (λ q. length (binds s q)) (pat_of_call c)) cs (λ c i. call_rest c)
-      ∙ sym (sum_flat (λ q. length (binds s q)) pat_of_call cs))
+  calls_rest cs = search (rules, sum_flat, sum_same, call_rest)
 
   calls_none : (cs : List Call) → none cs → sum_by rest_of (tasks_of cs) ≡ 0
   calls_none cs h = calls_rest cs ∙ ap (λ (ps : List ℕ). sum_by (λ q. length (binds s q)) ps) h
@@ -455,13 +366,7 @@ module _ (s : Nodes) where
   opt_none x = calls_none (opt e x) (none-opt e (λ y. refl) x)
 
   statement_rest : (x : Statement) → sum_by rest_of (statement_tasks x) ≡ 0
-  statement_rest (Statement.Let pat ty x y) =
-      let cs = opt t ty ++ opt e x ++ opt e y in
-      let a = calls_none cs
-      (none-append (opt t ty ++ opt e x) (opt e y)
-      (none-append (opt t ty) (opt e x) (none-opt t (λ i. refl) ty) (none-opt e (λ i. refl) x))
-      (none-opt e (λ i. refl) y)) in
-      omega (arith, sum_by-append rest_of (tasks_of cs) (Task.Bound pat ∷ []), a)
+  statement_rest (Statement.Let pat ty x y) = search (rules, calls_none, none-append, none-opt, sum_by-append)
   statement_rest (Statement.Expr x semi) = refl
   statement_rest (Statement.Item (Item.MacroDef id)) = refl
   statement_rest (Statement.Item Item.Other) = refl
@@ -474,9 +379,7 @@ module _ (s : Nodes) where
   guarded_rest pat expr (Some guard) = refl
 
   arms_rest : (arms : List MatchArm) → sum_by rest_of (flat_map one_arm arms) ≡ 0
-  arms_rest arms =
-      sum_flat rest_of one_arm arms ∙ sum_none (λ arm. sum_by rest_of (one_arm arm)) arms
-      (λ arm. let r = guarded_rest arm.pat arm.expr arm.guard in omega (arith, r))
+  arms_rest arms = search (rules, sum_flat, sum_none, guarded_rest)
 
   constants_empty : (id : Option ℕ) → sum_by count_entries (block_const_frames id) ≡ 0
   constants_empty None = refl
@@ -484,12 +387,7 @@ module _ (s : Nodes) where
 
   closure_pats : (types : List (Option ℕ)) (ret : Option ℕ) (args : List ℕ) (body : ℕ) →
       flat_map pat_of_call (met_in_closure types ret args body) ≡ args
-  closure_pats types ret args body =
-      flat_map-append pat_of_call (flat_map (opt t) types ++ opt t ret) (flat_map p args ++ e body)
-      ∙ (ap (λ (ps : List ℕ). ps ++ flat_map pat_of_call (flat_map p args ++ e body))
-      (none-append (flat_map (opt t) types) (opt t ret) (none-each (opt t) (none-opt t (λ i. refl)) types)
-      (none-opt t (λ i. refl) ret))
-      ∙ (flat_map-append pat_of_call (flat_map p args) (e body) ∙ (ap (λ (ps : List ℕ). ps ++ []) (pats-list args) ∙ append-nil args)))
+  closure_pats types ret args body = search (rules, flat_map-append, none-append, none-each, none-opt, pats-list, append-nil)
 
   -- what the frames hold that are opened as a node is met is what patterns among its tasks bind that open none
   opens_rest : (current : CurrentScopes) (x : ScopingForm) → MeetsNone x →

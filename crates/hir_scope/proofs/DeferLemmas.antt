@@ -1,5 +1,5 @@
 -- Tasks that are put one after the other, by a node's calls and beside them; and what they leave on the stack.
-use Rattle.std.proofs.Common.{◌≡◌, length, false, sym, ap, ℕ, List, [], ◌∷◌, ◌++◌, Option}
+use Rattle.std.proofs.Common.{ℕ, List, [], ◌∷◌, ◌++◌, Option}
 use Rattle.hir_node.specs.ChildCalls.{Call, e, t, opt}
 use Rattle.hir_node.specs.Runs.{Runs, no_call, a_call}
 use Rattle.hir_node.proofs.RunLemmas.{may_freely, runs_one, runs_append, runs_through}
@@ -29,11 +29,5 @@ defer_let ty first other bound a b c d = runs_append (through (runs_append (runs
 pub defers_all : {v w : StackItems Task} {ts : List Task} → Runs DefersTask v ts w → Defers v ts w
 defers_all {v} no_call = defers_none v
 defers_all {v} {w} (a_call {v = u} {c = task} {cs = ts} step rest) = defers_two v u w (task ∷ []) ts step (defers_all rest)
-
--- what was put is turned over
-pub turned : {below : ℕ} {v w x : StackItems Task} {ts : List Task} → Runs DefersTask v ts w → below ≡ length v.items →
-    ((before : StackItems Task) (items : List Task) → length before.items ≡ below → Defers before items w → x
-    ≡ record { items = items ++ before.items; refused = false }) → x.items ≡ ts ++ v.items
-turned {v = v} {ts = ts} runs long over = ap (λ (s : StackItems Task). s.items) (over v ts (sym long) (defers_all runs))
 
 pub ruleset defers = (may_freely, runs_one, runs_append, no_call, through, defer_let, defers_all)

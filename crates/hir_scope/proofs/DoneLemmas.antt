@@ -1,10 +1,10 @@
 -- How each task moves a walk on.
-use Rattle.std.proofs.Common.{◌≡◌, ℕ, suc, ◌<◌, List, [], ◌∷◌, ◌++◌, Option, Some, None, length, map, refl, sym, subst, arith, Contains}
+use Rattle.std.proofs.Common.{◌≡◌, ℕ, suc, ◌<◌, List, [], ◌∷◌, ◌++◌, Option, Some, None, length, map, refl, subst, arith, Contains, rules}
 use Rattle.std.proofs.Common.{ap, ◌∙◌, ◌+◌}
 use Rattle.std.proofs.lemmas.List.{Concat.flat_map-append, Elements.All-nil, Elements.All-cons}
 use Rattle.std.proofs.lemmas.List.Sorted.{IsPermutation-sym, Contains-permutation}
 use Rattle.std.specs.List.{All, flat_map, sum_by, slice_get}
-use Rattle.hir_node.specs.ChildCalls.{Call, OnLifetime, e, p, t, opt, child, children, pat_calls}
+use Rattle.hir_node.specs.ChildCalls.{Call, OnLifetime, e, p, t, opt, children, pat_calls}
 use Rattle.hir_node.specs.declared.expr_types.{Item.Item, MatchArm.MatchArm, Statement.Statement}
 use Rattle.hir_node.specs.declared.{node_id.NodeId.NodeId, pat.Pat.Pat, type_ref.TypeRef.TypeRef}
 use Rattle.hir_validate.specs.{Recursion.RankDecreases, declared.node_arenas.Nodes.Nodes, Nodes.Has, Nodes.children_of}
@@ -27,6 +27,7 @@ use Rattle.hir_scope.proofs.FutureLemmas.{future_form, turn_bare, turn_ended, fu
 use Rattle.hir_scope.proofs.ChildLemmas.{children_of_form, children_in, child_contexts_children, about_form}
 use Rattle.hir_scope.proofs.MovingLemmas.{over_exceeds, at, opened_none, moves_opened, moves_still}
 use Rattle.hir_scope.proofs.UnderLemmas.{open_frames_at, exprs_under_expr, exprs_under_pat, exprs_under_type}
+use Rattle.std.proofs.lemmas.Grind.{common_steps}
 
 -- 1. What the tasks of a node name exists: the node's children, and the scopes that are taken back.
 
@@ -65,20 +66,12 @@ module _ (s : Nodes) where
   -- the patterns that a closure binds
   pub closure_pats : (types : List (Option ℕ)) (ret : Option ℕ) (args : List ℕ) (body : ℕ) →
       AreInRange s (children (met_in_closure types ret args body)) → AreInRange s (map NodeId.Pat args)
-  closure_pats types ret args body all =
-      let first = flat_map (opt t) types ++ opt t ret in
-      let values = flat_map p args ++ e body in
-      let last = (in_range_parts (children first) (children values) (subst (AreInRange s) (flat_map-append child first values) all)).1 in
-      pats_in_range args (in_range_parts (children (flat_map p args)) (children (e body))
-      (subst (AreInRange s) (flat_map-append child (flat_map p args) (e body)) last)).0
+  closure_pats types ret args body all = search (rules, in_range_parts, flat_map-append, pats_in_range)
 
   -- what is inside a node, and then what was known before
   pub known_met : RankDecreases s → (a : CurrentScopes) (n : NodeId) (ts : List Task) → Has s n →
       AreInRange s (about ts) → AreInRange s (about (form_tasks a (form_of s n) ++ ts))
-  known_met fall a n ts h k =
-      subst (AreInRange s) (sym (flat_map-append task_children (form_tasks a (form_of s n)) ts))
-      (in_range_join (about (form_tasks a (form_of s n))) (about ts)
-      (subst (AreInRange s) (sym (about_form a (form_of s n))) (children_in_range fall n h)) k)
+  known_met fall a n ts h k = search (rules, flat_map-append, in_range_join, about_form, children_in_range)
 
 -- Scopes that are taken back
 
@@ -116,14 +109,9 @@ module _ (n : ℕ) where
       LeavesWithin n ts → LeavesWithin n (form_tasks a x ++ ts)
   leaves_met a (form.If c y f) ts h k l = (h, k, leaves_calls (opt e f) ts l)
   leaves_met a (form.Let pat x) ts h k l = l
-  leaves_met a (form.Block id label xs tail) ts h k l =
-      leaves_join (form_tasks a (form.Block id label xs tail)) ts
-      (leaves_join (flat_map statement_tasks xs) (tasks_of (opt e tail) ++ leave a ∷ []) (leaves_statements xs)
-      (leaves_calls (opt e tail) (leave a ∷ []) (h, k, tt))) l
+  leaves_met a (form.Block id label xs tail) ts h k l = search (rules, leaves_join, leaves_statements, leaves_calls)
   leaves_met a (form.Loop label body) ts h k l = (h, k, l)
-  leaves_met a (form.Closure types ret args body) ts h k l =
-      leaves_join (form_tasks a (form.Closure types ret args body)) ts
-      (leaves_calls (met_in_closure types ret args body) (leave a ∷ []) (h, k, tt)) l
+  leaves_met a (form.Closure types ret args body) ts h k l = search (rules, leaves_join, leaves_calls)
   leaves_met a (form.Match x arms) ts h k l = leaves_arms arms ts l
   leaves_met a (form.Assignment target value) ts h k l = (h, k, l)
   leaves_met a (form.PatternType ty pat) ts h k l = (h, k, l)
@@ -139,8 +127,7 @@ module _ (s : Nodes) (fall : RankDecreases s) (chain : ℕ → Chain) where
   left_open : (n : NodeId) (h k : Chain) (ts : List Task) → Has s n → let x = form_of s n in
       inside h k x ++ future s chain (open_frames s n ++ h) k ts
       ≡ inside h k x ++ future s chain (open_frames_of_form s (open_frames s) x ++ h) k ts
-  left_open n h k ts in_range =
-      ap (λ (c : Chain). inside h k (form_of s n) ++ future s chain (c ++ h) k ts) (open_frames_at s fall n in_range)
+  left_open n h k ts in_range = search (rules, open_frames_at)
 
   -- an expression is met, and then what is inside it
   pub future_expr : (a : CurrentScopes) (id : ℕ) (ts : List Task) → Has s (NodeId.Expr id) →
@@ -148,12 +135,7 @@ module _ (s : Nodes) (fall : RankDecreases s) (chain : ℕ → Chain) where
       future s chain h k (Task.Expr id ∷ ts)
       ≡ in_context (NodeId.Expr id) h k ∷ future s chain (opened_frames s x ++ h) (opened_const_frames x ++ k) (form_tasks a x ++ ts)
   unfolding future
-  future_expr a id ts in_range =
-      let h = chain a.scope in
-      let k = chain a.const_scope in
-      let n = NodeId.Expr id in
-      ap (λ (ps : List InContext). ps ++ future s chain (open_frames s n ++ h) k ts) (exprs_under_expr s fall id h k in_range)
-      ∙ ap (λ (ps : List InContext). in_context n h k ∷ ps) (left_open n h k ts in_range ∙ future_form s chain a (form_of s n) ts)
+  future_expr a id ts in_range = search (rules, exprs_under_expr, left_open, future_form)
 
   -- a pattern is what is inside it
   pub future_pat : (a : CurrentScopes) (h k : Chain) (id : ℕ) (ts : List Task) → Has s (NodeId.Pat id) →
@@ -174,9 +156,7 @@ module _ (s : Nodes) (fall : RankDecreases s) (chain : ℕ → Chain) where
       ≡ future s chain (opened_frames s x ++ k) (opened_const_frames x ++ k) (form_tasks (both a.const_scope) x ++ (leave a ∷ ts))
   unfolding future
   future_type a id ts in_range =
-      let k = chain a.const_scope in
-      ap (λ (ps : List InContext). ps ++ future s chain (chain a.scope) k ts) (exprs_under_type s fall id k k in_range)
-      ∙ future_form s chain (both a.const_scope) (form_of s (NodeId.TypeRef id)) (leave a ∷ ts)
+      grind (arith, common_steps, exprs_under_type, future_form s chain (both a.const_scope) (form_of s (NodeId.TypeRef id)) (leave a ∷ ts))
 
   -- an arm is met in the frame of its pattern, which ends with it
   pub future_arm : (a : CurrentScopes) (arm : MatchArm) (ts : List Task) → let h = chain a.scope in let k = chain a.const_scope in
@@ -247,10 +227,7 @@ module _ (s : Nodes) where
     -- an expression in which nothing is
     pub empty_moves : form_of s (NodeId.Expr id) ≡ form.InTurn [] → IsReady s (with_next m (Task.Expr id)) →
         Step s (with_next m (Task.Expr id)) (state m) (in_context (NodeId.Expr id) h k ∷ [])
-    empty_moves e r =
-        let opened = λ (x : ScopingForm). OpensScopes (state m) (state m) (opened_frames s x) (opened_const_frames x) in
-        expr_moves (ap (λ (x : ScopingForm). form_tasks a x ++ ts) (sym e))
-        (subst opened (sym e) (opened_none (state m) r.scope r.const_scope)) r
+    empty_moves e r = search (rules, expr_moves, opened_none)
 
     pat_opens : (w : Frame → ℕ) (x : Option Pat) → let y = form_at pat_form x in sum_by w (opened_frames s y ++ opened_const_frames y) ≡ 0
     pat_opens w None = refl
@@ -317,27 +294,11 @@ module _ (s : Nodes) where
     pub constant_moves : (id : ℕ) {us : List Task} → us ≡ Task.Expr id ∷ leave current ∷ rest → IsReady s (with_next m (Task.Constant id)) →
         Step s (with_next m (Task.Constant id)) (at m.scopes (both current.const_scope) us) []
     unfolding future
-    constant_moves id e r =
-        let last = leave current in
-        moves_still s e r.const_scope r.const_scope (r.scope, r.const_scope, r.leaves) r.known refl
-        (λ w. omega (arith, weight_cons w (Task.Constant id) rest, weight_cons w (Task.Expr id) (last ∷ rest), weight_cons w last rest))
-        (omega (arith, turns_cons (Task.Constant id) rest, turns_cons (Task.Expr id) (last ∷ rest), turns_cons last rest))
+    constant_moves id e r = grind (arith, common_steps, moves_still, weight_cons, turns_cons)
 
     pub leave_moves : (b : CurrentScopes) → IsReady s (with_next m (leave b)) → Step s (with_next m (leave b)) (at m.scopes b rest) []
     unfolding future
-    leave_moves b r =
-        moves_still s refl r.leaves.0 r.leaves.1 r.leaves.2 r.known refl
-        (λ w. let l = weight_cons w (leave b) rest in omega (arith, l))
-        (let l = turns_cons (leave b) rest in omega (arith, l))
-
-    pub bound_over : (id : ℕ) → Over (map frame_of m.scopes.scopes ++ frame s (id ∷ []) ∷ []) → Exceeds s (with_next m (Task.Bound id))
-    bound_over id o = over_exceeds s (with_next m (Task.Bound id)) (frame s (id ∷ []) ∷ []) o (λ w. omega (arith, weight_cons w (Task.Bound id) rest))
-
-    pub macro_over : (id : ℕ) → let f = of_kind (ScopeKind.MacroDef id) in
-        Over (map frame_of m.scopes.scopes ++ f ∷ f ∷ []) → Exceeds s (with_next m (Task.MacroDef id))
-    macro_over id o =
-        let f = of_kind (ScopeKind.MacroDef id) in
-        over_exceeds s (with_next m (Task.MacroDef id)) (f ∷ f ∷ []) o (λ w. omega (arith, weight_cons w (Task.MacroDef id) rest))
+    leave_moves b r = grind (arith, common_steps, moves_still, weight_cons, turns_cons)
 
     pub macro_moves : (id : ℕ) {new : WalkState} → let f = of_kind (ScopeKind.MacroDef id) in OpensScopes (state m) new (f ∷ []) (f ∷ []) →
         IsReady s (with_next m (Task.MacroDef id)) → Step s (with_next m (Task.MacroDef id)) new []
@@ -346,9 +307,6 @@ module _ (s : Nodes) where
         moves_opened s refl o r.leaves r.known refl
         (λ w. let c = weight_cons w (Task.MacroDef id) rest in omega (arith, c))
         (let c = turns_cons (Task.MacroDef id) rest in omega (arith, c))
-
-    pub root_over : (id : ℕ) → Over (map frame_of m.scopes.scopes ++ empty ∷ []) → Exceeds s (with_next m (Task.Root id))
-    root_over id o = over_exceeds s (with_next m (Task.Root id)) (empty ∷ []) o (λ w. omega (arith, weight_cons w (Task.Root id) rest))
 
     -- the scope of a root is also that of the constants in it
     pub root_moves : (id : ℕ) {us : List Task} {new : WalkState} → us ≡ Task.Expr id ∷ rest →
@@ -386,16 +344,8 @@ module _ (s : Nodes) where
     left_arm : (u : NodeId → ℕ) (v : Task → ℕ) (guard : Option ℕ) → v (Task.Pat pat) ≡ 0 → ((x : ℕ) → v (Task.Expr x) ≡ 0) →
         tasks_weight s u v (guarded_task pat expr guard ∷ later) + v last
         ≡ v (guarded_task pat expr guard) + tasks_weight s u v (in_arm pat guard expr last later)
-    left_arm u v None z y =
-        let b = left_cons s u v (Task.Pat pat) (Task.Expr expr ∷ last ∷ later) in
-        let d = left_cons s u v (Task.Expr expr) (last ∷ later) in
-        omega (arith, left_cons s u v (Task.Arm pat expr) later, b, d, left_cons s u v last later, z, y expr)
-    left_arm u v (Some guard) z y =
-        let f = left_cons s u v (Task.GuardedArm pat guard expr) later in
-        let b = left_cons s u v (Task.Pat pat) (Task.Expr guard ∷ Task.Expr expr ∷ last ∷ later) in
-        let c = left_cons s u v (Task.Expr guard) (Task.Expr expr ∷ last ∷ later) in
-        let d = left_cons s u v (Task.Expr expr) (last ∷ later) in
-        omega (arith, f, b, c, d, left_cons s u v last later, z, y expr, y guard)
+    left_arm u v None z y = grind (arith, common_steps, left_cons)
+    left_arm u v (Some guard) z y = grind (arith, common_steps, left_cons)
 
     arm_weight : (w : Frame → ℕ) (guard : Option ℕ) → frame_weight w (guarded_task pat expr guard) ≡ sum_by w (frame s (pat ∷ []) ∷ [])
     arm_weight w None = refl
@@ -420,12 +370,6 @@ module _ (s : Nodes) where
         (in_arm pat guard expr last later)
     arm_future fall None = future_arm s fall (chain_of m.scopes.scopes) m.current (arm_with pat expr None) later
     arm_future fall (Some guard) = future_arm s fall (chain_of m.scopes.scopes) m.current (arm_with pat expr (Some guard)) later
-
-    pub arm_over : (guard : Option ℕ) → Over (map frame_of m.scopes.scopes ++ frame s (pat ∷ []) ∷ []) →
-        Exceeds s (with_next m (guarded_task pat expr guard))
-    arm_over guard o =
-        over_exceeds s (with_next m (guarded_task pat expr guard)) (frame s (pat ∷ []) ∷ []) o
-        (λ w. omega (arith, weight_cons w (guarded_task pat expr guard) later, arm_weight w guard))
 
     pub arm_moves : RankDecreases s → (guard : Option ℕ) {us : List Task} {new : WalkState} → us ≡ in_arm pat guard expr last later →
         OpensScopes (walk_state m us) new (frame s (pat ∷ []) ∷ []) [] → IsReady s (with_next m (guarded_task pat expr guard)) →

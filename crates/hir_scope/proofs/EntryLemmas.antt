@@ -1,21 +1,21 @@
 -- Each entry is in one frame: what is told of entries over all nodes under a node is what its frames hold, and, of a
 -- pattern, what it binds.
-use Rattle.std.proofs.Common.{◌≡◌, ℕ, zero, suc, ◌+◌, ◌<◌, List, [], ◌∷◌, ◌++◌, length, refl, sym, ap, ◌∙◌, arith, Option, Some, None}
+use Rattle.std.proofs.Common.{◌≡◌, ℕ, zero, suc, ◌+◌, ◌<◌, List, [], ◌∷◌, ◌++◌, length, refl, sym, ap, ◌∙◌, arith, Option, Some, None, rules}
 use Rattle.std.proofs.Common.{true, length-append}
 use Rattle.std.proofs.lemmas.{Bool.ltb-true, List.Concat.length-flat_map, List.Elements.All-contains}
 use Rattle.std.proofs.lemmas.List.{Sorted.sum_by-IsPermutation, Sums.AllPass-from_list_all}
 use Rattle.std.specs.Cmp.{first_so, second_so}
 use Rattle.std.specs.{List.flat_map, List.slice_get, List.sum_by, List.list_all, Prelude.nat_lt}
 use Rattle.hir_node.specs.ChildCalls.{Call, OnLifetime, child, children, pat_of_call, pat_calls}
-use Rattle.hir_node.specs.{OtherIds.pat_bindings, declared.binding.Binding.Binding, declared.expr.Expr.Expr}
-use Rattle.hir_node.specs.declared.{node_id.NodeId.NodeId, pat.Pat.Pat, type_ref.TypeRef.TypeRef}
+use Rattle.hir_node.specs.{OtherIds.pat_bindings, declared.binding.Binding.Binding}
+use Rattle.hir_node.specs.declared.{node_id.NodeId.NodeId, pat.Pat.Pat}
 use Rattle.hir_validate.specs.{Recursion.rank, Recursion.RankDecreases, declared.node_arenas.Nodes.Nodes, Nodes.Has, Nodes.children_of}
 use Rattle.hir_validate.specs.{Nodes.calls_of}
 use Rattle.hir_validate.specs.{Sound.IsSoundNode, TestedParts.all_of, TestedParts.tested_pat}
 use Rattle.hir_validate.proofs.SoundLemmas.{item_at}
 use Rattle.hir_store_core.specs.PatLists.{pats, bindings_at, bindings_in, child_pats_of}
 use Rattle.hir_scope.specs.Counts.{node_entries}
-use Rattle.hir_scope.specs.ScopingForms.{form_at, form_of, expr_form, pat_form, type_form}
+use Rattle.hir_scope.specs.ScopingForms.{form_at, form_of, pat_form}
 use Rattle.hir_scope.specs.Frames.{entry_at, entry_of, binds}
 use Rattle.hir_scope.specs.{ChildContexts.child_contexts, declared.tasks.CurrentScopes.CurrentScopes}
 use Rattle.hir_scope.specs.internal.WalkState.{about, count_entries, total, node_frames}
@@ -23,13 +23,12 @@ use Rattle.hir_scope.specs.internal.Pending.{form_tasks}
 use Rattle.hir_scope.proofs.CountLemmas.{MeetsNone, expr_meets, type_meets, bound_by, form_entries, turn_entries, form_frames, total_at}
 use Rattle.hir_scope.proofs.ChildLemmas.{children_of_form, children_in, child_contexts_children, about_form}
 use Rattle.hir_scope.proofs.MemberLemmas.{In, contains_in, flat_map_in, sum_flat, sum_same, sum_plus, sum_ones}
+use Rattle.std.proofs.lemmas.Grind.{common_steps}
 
 -- 1. Each binding of a pattern exists, and is one entry
 
 all_below : (n : ℕ) (xs : List ℕ) → list_all (λ id. nat_lt id n) xs ≡ true → (b : ℕ) → In b xs → b < n
-all_below n xs t b i =
-    ltb-true b n (All-contains (λ id. nat_lt id n ≡ true) xs b (AllPass-from_list_all (λ id. nat_lt id n) xs t)
-    (contains_in xs b i))
+all_below n xs t b i = search (rules, ltb-true, All-contains, AllPass-from_list_all, contains_in)
 
 abbrev pub PatsSound : Nodes → Type 0
 PatsSound s = (id : ℕ) (x : Pat) → slice_get s.pats id ≡ Some x → IsSoundNode s (tested_pat x)
@@ -67,16 +66,10 @@ module _ (s : Nodes) (fall : RankDecreases s) where
       ∙ sum_by-IsPermutation (bound_by s) (children_of s n) (children_in (child_contexts s n)) (child_contexts_children s n)
 
   expr_meets_at : (id : ℕ) → MeetsNone (form_of s (NodeId.Expr id))
-  expr_meets_at id = at (slice_get s.exprs id) where
-    at : (o : Option Expr) → MeetsNone (form_at expr_form o)
-    at None = refl
-    at (Some x) = expr_meets x
+  expr_meets_at id = search (rules, MeetsNone, expr_meets)
 
   type_meets_at : (id : ℕ) → MeetsNone (form_of s (NodeId.TypeRef id))
-  type_meets_at id = at (slice_get s.types id) where
-    at : (o : Option TypeRef) → MeetsNone (form_at type_form o)
-    at None = refl
-    at (Some x) = type_meets x
+  type_meets_at id = search (rules, MeetsNone, type_meets)
 
   -- over calls, what their patterns bind
   call_bound : (c : Call) → sum_by (bound_by s) (child c) ≡ sum_by (λ q. length (binds s q)) (pat_of_call c)
@@ -84,10 +77,7 @@ module _ (s : Nodes) (fall : RankDecreases s) where
   call_bound _ = refl
 
   calls_bound : (cs : List Call) → sum_by (bound_by s) (children cs) ≡ sum_by (λ q. length (binds s q)) (flat_map pat_of_call cs)
-  calls_bound cs =
-      sum_flat (bound_by s) child cs
-      ∙ (sum_same (λ c. sum_by (bound_by s) (child c)) (λ c. sum_by (λ q. length (binds s q)) (pat_of_call c)) cs (λ c i. call_bound c)
-      ∙ sym (sum_flat (λ q. length (binds s q)) pat_of_call cs))
+  calls_bound cs = search (rules, sum_flat, bound_by, sum_same, call_bound)
 
   pat_empty : (id : ℕ) → entries_of_node s (NodeId.Pat id) ≡ 0
   pat_empty id = at (slice_get s.pats id) where
@@ -99,29 +89,11 @@ module _ (s : Nodes) (fall : RankDecreases s) where
       ≡ bindings_at s id ++ flat_map (bindings_in s) (child_pats_of s id)) where
     bound_told : (id : ℕ) → id < length s.pats → length (binds s id)
         ≡ length (bindings_at s id) + sum_by (λ q. length (binds s q)) (child_pats_of s id)
-    bound_told id h =
-        let a =
-        ap (λ (bs : List ℕ). length bs) (told id h) ∙ length-append (bindings_at s id)
-        (flat_map (bindings_in s) (child_pats_of s id)) in
-        let b = sum_same (λ q. length (bindings_in s q)) (λ q. length (binds s q)) (child_pats_of s id)
-        (λ q i. sym (binds_length s sound q)) in
-        omega (arith, binds_length s sound id, a, length-flat_map (bindings_in s) (child_pats_of s id), b)
+    bound_told id h = search (rules, length-append, sum_same, binds_length, length-flat_map)
 
     node_told : (n : NodeId) → Has s n → node_entries s n + sum_by (bound_by s) (children_of s n) ≡ bound_by s n + entries_of_node s n
-    node_told (NodeId.Expr id) h =
-        omega (
-          arith,
-          form_entries s no_around (form_of s (NodeId.Expr id)) (expr_meets_at id),
-          children_bound
-              (NodeId.Expr id),
-        )
-    node_told (NodeId.TypeRef id) h =
-        omega (
-          arith,
-          form_entries s no_around (form_of s (NodeId.TypeRef id)) (type_meets_at id),
-          children_bound
-              (NodeId.TypeRef id),
-        )
+    node_told (NodeId.Expr id) h = search (rules, form_entries, expr_meets_at, children_bound)
+    node_told (NodeId.TypeRef id) h = search (rules, form_entries, type_meets_at, children_bound)
     node_told (NodeId.Pat id) h = omega (arith, bound_told id h, calls_bound (calls_of s (NodeId.Pat id)), pat_empty id)
 
     -- 3. With all nodes under it
@@ -143,6 +115,4 @@ module _ (s : Nodes) (fall : RankDecreases s) where
         sum_by (total s (node_entries s)) entry_nodes
         ≡ sum_by (bound_by s) entry_nodes + sum_by (total s (entries_of_node s)) entry_nodes
     entries_total entry_nodes in_range =
-        sum_same (total s (node_entries s)) (λ k. bound_by s k + total s (entries_of_node s) k) entry_nodes
-        (λ k i. entries_under (suc (rank s k)) k (omega arith) (in_range k i))
-        ∙ sum_plus (bound_by s) (total s (entries_of_node s)) entry_nodes
+        grind (arith, common_steps, sum_same, bound_by s, entries_under, sum_plus (bound_by s) (total s (entries_of_node s)) entry_nodes)

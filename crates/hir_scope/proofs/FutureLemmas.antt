@@ -1,5 +1,5 @@
 -- What tasks will visit: of a form, and of the entry nodes of a body or a signature.
-use Rattle.std.proofs.Common.{◌≡◌, ℕ, List, [], ◌∷◌, ◌++◌, map, refl, sym, ap, ◌∙◌, append_assoc, Option, Some, None}
+use Rattle.std.proofs.Common.{◌≡◌, ℕ, List, [], ◌∷◌, ◌++◌, map, refl, sym, ap, ◌∙◌, append_assoc, Option, Some, None, rules, arith}
 use Rattle.std.proofs.lemmas.List.{append-nil, map-append}
 use Rattle.std.proofs.lemmas.List.{Concat.flat_map-append, Elements.filter-append}
 use Rattle.std.specs.{List.flat_map, Option.option_to_list, Option.option_map}
@@ -9,12 +9,11 @@ use Rattle.hir_node.specs.declared.node_id.NodeId.{NodeId}
 use Rattle.hir_validate.specs.declared.node_arenas.Nodes.{Nodes}
 use Rattle.hir_scope.specs.{Chains.InContext, Chains.child_in_context, ScopingForms.ScopingForm}
 use Rattle.hir_scope.specs.ScopingForms as form
-use Rattle.hir_scope.specs.Frames.{Frame, Chain, frame, of_kind, empty}
+use Rattle.hir_scope.specs.Frames.{Frame, Chain, frame, empty}
 use Rattle.hir_scope.specs.{OpenFrames.open_frames, OpenFrames.open_frames_of_calls, OpenFrames.open_frames_of_form, Order.met_in_arm}
-use Rattle.hir_scope.specs.{Order.met_in_closure}
-use Rattle.hir_scope.specs.ChildContexts.{ChildContext, call_child_context, in_turn, own_frame, block_const_frames, frames_after}
+use Rattle.hir_scope.specs.ChildContexts.{ChildContext, in_turn, frames_after}
 use Rattle.hir_scope.specs.ChildContexts.{const_frames_after, statement_child_contexts, block_child_contexts, arm_child_contexts}
-use Rattle.hir_scope.specs.ChildContexts.{loop_kind, child_contexts_of_form}
+use Rattle.hir_scope.specs.ChildContexts.{child_contexts_of_form}
 use Rattle.hir_scope.specs.EntryNodes.{root_frame, body_entry_nodes, signature_entry_nodes}
 use Rattle.hir_scope.specs.declared.tasks.CurrentScopes.{CurrentScopes}
 use Rattle.hir_scope.specs.declared.tasks.Task.{Task}
@@ -22,6 +21,7 @@ use Rattle.hir_scope.specs.internal.Pending.{tasks_of, arm_task, one_arm, arm_wi
 use Rattle.hir_scope.specs.internal.Pending.{opened_const_frames, future}
 use Rattle.hir_scope.specs.internal.ContextsUnder.{in_context, exprs_under}
 use Rattle.hir_scope.proofs.ChildLemmas.{children_in, turn_children}
+use Rattle.std.proofs.lemmas.Grind.{common_steps}
 
 -- 1. What is still to do before a task is what it does, and then what is still to do after it.
 
@@ -37,10 +37,7 @@ module _ (s : Nodes) (chain : ℕ → Chain) where
   two : (h k : Chain) (xs ys : List ChildContext) (rest : List InContext) →
       exprs_under s (map (child_in_context h k) (xs ++ ys)) ++ rest
       ≡ exprs_under s (map (child_in_context h k) xs) ++ (exprs_under s (map (child_in_context h k) ys) ++ rest)
-  two h k xs ys rest =
-      ap (λ (ps : List InContext). exprs_under s ps ++ rest) (map-append (child_in_context h k) xs ys)
-      ∙ (ap (λ (ps : List InContext). ps ++ rest) (exprs_under-append s (map (child_in_context h k) xs) (map (child_in_context h k) ys))
-      ∙ append_assoc (exprs_under s (map (child_in_context h k) xs)) (exprs_under s (map (child_in_context h k) ys)) rest)
+  two h k xs ys rest = search (rules, map-append, exprs_under-append, append_assoc)
 
   none : (rest : List InContext) → exprs_under s [] ++ rest ≡ rest
   none rest = ap (λ (ps : List InContext). ps ++ rest) (exprs_under-nil s)
@@ -48,8 +45,7 @@ module _ (s : Nodes) (chain : ℕ → Chain) where
   head : (at : InContext) (ps rest : List InContext) → exprs_under s (at ∷ ps) ++ rest
       ≡ exprs_under s (at ∷ []) ++ (exprs_under s ps ++ rest)
   head at ps rest =
-      ap (λ (qs : List InContext). qs ++ rest) (exprs_under-append s (at ∷ []) ps)
-      ∙ append_assoc (exprs_under s (at ∷ [])) (exprs_under s ps) rest
+      grind (arith, common_steps, exprs_under-append s (at ∷ []) ps, append_assoc (exprs_under s (at ∷ [])) (exprs_under s ps) rest)
 
   -- children in turn are the tasks of their calls
   pub future_turn : (h k const_frames frames : Chain) (cs : List Call) (ts : List Task) →
@@ -69,13 +65,7 @@ module _ (s : Nodes) (chain : ℕ → Chain) where
       ∙ (future_turn h k const_frames (l ++ frames) cs ts ∙ ap (λ (c : Chain). future s chain c K (tasks_of cs ++ ts))
       (append_assoc l frames h)))
   future_turn h k const_frames frames (OnAnonConst x ∷ cs) ts =
-      let K = const_frames ++ k in
-      let ps = map (child_in_context h k) (in_turn s const_frames frames cs) in
-      head (in_context (NodeId.Expr x) K K) ps _
-      ∙ ap (λ (qs : List InContext). exprs_under s (in_context (NodeId.Expr x) K K ∷ []) ++ qs)
-      (ap (λ (c : Chain). exprs_under s ps ++ future s chain (c ++ h) K ts)
-      (append_assoc (open_frames_of_calls (open_frames s) cs) [] frames)
-      ∙ future_turn h k const_frames frames cs ts)
+      search (rules, head, append_assoc, future_turn h k const_frames frames cs ts)
   future_turn h k const_frames frames (OnPat x ∷ cs) ts =
       let l = open_frames s (NodeId.Pat x) in
       let K = const_frames ++ k in
@@ -86,29 +76,14 @@ module _ (s : Nodes) (chain : ℕ → Chain) where
       (append_assoc (open_frames_of_calls (open_frames s) cs) l frames)
       ∙ (future_turn h k const_frames (l ++ frames) cs ts ∙ ap (λ (c : Chain). future s chain c K (tasks_of cs ++ ts))
       (append_assoc l frames h)))
-  future_turn h k const_frames frames (OnType x ∷ cs) ts =
-      let K = const_frames ++ k in
-      let ps = map (child_in_context h k) (in_turn s const_frames frames cs) in
-      head (in_context (NodeId.TypeRef x) K K) ps _
-      ∙ ap (λ (qs : List InContext). exprs_under s (in_context (NodeId.TypeRef x) K K ∷ []) ++ qs)
-      (ap (λ (c : Chain). exprs_under s ps ++ future s chain (c ++ h) K ts)
-      (append_assoc (open_frames_of_calls (open_frames s) cs) [] frames)
-      ∙ future_turn h k const_frames frames cs ts)
-  future_turn h k const_frames frames (OnLifetime x ∷ cs) ts =
-      let K = const_frames ++ k in
-      let ps = map (child_in_context h k) (in_turn s const_frames frames cs) in
-      ap (λ (c : Chain). exprs_under s ps ++ future s chain (c ++ h) K ts)
-      (append_assoc (open_frames_of_calls (open_frames s) cs) [] frames)
-      ∙ future_turn h k const_frames frames cs ts
+  future_turn h k const_frames frames (OnType x ∷ cs) ts = search (rules, head, append_assoc, future_turn h k const_frames frames cs ts)
+  future_turn h k const_frames frames (OnLifetime x ∷ cs) ts = search (rules, append_assoc, future_turn h k const_frames frames cs ts)
 
   -- the same, on nothing
   pub turn_bare : (h k : Chain) (cs : List Call) (ts : List Task) →
       exprs_under s (map (child_in_context h k) (in_turn s [] [] cs)) ++ future s chain
       (open_frames_of_calls (open_frames s) cs ++ h) k ts ≡ future s chain h k (tasks_of cs ++ ts)
-  turn_bare h k cs ts =
-      ap (λ (c : Chain). exprs_under s (map (child_in_context h k) (in_turn s [] [] cs)) ++ future s chain
-      (c ++ h) k ts) (sym (append-nil (open_frames_of_calls (open_frames s) cs)))
-      ∙ future_turn h k [] [] cs ts
+  turn_bare h k cs ts = grind (arith, common_steps, append-nil (open_frames_of_calls (open_frames s) cs), future_turn h k [] [] cs ts)
 
   -- the same, where what is added ends with them
   pub turn_ended : (h k const_frames frames : Chain) (cs : List Call) (a : CurrentScopes) (ts : List Task) →
@@ -117,11 +92,7 @@ module _ (s : Nodes) (chain : ℕ → Chain) where
       ≡ future s chain (frames ++ h) (const_frames ++ k) ((tasks_of cs ++ leave a ∷ []) ++ ts)
   unfolding future
   turn_ended h k const_frames frames cs a ts eh ek =
-      let ps = exprs_under s (map (child_in_context h k) (in_turn s const_frames frames cs)) in
-      ap (λ (c : Chain). ps ++ future s chain c k ts) (sym eh)
-      ∙ (ap (λ (c : Chain). ps ++ future s chain (chain a.scope) c ts) (sym ek)
-      ∙ (future_turn h k const_frames frames cs (leave a ∷ ts)
-      ∙ ap (λ (us : List Task). future s chain (frames ++ h) (const_frames ++ k) us) (sym (append_assoc (tasks_of cs) (leave a ∷ []) ts))))
+      grind (arith, common_steps, future_turn h k const_frames frames cs (leave a ∷ ts), append_assoc (tasks_of cs) (leave a ∷ []) ts)
 
   -- what is added first may be part of what is around
   moved : (h k const_frames outer frames : Chain) (cs : List Call) →
@@ -136,9 +107,7 @@ module _ (s : Nodes) (chain : ℕ → Chain) where
       ap (λ (c : Chain). in_context (NodeId.Expr x) c (const_frames ++ k) ∷ map (child_in_context h k)
       (in_turn s const_frames (l ++ (frames ++ outer)) cs)) (append_assoc frames outer h)
       ∙ ap (λ (ps : List InContext). in_context (NodeId.Expr x) (frames ++ (outer ++ h)) (const_frames ++ k) ∷ ps) r
-  moved h k const_frames outer frames (OnAnonConst x ∷ cs) =
-      ap (λ (ps : List InContext). in_context (NodeId.Expr x) (const_frames ++ k) (const_frames ++ k) ∷ ps)
-      (moved h k const_frames outer frames cs)
+  moved h k const_frames outer frames (OnAnonConst x ∷ cs) = search (rules, moved h k const_frames outer frames cs)
   moved h k const_frames outer frames (OnPat x ∷ cs) =
       let l = open_frames s (NodeId.Pat x) in
       let r =
@@ -147,9 +116,7 @@ module _ (s : Nodes) (chain : ℕ → Chain) where
       ap (λ (c : Chain). in_context (NodeId.Pat x) c (const_frames ++ k) ∷ map (child_in_context h k)
       (in_turn s const_frames (l ++ (frames ++ outer)) cs)) (append_assoc frames outer h)
       ∙ ap (λ (ps : List InContext). in_context (NodeId.Pat x) (frames ++ (outer ++ h)) (const_frames ++ k) ∷ ps) r
-  moved h k const_frames outer frames (OnType x ∷ cs) =
-      ap (λ (ps : List InContext). in_context (NodeId.TypeRef x) (const_frames ++ k) (const_frames ++ k) ∷ ps)
-      (moved h k const_frames outer frames cs)
+  moved h k const_frames outer frames (OnType x ∷ cs) = search (rules, moved h k const_frames outer frames cs)
   moved h k const_frames outer frames (OnLifetime x ∷ cs) = moved h k const_frames outer frames cs
 
   pub future_arm_task : (h k : Chain) (pat expr : ℕ) (guard : Option ℕ) (ts : List Task) →
@@ -213,16 +180,13 @@ module _ (s : Nodes) (chain : ℕ → Chain) where
   unfolding future
   future_block h k const_frames frames a [] tail ts eh ek = turn_ended h k const_frames frames (opt e tail) a ts eh ek
   future_block h k const_frames frames a (x ∷ xs) tail ts eh ek =
-      let X = tasks_of (opt e tail) ++ leave a ∷ [] in
-      two h k (statement_child_contexts s const_frames frames x)
-      (block_child_contexts s (const_frames_after x ++ const_frames) (frames_after s x ++ frames) xs tail) _
-      ∙ (ap (λ (ps : List InContext). exprs_under s
-      (map (child_in_context h k) (statement_child_contexts s const_frames frames x)) ++ ps)
-      (future_block h k (const_frames_after x ++ const_frames) (frames_after s x ++ frames) a xs tail ts eh ek)
-      ∙ (future_statement h k const_frames frames x ((flat_map statement_tasks xs ++ X) ++ ts)
-      ∙ ap (λ (us : List Task). future s chain (frames ++ h) (const_frames ++ k) us)
-      (sym (append_assoc (statement_tasks x) (flat_map statement_tasks xs ++ X) ts)
-      ∙ ap (λ (us : List Task). us ++ ts) (sym (append_assoc (statement_tasks x) (flat_map statement_tasks xs) X)))))
+      search (
+        rules,
+        two,
+        future_statement,
+        append_assoc,
+        future_block h k (const_frames_after x ++ const_frames) (frames_after s x ++ frames) a xs tail ts eh ek,
+      )
 
   -- types see none of what is added
   ret_turn : (frames : Chain) (ret : Option ℕ) (cs : List Call) →
@@ -235,9 +199,7 @@ module _ (s : Nodes) (chain : ℕ → Chain) where
       ≡ in_turn s [] frames ((flat_map (opt t) types ++ opt t ret) ++ cs)
   closure_turn frames [] ret cs = ret_turn frames ret cs
   closure_turn frames (None ∷ types) ret cs = closure_turn frames types ret cs
-  closure_turn frames (Some x ∷ types) ret cs =
-      ap (λ (ss : List ChildContext). call_child_context [] frames (OnType x) ++ ss)
-      (closure_turn frames types ret cs)
+  closure_turn frames (Some x ∷ types) ret cs = search (rules, closure_turn frames types ret cs)
 
   -- what is inside a node is its tasks
   pub future_form : (a : CurrentScopes) (x : ScopingForm) (ts : List Task) → let h = chain a.scope in
@@ -253,40 +215,18 @@ module _ (s : Nodes) (chain : ℕ → Chain) where
       ∙ (ap (λ (ps : List InContext). exprs_under s
       (map (child_in_context h k) (in_turn s [] (empty ∷ []) (e c ++ e y))) ++ ps) (turn_bare h k (opt e f) ts)
       ∙ future_turn h k [] (empty ∷ []) (e c ++ e y) (leave a ∷ (tasks_of (opt e f) ++ ts)))
-  future_form a (form.Let pat x) ts =
-      let h = chain a.scope in
-      let k = chain a.const_scope in
-      let l = open_frames s (NodeId.Expr x) in
-      let f = frame s (pat ∷ []) in
-      head (in_context (NodeId.Expr x) h k) (in_context (NodeId.Pat pat) (f ∷ (l ++ h)) k ∷ []) _
-      ∙ ap (λ (c : Chain). exprs_under s (in_context (NodeId.Expr x) h k ∷ [])
-      ++ (exprs_under s (in_context (NodeId.Pat pat) (f ∷ (l ++ h)) k ∷ []) ++ future s chain c k ts))
-      (append_assoc (open_frames s (NodeId.Pat pat)) (f ∷ l) h)
-  future_form a (form.Block id label xs tail) ts =
-      future_block (chain a.scope) (chain a.const_scope) (block_const_frames id)
-      (own_frame id label ∷ []) a xs tail ts refl refl
-  future_form a (form.Loop label body) ts =
-      turn_ended (chain a.scope) (chain a.const_scope) [] (of_kind (loop_kind label) ∷ []) (e body) a ts refl refl
-  future_form a (form.Closure types ret args body) ts =
-      let h = chain a.scope in
-      let k = chain a.const_scope in
-      ap (λ (ss : List ChildContext). exprs_under s (map (child_in_context h k) ss) ++ future s chain h k ts)
-      (closure_turn (frame s args ∷ []) types ret (flat_map p args ++ e body))
-      ∙ turn_ended h k [] (frame s args ∷ []) (met_in_closure types ret args body) a ts refl refl
+  future_form a (form.Let pat x) ts = search (rules, head, append_assoc)
+  future_form a (form.Block id label xs tail) ts = search (rules, future_block)
+  future_form a (form.Loop label body) ts = search (rules, turn_ended)
+  future_form a (form.Closure types ret args body) ts = search (rules, closure_turn, turn_ended)
   future_form a (form.Match x arms) ts =
       let h = chain a.scope in
       let k = chain a.const_scope in
       let l = open_frames s (NodeId.Expr x) in
       two h k (in_turn s [] [] (e x)) (flat_map (arm_child_contexts s l) arms) _
       ∙ ap (λ (ps : List InContext). exprs_under s (in_context (NodeId.Expr x) h k ∷ []) ++ ps) (future_arms h k l arms ts)
-  future_form a (form.Assignment target value) ts =
-      let h = chain a.scope in
-      let k = chain a.const_scope in
-      head (in_context (NodeId.Pat target) (frame s (target ∷ []) ∷ h) k) (in_context (NodeId.Expr value) h k ∷ []) _
-  future_form a (form.PatternType ty pat) ts =
-      let h = chain a.scope in
-      let k = chain a.const_scope in
-      head (in_context (NodeId.TypeRef ty) k k) (in_context (NodeId.Pat pat) (frame s (pat ∷ []) ∷ h) k ∷ []) _
+  future_form a (form.Assignment target value) ts = search (rules, head)
+  future_form a (form.PatternType ty pat) ts = search (rules, head)
   future_form a (form.InTurn cs) ts = turn_bare (chain a.scope) (chain a.const_scope) cs ts
 
 -- 2. The entry nodes of a body and of a signature: which nodes they are, and that the tasks of a walk over
@@ -309,10 +249,7 @@ pub body_top_nodes : (s : Nodes) (self : Option ℕ) (formals : List ℕ) (last 
     map (λ (at : InContext). at.node) (body_entry_nodes s self formals last)
     ≡ map NodeId.Pat formals ++ option_to_list (option_map NodeId.Expr last)
 unfolding body_entry_nodes
-body_top_nodes s self formals last =
-    let root = root_frame s self formals ∷ [] in
-    let cs = flat_map p formals ++ opt e last in
-    nodes_of_contexts [] [] (in_turn s root root cs) ∙ (turn_children s root root cs ∙ top_children formals last)
+body_top_nodes s self formals last = search (rules, nodes_of_contexts, turn_children, top_children)
 
 -- what is still to do at first is what is under the entry nodes
 pub body_future : (s : Nodes) (chain : ℕ → Chain) (self : Option ℕ) (formals : List ℕ) (last : Option ℕ) →

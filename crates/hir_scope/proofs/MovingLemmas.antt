@@ -1,6 +1,6 @@
 -- How a walk goes on: scopes that are added and opened, a task that is done, and what is done in all.
-use Rattle.std.proofs.Common.{◌≡◌, ℕ, suc, ◌+◌, ◌<◌, ◌≤◌, List, [], ◌∷◌, ◌++◌, Option, Some, None, map, length, refl, ap, ◌∙◌, arith, sym}
-use Rattle.std.proofs.Common.{append_assoc, subst, length-append, inl, inr, ◌⊎◌, ⊎_elim}
+use Rattle.std.proofs.Common.{◌≡◌, ℕ, suc, ◌+◌, ◌<◌, ◌≤◌, List, [], ◌∷◌, ◌++◌, Option, Some, map, length, refl, ap, ◌∙◌, arith, sym, rules}
+use Rattle.std.proofs.Common.{append_assoc, subst, length-append, ◌⊎◌}
 use Rattle.std.proofs.lemmas.List.{get_or_append_left, get_or_push, length_push, append-nil, length-map, map-append}
 use Rattle.std.proofs.lemmas.List.Elements.{All-nil, All-cons, All-append, All-weaker}
 use Rattle.std.proofs.lemmas.List.Sums.{sum_by-append, sum_by-cons}
@@ -11,22 +11,23 @@ use Rattle.std.specs.{Ordering.nat_cmp, Prelude.Result, Prelude.OnOk}
 use Rattle.hir_node.specs.declared.node_id.NodeId.{NodeId}
 use Rattle.hir_validate.specs.{declared.node_arenas.Nodes.Nodes, TestedParts.all_of}
 use Rattle.hir_validate.proofs.SoundLemmas.{item_at}
-use Rattle.hir_scope.specs.Chains.{InContext, child_in_context, within_own}
+use Rattle.hir_scope.specs.Chains.{InContext, within_own}
 use Rattle.hir_scope.specs.ScopingForms.{ScopingForm, form_of}
 use Rattle.hir_scope.specs.ScopingForms as form
 use Rattle.hir_scope.specs.Frames.{Frame, Chain, frame, of_kind, empty}
 use Rattle.hir_scope.specs.{OpenFrames.open_frames, Paths.path, Paths.frame_at, Paths.chain}
-use Rattle.hir_scope.specs.{Scopes.Scope, Scopes.frame_of, Scopes.Scopes, Scopes.entry_count, ChildContexts.arm_child_contexts}
+use Rattle.hir_scope.specs.{Scopes.Scope, Scopes.frame_of, Scopes.Scopes, Scopes.entry_count}
 use Rattle.hir_scope.specs.declared.scope.{ScopeEntry.ScopeEntry, ScopeKind.ScopeKind}
 use Rattle.hir_scope.specs.declared.{tasks.CurrentScopes.CurrentScopes, tasks.Task.Task, walk.Walk.Walk}
-use Rattle.hir_scope.specs.internal.WalkState.{with_next, chain_of, LeavesWithin, HasFrames, WalkState, frames_of_scope}
-use Rattle.hir_scope.specs.internal.WalkState.{frames_of_const_scope, future_of, about, AreInRange, IsReady, weight_left, one}
+use Rattle.hir_scope.specs.internal.WalkState.{with_next, chain_of, LeavesWithin, HasFrames, WalkState}
+use Rattle.hir_scope.specs.internal.WalkState.{future_of, about, AreInRange, IsReady, weight_left, one}
 use Rattle.hir_scope.specs.internal.WalkState.{count_entries, Over, Exceeds, turns_left, Opens, OpensScopes, Step, scope_within}
 use Rattle.hir_scope.specs.internal.WalkState.{ScopeAssigned, context_assigned, write_all, IsRight, WalkSteps, CountedStep}
-use Rattle.hir_scope.specs.internal.Pending.{future, arm_with, opened_frames}
+use Rattle.hir_scope.specs.internal.Pending.{future, opened_frames}
 use Rattle.hir_scope.specs.internal.ContextsUnder.{in_context, exprs_under}
 use Rattle.hir_scope.proofs.MemberLemmas.{sum_mapped, sum_ones}
 use Rattle.hir_scope.proofs.PathLemmas.{path_kept, path_new, path_members}
+use Rattle.std.proofs.lemmas.Grind.{common_steps}
 
 -- 1. Later scopes change nothing: no chain of an earlier scope, and nothing of what is still to do.
 
@@ -57,22 +58,16 @@ path_frames_kept scopes more o = frames_kept scopes more (path scopes o) (path_m
 
 -- later scopes change no chain
 pub chain_kept : (scopes more : List Scope) (s : ℕ) → s < length scopes → chain_of (scopes ++ more) s ≡ chain_of scopes s
-chain_kept scopes more s h =
-    ap (flat_map (frame_at (scopes ++ more))) (path_kept scopes more (Some s) h) ∙ path_frames_kept scopes more
-    (Some s)
+chain_kept scopes more s h = search (rules, path_kept, path_frames_kept)
 
 -- the chain of one scope more
 pub chain_new : (scopes : List Scope) (x : Scope) (s : ℕ) → s ≡ length scopes → chain_of (scopes ++ x ∷ []) s
     ≡ frame_of x ∷ chain scopes x.parent
-chain_new scopes x s e =
-    ap (flat_map (frame_at (scopes ++ x ∷ []))) (path_new scopes x s e)
-    ∙ (ap (λ (o : Option Scope). frames_of o ++ flat_map (frame_at (scopes ++ x ∷ [])) (path scopes x.parent)) (slice_last scopes x s e)
-    ∙ ap (λ (c : Chain). frame_of x ∷ c) (path_frames_kept scopes (x ∷ []) x.parent))
+chain_new scopes x s e = search (rules, path_new, slice_last, path_frames_kept)
 
 pub frames_grown : (scopes grown more : List Scope) (s : ℕ) (frames : Chain) → grown ≡ scopes ++ more →
     HasFrames scopes s frames → HasFrames grown s frames
-frames_grown scopes grown more s frames e h =
-    rw e (record { within = omega (arith, h.within, length-append scopes more); is = chain_kept scopes more s h.within ∙ h.is })
+frames_grown scopes grown more s frames e h = search (rules, length-append, chain_kept)
 
 -- What is still to do
 
@@ -88,28 +83,15 @@ pub future_agrees : (s : Nodes) (f g : ℕ → Chain) (n : ℕ) → ((i : ℕ) �
 unfolding future
 future_agrees s f g n agree h k [] l = refl
 future_agrees s f g n agree h k (Task.Expr id ∷ ts) l =
-    ap (λ (ps : List InContext). exprs_under s (in_context (NodeId.Expr id) h k ∷ []) ++ ps)
-    (future_agrees s f g n agree (open_frames s (NodeId.Expr id) ++ h) k ts l)
-future_agrees s f g n agree h k (Task.Constant id ∷ ts) l =
-    ap (λ (ps : List InContext). exprs_under s (in_context (NodeId.Expr id) k k ∷ []) ++ ps)
-    (future_agrees s f g n agree h k ts l)
+    search (rules, future_agrees s f g n agree (open_frames s (NodeId.Expr id) ++ h) k ts l)
+future_agrees s f g n agree h k (Task.Constant id ∷ ts) l = search (rules, future_agrees s f g n agree h k ts l)
 future_agrees s f g n agree h k (Task.Pat id ∷ ts) l =
-    ap (λ (ps : List InContext). exprs_under s (in_context (NodeId.Pat id) h k ∷ []) ++ ps)
-    (future_agrees s f g n agree (open_frames s (NodeId.Pat id) ++ h) k ts l)
-future_agrees s f g n agree h k (Task.TypeRef id ∷ ts) l =
-    ap (λ (ps : List InContext). exprs_under s (in_context (NodeId.TypeRef id) k k ∷ []) ++ ps)
-    (future_agrees s f g n agree h k ts l)
+    search (rules, future_agrees s f g n agree (open_frames s (NodeId.Pat id) ++ h) k ts l)
+future_agrees s f g n agree h k (Task.TypeRef id ∷ ts) l = search (rules, future_agrees s f g n agree h k ts l)
 future_agrees s f g n agree h k (Task.Bound id ∷ ts) l =
-    ap (λ (ps : List InContext). exprs_under s (in_context (NodeId.Pat id) (frame s (id ∷ []) ∷ h) k ∷ []) ++ ps)
-    (future_agrees s f g n agree (open_frames s (NodeId.Pat id) ++ (frame s (id ∷ []) ∷ h)) k ts l)
-future_agrees s f g n agree h k (Task.Arm p x ∷ ts) l =
-    ap (λ (ps : List InContext). exprs_under s
-    (map (child_in_context h k) (arm_child_contexts s [] (arm_with p x None))) ++ ps)
-    (future_agrees s f g n agree h k ts l)
-future_agrees s f g n agree h k (Task.GuardedArm p y x ∷ ts) l =
-    ap (λ (ps : List InContext). exprs_under s
-    (map (child_in_context h k) (arm_child_contexts s [] (arm_with p x (Some y)))) ++ ps)
-    (future_agrees s f g n agree h k ts l)
+    search (rules, future_agrees s f g n agree (open_frames s (NodeId.Pat id) ++ (frame s (id ∷ []) ∷ h)) k ts l)
+future_agrees s f g n agree h k (Task.Arm p x ∷ ts) l = search (rules, future_agrees s f g n agree h k ts l)
+future_agrees s f g n agree h k (Task.GuardedArm p y x ∷ ts) l = search (rules, future_agrees s f g n agree h k ts l)
 future_agrees s f g n agree h k (Task.MacroDef id ∷ ts) l =
     future_agrees s f g n agree (of_kind (ScopeKind.MacroDef id) ∷ h) (of_kind (ScopeKind.MacroDef id) ∷ k) ts l
 future_agrees s f g n agree h k (Task.Root id ∷ ts) l =
@@ -119,10 +101,7 @@ future_agrees s f g n agree h k (Task.Root id ∷ ts) l =
     ap next (agree 0 l.0)
     ∙ ap (λ (ps : List InContext). exprs_under s (in_context (NodeId.Expr id) outer outer ∷ []) ++ ps)
     (future_agrees s f g n agree (open_frames s (NodeId.Expr id) ++ outer) outer ts l.1)
-future_agrees s f g n agree h k (Task.Leave a b ∷ ts) l =
-    ap (λ (c : Chain). future s f c (f b) ts) (agree a l.0)
-    ∙ (ap (λ (c : Chain). future s f (g a) c ts) (agree b l.1)
-    ∙ future_agrees s f g n agree (g a) (g b) ts l.2)
+future_agrees s f g n agree h k (Task.Leave a b ∷ ts) l = search (rules, future_agrees s f g n agree (g a) (g b) ts l.2)
 
 -- 2. How a walk goes on: scopes that are opened, and a task that is done.
 
@@ -137,8 +116,7 @@ child parent kind entries = record { parent = Some parent; kind = kind; entries 
 child_frames : (scopes grown : List Scope) (p s : ℕ) (k : ScopeKind) (es : List ScopeEntry) → grown
     ≡ scopes ++ child p k es ∷ [] → s ≡ length scopes →
     HasFrames grown s (record { kind = k; entries = es } ∷ chain_of scopes p)
-child_frames scopes grown p s k es g i =
-    rw g (record { within = omega (arith, i, length_push scopes (child p k es)); is = chain_new scopes (child p k es) s i })
+child_frames scopes grown p s k es g i = search (rules, length_push, chain_new)
 
 pub opened_frames_are : (old new : WalkState) (k : ScopeKind) (es : List ScopeEntry) → new.scopes.scopes
     ≡ old.scopes.scopes ++ child old.current.scope k es ∷ [] → new.scopes.scope_by_expr ≡ old.scopes.scope_by_expr →
@@ -146,17 +124,7 @@ pub opened_frames_are : (old new : WalkState) (k : ScopeKind) (es : List ScopeEn
     ≡ old.tasks → old.current.const_scope < length old.scopes.scopes →
     OpensScopes old new (record { kind = k; entries = es } ∷ []) []
 opened_frames_are old new k es g same i c ts l =
-    record {
-      more = child old.current.scope k es ∷ [];
-      grows = g;
-      same = same;
-      tasks = ts;
-      frames = λ w. refl;
-      scope = child_frames old.scopes.scopes new.scopes.scopes old.current.scope new.current.scope k es g i;
-      const_scope = frames_grown old.scopes.scopes new.scopes.scopes
-          (child old.current.scope k es ∷ []) new.current.const_scope (frames_of_const_scope old) g
-          (subst (λ (s : ℕ). HasFrames old.scopes.scopes s (frames_of_const_scope old)) (sym c) (record { within = l; is = refl }));
-    }
+    search (rules, arith, child_frames old.scopes.scopes new.scopes.scopes old.current.scope new.current.scope k es g i, frames_grown)
 
 pub opened_const_frames_are : (old new : WalkState) (k : ScopeKind) (es : List ScopeEntry) → new.scopes.scopes
     ≡ old.scopes.scopes ++ child old.current.const_scope k es ∷ [] → new.scopes.scope_by_expr
@@ -164,51 +132,25 @@ pub opened_const_frames_are : (old new : WalkState) (k : ScopeKind) (es : List S
     ≡ old.current.scope → new.tasks ≡ old.tasks → old.current.scope < length old.scopes.scopes →
     OpensScopes old new [] (record { kind = k; entries = es } ∷ [])
 opened_const_frames_are old new k es g same i h ts l =
-    record {
-      more = child old.current.const_scope k es ∷ [];
-      grows = g;
-      same = same;
-      tasks = ts;
-      frames = λ w. refl;
-      const_scope = child_frames old.scopes.scopes new.scopes.scopes old.current.const_scope new.current.const_scope k es g i;
-      scope = frames_grown old.scopes.scopes new.scopes.scopes
-          (child old.current.const_scope k es ∷ []) new.current.scope (frames_of_scope old) g
-          (subst (λ (s : ℕ). HasFrames old.scopes.scopes s (frames_of_scope old)) (sym h) (record { within = l; is = refl }));
-    }
+    search (
+      rules,
+      arith,
+      child_frames old.scopes.scopes new.scopes.scopes old.current.const_scope new.current.const_scope k es g i,
+      frames_grown,
+    )
 
 frames_sum_grown : (w : Frame → ℕ) (scopes grown more : List Scope) → grown ≡ scopes ++ more →
     sum_by w (map frame_of grown) ≡ sum_by w (map frame_of scopes) + sum_by w (map frame_of more)
-frames_sum_grown w scopes grown more g =
-    ap (λ (xs : List Scope). sum_by w (map frame_of xs)) g
-    ∙ (ap (sum_by w) (map-append frame_of scopes more) ∙ sum_by-append w (map frame_of scopes) (map frame_of more))
+frames_sum_grown w scopes grown more g = search (rules, map-append, sum_by-append)
 
 pub opened_then : (old mid new : WalkState) (f : Frame) (gs : Chain) → OpensScopes old mid (f ∷ []) [] →
     OpensScopes mid new [] gs → OpensScopes old new (f ∷ []) gs
-opened_then old mid new f gs a b =
-    record {
-      more = a.more ++ b.more;
-      grows = b.grows ∙ (ap (λ (xs : List Scope). xs ++ b.more) a.grows ∙ append_assoc old.scopes.scopes a.more b.more);
-      same = b.same ∙ a.same;
-      tasks = b.tasks ∙ a.tasks;
-      frames = λ w.
-          omega (arith, a.frames w, b.frames w, frames_sum_grown w a.more (a.more ++ b.more) b.more refl, sum_by-append w (f ∷ []) gs);
-      scope = subst (HasFrames new.scopes.scopes new.current.scope) a.scope.is b.scope;
-      const_scope = subst (λ (c : Chain). HasFrames new.scopes.scopes new.current.const_scope (gs ++ c)) a.const_scope.is b.const_scope;
-    }
+opened_then old mid new f gs a b = grind (arith, common_steps, append_assoc, frames_sum_grown, sum_by-append)
 
 -- the same machine, where none is opened
 pub opened_none : (m : WalkState) → m.current.scope < length m.scopes.scopes →
     m.current.const_scope < length m.scopes.scopes → OpensScopes m m [] []
-opened_none m h c =
-    record {
-      more = [];
-      grows = sym (append-nil m.scopes.scopes);
-      same = refl;
-      tasks = refl;
-      frames = λ w. refl;
-      scope = record { within = h; is = refl };
-      const_scope = record { within = c; is = refl };
-    }
+opened_none m h c = search (rules, append-nil)
 
 -- the scope of an expression is that of its chain
 pub own_frames : (s : Nodes) (x : ScopingForm) (scopes : List Scope) (inside outside : ℕ) (h : Chain) →
@@ -229,36 +171,17 @@ entries_weigh scopes = sum_mapped count_entries frame_of scopes
 pub over_new : (scopes : List Scope) (f : Frame) →
     (4294967295 < length scopes + 1) ⊎ (4294967295 < entry_count scopes + length f.entries) →
     Over (map frame_of scopes ++ f ∷ [])
-over_new scopes f o =
-    ⊎_elim (λ l. inl (let a = sum_by-append one (map frame_of scopes) (f ∷ []) in let b = scopes_weigh scopes in omega (arith, l, a, b)))
-    (λ l. inr (let a = sum_by-append count_entries (map frame_of scopes) (f ∷ []) in let b = entries_weigh scopes in
-    omega (arith, l, a, b))) o
+over_new scopes f o = search (rules, sum_by-append, scopes_weigh, entries_weigh)
 
 -- what is over with the frames so far is over with those from before
 pub over_after : (old mid : WalkState) (f : Frame) (gs : List Frame) → OpensScopes old mid (f ∷ []) [] →
     Over (map frame_of mid.scopes.scopes ++ gs) → Over (map frame_of old.scopes.scopes ++ f ∷ gs)
-over_after old mid f gs a o =
-    ⊎_elim (λ l. inl (let x = same one in omega (arith, l, x))) (λ l. inr (let x = same count_entries in omega (arith, l, x))) o where
-      same : (w : Frame → ℕ) → sum_by w (map frame_of mid.scopes.scopes ++ gs) ≡ sum_by w (map frame_of old.scopes.scopes ++ f ∷ gs)
-      same w =
-          let d = frames_sum_grown w old.scopes.scopes mid.scopes.scopes a.more a.grows in
-          let g = sum_by-append w (map frame_of old.scopes.scopes) (f ∷ gs) in
-          omega (arith, a.frames w, d, sum_by-append w (map frame_of mid.scopes.scopes) gs, g, sum_by-cons w f gs)
-
--- and with more frames after them
-pub over_more : (fs : List Frame) (f : Frame) (gs : List Frame) → Over (fs ++ f ∷ []) → Over (fs ++ f ∷ gs)
-over_more fs f gs o =
-    ⊎_elim (λ l. inl (let x = rises one in omega (arith, l, x))) (λ l. inr (let x = rises count_entries in omega (arith, l, x))) o where
-      rises : (w : Frame → ℕ) → sum_by w (fs ++ f ∷ []) ≤ sum_by w (fs ++ f ∷ gs)
-      rises w = omega (arith, sum_by-append w fs (f ∷ []), sum_by-append w fs (f ∷ gs), sum_by-cons w f gs)
+over_after old mid f gs a o = grind (arith, common_steps, frames_sum_grown, sum_by-append, sum_by-cons)
 
 module _ (s : Nodes) where
   pub over_exceeds : (m : WalkState) (fs : List Frame) → Over (map frame_of m.scopes.scopes ++ fs) →
       ((w : Frame → ℕ) → sum_by w fs ≤ weight_left s w m.tasks) → Exceeds s m
-  over_exceeds m fs o h =
-      let all = λ (w : Frame → ℕ). sum_by-append w (map frame_of m.scopes.scopes) fs in
-      ⊎_elim (λ l. inl (let x = h one in let y = all one in omega (arith, l, x, y)))
-      (λ l. inr (let x = h count_entries in let y = all count_entries in omega (arith, l, x, y))) o
+  over_exceeds m fs o h = search (rules, sum_by-append)
 
   -- A task that is done, and leaves these tasks
 
@@ -271,36 +194,14 @@ module _ (s : Nodes) where
       ((w : Frame → ℕ) → weight_left s w ts ≡ sum_by w made + weight_left s w vs) →
       turns_left s vs < turns_left s ts → Step s (at S a ts) new met
   moves_opened {S} {a} {b} {ts} {us} {vs} {new} {fs} {gs} {made} {met} e o l k f w d =
-      let h = fs ++ chain_of S.scopes b.scope in
-      let c = gs ++ chain_of S.scopes b.const_scope in
-      let N = new.scopes.scopes in
-      let left : new.tasks ≡ vs = o.tasks ∙ e in
-      let now : future_of s new ≡ future s (chain_of (S.scopes ++ o.more)) h c vs =
-      λ i. future s (chain_of (o.grows i)) (o.scope.is i) (o.const_scope.is i) (left i) in
-      let long : length S.scopes ≤ length N = omega (arith, length-append S.scopes o.more, ap (length {A = Scope}) o.grows) in
-      record {
-        ready = record {
-          scope = o.scope.within;
-          const_scope = o.const_scope.within;
-          leaves = subst (LeavesWithin (length N)) (sym left) (leaves_more (length S.scopes) (length N) vs long l);
-          known = subst (λ (xs : List Task). AreInRange s (about xs)) (sym left) k;
-        };
-        more = o.more;
-        grows = o.grows;
-        same = o.same;
-        in_order = f ∙ ap (λ (ps : List InContext). met ++ ps) (sym (now
-            ∙ future_agrees s (chain_of (S.scopes ++ o.more)) (chain_of S.scopes) (length S.scopes) (chain_kept S.scopes o.more) h c vs l));
-        weights = λ v. omega (arith, w v, o.frames v, frames_sum_grown v S.scopes N o.more o.grows, ap (weight_left s v) left);
-        shorter = subst (λ (xs : List Task). turns_left s xs < turns_left s ts) (sym left) d;
-      }
+      search (rules, length-append, leaves_more, future_agrees, chain_kept, frames_sum_grown)
 
   -- one that opens none
   pub moves_still : {S : Scopes} {a b : CurrentScopes} {ts us vs : List Task} → us ≡ vs →
       b.scope < length S.scopes → b.const_scope < length S.scopes → LeavesWithin (length S.scopes) vs → AreInRange s (about vs) →
       future_of s (at S a ts) ≡ future_of s (at S b vs) → ((w : Frame → ℕ) → weight_left s w ts ≡ weight_left s w vs) →
       turns_left s vs < turns_left s ts → Step s (at S a ts) (at S b us) []
-  moves_still {S} {b = b} {us = us} e h c l k f w d =
-      moves_opened e (opened_none (at S b us) h c) l k f (λ v. let x = w v in omega (arith, x)) d
+  moves_still {S} {b = b} {us = us} e h c l k f w d = search (rules, moves_opened, opened_none)
 
 -- 3. What a walk has done, from its start on.
 
@@ -362,10 +263,7 @@ module _ (s : Nodes) where
   -- a task that is known to be this one, where what it calls returns
   pub goes_task : {E : Type 0} (w : Walk) (t u : Task) (n : ℕ) (r : Result (Unit {0}) E) (new : WalkState) → t ≡ u →
       OnOk r (Step s (with_next w u) new []) → OnOk r (CountedStep s (with_next w t) new n n)
-  goes_task w t u n r new e moves =
-      let P : Task → Type 0 = λ x. CountedStep s (with_next w x) new n n in
-      on_ok_weaker r (λ (m : Step s (with_next w u) new []). subst P (sym e)
-      (record { gone = gone_moved (with_next w u) new n m; shorter = m.shorter })) moves
+  goes_task w t u n r new e moves = search (rules, on_ok_weaker, gone_moved)
 
   pub goes_given : (S : Scopes) (a : CurrentScopes) (t : Task) (ts : List Task) (mid : WalkState) (last : Scopes)
       (current : CurrentScopes) (tasks : List Task) (id scope : ℕ) (n m : ℕ) → t ≡ Task.Expr id →
@@ -388,10 +286,7 @@ module _ (s : Nodes) where
 
   right_grown : (scopes grown more : List Scope) (gs : List ScopeAssigned) → grown ≡ scopes ++ more →
       All (IsRight s scopes) gs → All (IsRight s grown) gs
-  right_grown scopes grown more gs e h =
-      All-weaker (IsRight s scopes) (IsRight s grown)
-      (λ g i. frames_grown scopes grown more g.assigned (within_own (form_of s (NodeId.Expr g.expr)) g.scope) e i) gs
-      h
+  right_grown scopes grown more gs e h = search (rules, All-weaker, frames_grown)
 
   pub gone_then : (old mid new : WalkState) (n0 n1 n2 : ℕ) → WalkSteps s old mid n0 n1 → WalkSteps s mid new n1 n2 →
       WalkSteps s old new n0 n2

@@ -1,5 +1,5 @@
 -- The paths of scopes: a scope's path is its id on its parent's path.
-use Rattle.std.proofs.Common.{◌≡◌, ℕ, zero, suc, ◌+◌, ◌-◌, ◌<◌, ◌≤◌, List, [], ◌∷◌, ◌++◌, Option, Some, None, fold, get_or, length, refl}
+use Rattle.std.proofs.Common.{◌≡◌, ℕ, zero, suc, ◌+◌, ◌-◌, ◌<◌, ◌≤◌, List, [], ◌∷◌, ◌++◌, Option, Some, None, fold, get_or, length, refl, rules}
 use Rattle.std.proofs.Common.{ap, sym, ◌∙◌, subst, arith, append_assoc}
 use Rattle.std.proofs.lemmas.{Grind.fold-append, List.get_or_append_left, List.get_or_at, List.length_push}
 use Rattle.std.proofs.lemmas.List.Elements.{All-nil, All-cons, All-append, All-weaker}
@@ -10,13 +10,7 @@ use Rattle.hir_scope.specs.Scopes.{Scope, IsBelow, ScopeIsInRange, ParentsStandE
 
 length_with : (earlier : List (List ℕ)) (more : List Scope) → length (fold with_path earlier more) ≡ length earlier + length more
 length_with earlier [] = omega arith
-length_with earlier (s ∷ more) =
-    omega (
-      arith,
-      length_with (with_path earlier s) more,
-      length_push earlier
-          (length earlier ∷ path_among earlier s.parent),
-    )
+length_with earlier (s ∷ more) = search (rules, length_push, length_with (with_path earlier s) more)
 
 kept_with : (earlier : List (List ℕ)) (more : List Scope) (i : ℕ) (d : List ℕ) → i < length earlier →
     get_or (fold with_path earlier more) i d ≡ get_or earlier i d
@@ -33,18 +27,12 @@ length_paths scopes = omega (arith, length_with [] scopes)
 pub path_kept : (scopes more : List Scope) (o : Option ℕ) → IsBelow (length scopes) o → path (scopes ++ more) o ≡ path scopes o
 unfolding paths
 path_kept scopes more None h = refl
-path_kept scopes more (Some s) h =
-    ap (λ (ps : List (List ℕ)). get_or ps s []) (fold-append with_path [] scopes more)
-    ∙ kept_with (fold with_path [] scopes) more s [] (omega (arith, length_with [] scopes, h))
+path_kept scopes more (Some s) h = search (rules, fold-append, kept_with, length_with)
 
 -- the path of one scope more
 pub path_new : (scopes : List Scope) (x : Scope) (s : ℕ) → s ≡ length scopes → path (scopes ++ x ∷ []) (Some s) ≡ s ∷ path scopes x.parent
 unfolding paths
-path_new scopes x s e =
-    let n : length (fold with_path [] scopes) ≡ s = omega (arith, length_with [] scopes, e) in
-    ap (λ (ps : List (List ℕ)). get_or ps s []) (fold-append with_path [] scopes (x ∷ []))
-    ∙ get_or_at (fold with_path [] scopes) (length (fold with_path [] scopes) ∷ path_among (fold with_path [] scopes) x.parent) [] [] s n
-    ∙ ap (λ m. m ∷ path_among (fold with_path [] scopes) x.parent) n
+path_new scopes x s e = search (rules, length_with, fold-append, get_or_at)
 
 split_at : (scopes : List Scope) (i : ℕ) (x : Scope) → slice_get scopes i ≡ Some x →
     (before : List Scope) × (after : List Scope) × (scopes ≡ before ++ x ∷ after) × (length before ≡ i)
@@ -112,9 +100,7 @@ below_with earlier (s ∷ more) h =
 
 pub path_members : (scopes : List Scope) (o : Option ℕ) → Below (length scopes) (path scopes o)
 unfolding paths
-path_members scopes o =
-    subst (λ n. Below n (path scopes o)) (length_paths scopes)
-    (among_below (length (paths scopes)) (paths scopes) o (below_with [] scopes (All-nil (Below 0))))
+path_members scopes o = search (rules, length_paths, among_below, below_with, All-nil)
 
 -- the ids of all scopes
 
@@ -123,5 +109,4 @@ range_step a b h = let one_less : b - a ≡ suc (b - (a + 1)) = omega (arith, h)
 
 pub range_below : (a n m : ℕ) → a + n ≤ m → All (λ x. x < m) (range_with_len a n)
 range_below a zero m h = All-nil (λ x. x < m)
-range_below a (suc n) m h =
-    All-cons (λ x. x < m) a (range_with_len (a + 1) n) (omega (arith, h)) (range_below (a + 1) n m (omega (arith, h)))
+range_below a (suc n) m h = search (rules, All-cons, range_below (a + 1) n m (omega (arith, h)))

@@ -1,5 +1,5 @@
 -- How scopes are kept, and when they are the same.
-use Rattle.std.proofs.Common.{◌≡◌, ℕ, zero, suc, ◌+◌, ◌-◌, ◌<◌, ◌≤◌, ◌⊎◌, inl, inr, List, [], ◌∷◌, ◌++◌, Option, Some, None, length, take}
+use Rattle.std.proofs.Common.{◌≡◌, ℕ, zero, suc, ◌+◌, ◌-◌, ◌<◌, ◌≤◌, ◌⊎◌, inl, inr, List, [], ◌∷◌, ◌++◌, Option, Some, length, take, rules}
 use Rattle.std.proofs.Common.{drop, refl, ap, sym, ◌∙◌, subst, arith, Bool, true, false, cond, get_or, length-append, ◌&&◌, Decides}
 use Rattle.std.proofs.lemmas.List.{take-append-le, drop-append-le, drop_at, take_all, length-drop, length-take-le, length_push}
 use Rattle.std.proofs.lemmas.List.{map-append, drop_all}
@@ -19,6 +19,7 @@ use Rattle.hir_scope.specs.contracts.scope.ScopeEntryExactEq.TheImpl.Laws as ent
 use Rattle.hir_scope.specs.contracts.scope.ScopeEntryPartialEq.TheImpl as entry
 use Rattle.hir_scope.specs.declared.{expr_scopes.ScopeData.ScopeData, scope.ScopeEntry.ScopeEntry}
 use Rattle.hir_scope.specs.same.SameScopes.{same_scopes, scopes_decide}
+use Rattle.std.proofs.lemmas.Grind.{common_steps}
 
 -- 1. Ranges that follow each other in one list: what a range holds, and what one range more changes.
 
@@ -30,9 +31,7 @@ follow_rises from (row ∷ rows) last h = let r = follow_rises row.end rows last
 pub range_at : (from : ℕ) (rows : List ScopeData) (last i : ℕ) (row : ScopeData) → FollowEachOther from rows last →
     slice_get rows i ≡ Some row → (row.start ≤ row.end) × (row.end ≤ last)
 range_at from [] last i row h e = absurd cc
-range_at from (first ∷ rows) last zero row h e =
-    let q : first ≡ row = cc in
-    subst (λ (x : ScopeData). (x.start ≤ x.end) × (x.end ≤ last)) q (omega (arith, h.0, h.1), follow_rises first.end rows last h.2)
+range_at from (first ∷ rows) last zero row h e = search (rules, follow_rises)
 range_at from (first ∷ rows) last (suc i) row h e = range_at first.end rows last i row h.2 e
 
 pub follow_push : (from : ℕ) (rows : List ScopeData) (last : ℕ) (row : ScopeData) → FollowEachOther from rows last →
@@ -43,24 +42,17 @@ follow_push from (first ∷ rows) last row h s e = (h.0, h.1, follow_push first.
 -- the entries of a range are those between its ends
 pub range_kept : (xs ys : List ScopeEntry) (row : ScopeData) → row.start ≤ row.end → row.end ≤ length xs →
     entries_in (xs ++ ys) row ≡ entries_in xs row
-range_kept xs ys row b w =
-    ap (take (row.end - row.start)) (drop-append-le row.start xs ys (omega (arith, b, w)))
-    ∙ take-append-le (row.end - row.start) (drop row.start xs) ys (omega (arith, b, w, length-drop row.start xs))
+range_kept xs ys row b w = search (rules, drop-append-le, take-append-le, length-drop)
 
 pub scopes_kept : (xs ys : List ScopeEntry) (from : ℕ) (rows : List ScopeData) →
     FollowEachOther from rows (length xs) → scopes_of (xs ++ ys) rows ≡ scopes_of xs rows
 scopes_kept xs ys from [] h = refl
-scopes_kept xs ys from (row ∷ rows) h =
-    let k = range_kept xs ys row (omega (arith, h.0, h.1)) (follow_rises row.end rows (length xs) h.2) in
-    let r = scopes_kept xs ys row.end rows h.2 in
-    rw (k, r)
+scopes_kept xs ys from (row ∷ rows) h = search (rules, range_kept, follow_rises, scopes_kept xs ys row.end rows h.2)
 
 -- the entries of the range at the end
 pub range_new : (xs ys : List ScopeEntry) (row : ScopeData) → row.start ≡ length xs → row.end
     ≡ length xs + length ys → entries_in (xs ++ ys) row ≡ ys
-range_new xs ys row s e =
-    ap (take (row.end - row.start)) (drop_at xs ys row.start (sym s)) ∙ take_all (row.end - row.start) ys
-    (omega (arith, s, e))
+range_new xs ys row s e = search (rules, drop_at, take_all)
 
 pub length_in : (xs : List ScopeEntry) (row : ScopeData) → row.start ≤ row.end → row.end ≤ length xs →
     length (entries_in xs row) ≡ row.end - row.start
@@ -71,22 +63,14 @@ pub entries_are_counted : (xs : List ScopeEntry) (from : ℕ) (rows : List Scope
     FollowEachOther from rows (length xs) → entry_count (scopes_of xs rows) + from ≡ length xs
 entries_are_counted xs from [] h = omega (arith, h)
 entries_are_counted xs from (row ∷ rows) h =
-    let l = length_in xs row (omega (arith, h.0, h.1)) (follow_rises row.end rows (length xs) h.2) in
-    let r = entries_are_counted xs row.end rows h.2 in
-    let sum : entry_count (scopes_of xs (row ∷ rows)) ≡ entry_count (scope_of xs row ∷ []) + entry_count (scopes_of xs rows) =
-    sum_by-append (λ (s : Scope). length s.entries) (scope_of xs row ∷ []) (scopes_of xs rows) in
-    let one : entry_count (scope_of xs row ∷ []) ≡ 0 + length (entries_in xs row) = refl in
-    omega (arith, sum, one, l, r, h.0, h.1)
+    grind (arith, common_steps, length_in, follow_rises, sum_by-append, entries_are_counted xs row.end rows h.2)
 
 -- what scopes are seen as
 
 pub parents_seen : (es : List ScopeEntry) (rows : List ScopeData) →
     ((i : ℕ) (row : ScopeData) → slice_get rows i ≡ Some row → IsBelow i row.parent) →
     ParentsStandEarlier (scopes_of es rows)
-parents_seen es rows h i s e = at (slice_get rows i) refl (sym (slice_get-map (scope_of es) rows i) ∙ e) where
-  at : (o : Option ScopeData) → slice_get rows i ≡ o → option_map (scope_of es) o ≡ Some s → IsBelow i s.parent
-  at None q f = absurd cc
-  at (Some row) q f = let k : scope_of es row ≡ s = cc in subst (λ (x : Scope). IsBelow i x.parent) k (h i row q)
+parents_seen es rows h i s e = search (rules, slice_get-map)
 
 -- a scope that exists is seen by its range
 pub scope_seen : (es : List ScopeEntry) (rows : List ScopeData) (i : ℕ) (row : ScopeData) → slice_get rows i
@@ -101,16 +85,11 @@ length_seen es (row ∷ rows) = ap suc (length_seen es rows)
 pub row_seen : (es : List ScopeEntry) (rows : List ScopeData) (m : finmap.FinMap nat_cmp ℕ) (seen : Scopes)
     (scope i : ℕ) (row : ScopeData) → record { scopes = scopes_of es rows; scope_by_expr = m } ≡ seen →
     scope < length seen.scopes → i ≡ scope → row ≡ get_or rows i row → slice_get rows i ≡ Some row
-row_seen es rows m seen scope i row view l is e =
-    slice_get_read rows (length rows) i row refl (omega (arith, is, l, ap (λ (x : Scopes). length x.scopes) view, length_seen es rows)) e
+row_seen es rows m seen scope i row view l is e = search (rules, slice_get_read, length_seen)
 
 -- the scope of each expression is below n
 abbrev pub AreBelow : finmap.FinMap nat_cmp ℕ → ℕ → Type 0
 AreBelow m n = (expr scope : ℕ) → finmap.get m expr ≡ Some scope → scope < n
-
-pub in_range_seen : (es : List ScopeEntry) (rows : List ScopeData) (m : finmap.FinMap nat_cmp ℕ) →
-    AreBelow m (length rows) → AreBelow m (length (scopes_of es rows))
-in_range_seen es rows m h expr scope e = subst (λ n. scope < n) (sym (length_seen es rows)) (h expr scope e)
 
 -- a value that was written is the one written, or that from before
 pub at_or_before : (b : Bool) (v : ℕ) (o : Option ℕ) (w : ℕ) → cond b (Some v) o ≡ Some w → ((b ≡ true) × (v ≡ w)) ⊎ (o ≡ Some w)
@@ -119,10 +98,11 @@ at_or_before false v o w e = inr e
 
 pub below_inserted : (m : finmap.FinMap nat_cmp ℕ) (n e s : ℕ) → AreBelow m n → s < n → AreBelow (finmap.insert m e s) n
 below_inserted m n e s h l expr scope q =
-    elim (at_or_before (eq_by_cmp nat_cmp expr e) s (finmap.get m expr) scope (sym (finmap.get-insert nat_cmp_total m e s expr) ∙ q)) [
-      | inl w ↦ subst (λ x. x < n) w.1 l
-      | inr w ↦ h expr scope w
-    ]
+    grind (
+      arith,
+      common_steps,
+      (at_or_before (eq_by_cmp nat_cmp expr e) s (finmap.get m expr) scope (sym (finmap.get-insert nat_cmp_total m e s expr) ∙ q)),
+    )
 
 pub flat_empty : IsFlat [] [] finmap.empty
 flat_empty = record {
@@ -135,15 +115,7 @@ flat_empty = record {
 
 pub flat_set : (es : List ScopeEntry) (rows : List ScopeData) (m : finmap.FinMap nat_cmp ℕ) (e s : ℕ) →
     IsFlat es rows m → s < length rows → IsFlat es rows (finmap.insert m e s)
-flat_set es rows m e s f l =
-    record {
-      fill = f.fill;
-      parents = f.parents;
-      in_range = below_inserted m
-          (length rows) e s f.in_range l;
-      few_scopes = f.few_scopes;
-      few_entries = f.few_entries;
-    }
+flat_set es rows m e s f l = search (rules, below_inserted)
 
 below_with_one : (rows : List ScopeData) (row : ScopeData) (n : ℕ) →
     ((i : ℕ) (x : ScopeData) → slice_get rows i ≡ Some x → IsBelow (n + i) x.parent) →
@@ -180,10 +152,7 @@ flat_push es more rows m row f s e b n k = record {
 pub seen_pushed : (es more : List ScopeEntry) (rows : List ScopeData) (row : ScopeData) → FollowEachOther 0 rows (length es) →
     row.start ≡ length es → row.end ≡ length es + length more →
     scopes_of (es ++ more) (rows ++ row ∷ []) ≡ scopes_of es rows ++ record { parent = row.parent; kind = row.kind; entries = more } ∷ []
-seen_pushed es more rows row f s e =
-    map-append (scope_of (es ++ more)) rows (row ∷ [])
-    ∙ ap (λ xs. xs ++ scope_of (es ++ more) row ∷ []) (scopes_kept es more 0 rows f)
-    ∙ ap (λ new. scopes_of es rows ++ record { parent = row.parent; kind = row.kind; entries = new } ∷ []) (range_new es more row s e)
+seen_pushed es more rows row f s e = search (rules, map-append, scopes_kept, range_new)
 
 -- more scopes, or more entries, than there may be, where there is one scope more with n entries
 abbrev pub TooMany : List Scope → ℕ → Type 0

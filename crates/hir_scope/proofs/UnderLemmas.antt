@@ -1,6 +1,6 @@
 -- The frames that a node leaves open by those of its children, the descendants of a node in its context, and in
 -- which contexts a node occurs.
-use Rattle.std.proofs.Common.{◌≡◌, ℕ, zero, suc, List, [], ◌∷◌, map, refl, sym, ap, ◌∙◌, Contains, arith, subst, ◌<◌, inl, inr, ⊎_elim}
+use Rattle.std.proofs.Common.{◌≡◌, ℕ, zero, suc, List, [], ◌∷◌, map, refl, sym, ap, ◌∙◌, Contains, arith, subst, ◌<◌, inl, inr, ⊎_elim, rules}
 use Rattle.std.proofs.{Math.Path.fun_ext, lemmas.List.append-nil}
 use Rattle.std.proofs.lemmas.List.Sorted.{IsPermutation-sym, Contains-permutation}
 use Rattle.std.specs.List.{flat_map, filter}
@@ -23,6 +23,7 @@ use Rattle.hir_scope.specs.internal.ContextsUnder.{in_context, contexts_under, u
 use Rattle.hir_scope.proofs.ChildLemmas.{met_children, children_of_form, children_in, child_contexts_children}
 use Rattle.hir_scope.proofs.MemberLemmas.{In, agree_in, in_contains, contains_in, in_flat_map, flat_map_in, in_map, map_in, in_filter}
 use Rattle.hir_scope.proofs.MemberLemmas.{filter_in}
+use Rattle.std.proofs.lemmas.Grind.{common_steps}
 
 -- 1. The open frames of a node are given by those of its children, and what is under a context by what is under those of the children.
 
@@ -77,23 +78,16 @@ child_contexts_read : (f g : NodeId → Chain → Chain → List InContext) (h k
     flat_map (λ (at : InContext). f at.node at.scope at.const_scope) (map (child_in_context h k) xs)
     ≡ flat_map (λ (at : InContext). g at.node at.scope at.const_scope) (map (child_in_context h k) xs)
 child_contexts_read f g h k [] agree = refl
-child_contexts_read f g h k (x ∷ xs) agree =
-    let at = child_in_context h k x in
-    cc (ap (λ (w : Chain → Chain → List InContext). w at.scope at.const_scope) agree.0, child_contexts_read f g h k xs agree.1)
+child_contexts_read f g h k (x ∷ xs) agree = search (rules, child_contexts_read f g h k xs agree.1)
 
 under_asks : (s : Nodes) → DependsOnChildren s (under_step s)
-under_asks s f g n agree =
-    fun_ext (λ h. fun_ext
-    (λ k. ap (λ (ps : List InContext). in_context n h k ∷ ps)
-    (child_contexts_read f g h k (child_contexts s n) (child_contexts_agree f g s n agree))))
+under_asks s f g n agree = grind (arith, common_steps, fun_ext, child_contexts_read, child_contexts_agree f g s n agree)
 
 -- what is under a place is the place, and what is under the places of the children
 pub under_at : (s : Nodes) → RankDecreases s → (at : InContext) → Has s at.node → contexts_under s at
     ≡ at ∷ flat_map (contexts_under s) (children_in_context s at)
 unfolding contexts_under
-under_at s fall at h =
-    ap (λ (w : Chain → Chain → List InContext). w at.scope at.const_scope)
-    (fold_down_at s fall (under_step s) (λ scope const_scope. []) (under_asks s) at.node)
+under_at s fall at h = grind (arith, common_steps, fold_down_at, under_asks s)
 
 -- The expressions under a place
 
@@ -174,9 +168,7 @@ module _ (s : Nodes) where
 
     pub occurs_reached : (at : InContext) → Occurs s entry_nodes at → IsReached s (map (λ (p : InContext). p.node) entry_nodes) at.node
     occurs_reached at (entry_node c) = (at.node, mapped (λ (p : InContext). p.node) entry_nodes at c, itself)
-    occurs_reached at (child {parent = parent} h c) =
-        let r = occurs_reached parent h in
-        (r.0, r.1, under_more s at.node parent.node r.2 (child_of_context parent at c))
+    occurs_reached at (child {parent = parent} h c) = search (rules, under_more, child_of_context, occurs_reached parent h)
 
 -- 3. The list of descendants of some entry nodes has what occurs in a context below them.
 
@@ -184,9 +176,7 @@ module _ (s : Nodes) where
 pub contexts_in_range : (s : Nodes) (entry_nodes : List InContext) (nodes : List NodeId) →
     map (λ (p : InContext). p.node) entry_nodes ≡ nodes → ((n : NodeId) → Contains nodes n → Has s n) →
     (p : InContext) → In p entry_nodes → Has s p.node
-contexts_in_range s entry_nodes nodes same in_range p i =
-    in_range p.node (contains_in nodes p.node
-    (subst (In p.node) same (map_in (λ (q : InContext). q.node) p entry_nodes i)))
+contexts_in_range s entry_nodes nodes same in_range p i = search (rules, contains_in, In, map_in)
 
 module _ (s : Nodes) (fall : RankDecreases s) where
   -- a child in its context: the child exists, and has a lower rank
@@ -237,9 +227,7 @@ module _ (s : Nodes) (fall : RankDecreases s) where
         down_occurs (suc (rank s d.0.node)) d.0 r (omega arith) (entry_node (contains_in entry_nodes d.0 d.1)) d.2
 
     pub occurs_listed : (r : InContext) → Occurs s entry_nodes r → In r (flat_map (contexts_under s) entry_nodes)
-    occurs_listed r (entry_node c) =
-        let i = in_contains entry_nodes r c in
-        in_flat_map (contexts_under s) r r entry_nodes i (under_itself r (in_range r i))
+    occurs_listed r (entry_node c) = search (rules, in_contains, in_flat_map, under_itself)
     occurs_listed r (child {parent = q} h c) =
         let d = flat_map_in (contexts_under s) q entry_nodes (occurs_listed q h) in
         in_flat_map (contexts_under s) d.0 r entry_nodes d.1
@@ -252,6 +240,4 @@ module _ (s : Nodes) (fall : RankDecreases s) where
 
     pub standing_exprs : (r : InContext) (id : ℕ) → r.node ≡ NodeId.Expr id → Occurs s entry_nodes r → In r (exprs_under s entry_nodes)
     unfolding exprs_under
-    standing_exprs r id e h =
-        in_filter (λ (x : InContext). is_expr x.node) r (flat_map (contexts_under s) entry_nodes) (occurs_listed r h)
-        (ap is_expr e)
+    standing_exprs r id e h = search (rules, in_filter, occurs_listed)

@@ -1,6 +1,6 @@
 -- Each node that occurs in a context occurs in one alone, where no two entry nodes and no two children of a node
 -- have a common descendant.
-use Rattle.std.proofs.Common.{◌≡◌, ℕ, zero, suc, ◌<◌, ◌≤◌, List, [], ◌∷◌, map, refl, sym, ap, ◌∙◌, arith, subst, inl, inr, ◌⊎◌, ⊎_elim}
+use Rattle.std.proofs.Common.{◌≡◌, ℕ, zero, suc, ◌<◌, ◌≤◌, List, [], ◌∷◌, map, refl, sym, ap, ◌∙◌, arith, subst, inl, inr, ◌⊎◌, ⊎_elim, rules}
 use Rattle.std.proofs.Common.{Some, Contains, eqb}
 use Rattle.std.proofs.lemmas.{Bool.cases_lt, Bool.Decides.eqb_tells, List.Sorted.sum_by-IsPermutation}
 use Rattle.std.proofs.lemmas.{List.Sums.sum_by-cons, Option.slice_get-map}
@@ -9,11 +9,12 @@ use Rattle.hir_node.specs.declared.node_id.NodeId.{NodeId}
 use Rattle.hir_validate.specs.{Recursion.rank, Recursion.RankDecreases, declared.node_arenas.Nodes.Nodes, Nodes.Has, Nodes.children_of}
 use Rattle.hir_store_core.specs.Under.{Under, itself, below, AreDisjoint}
 use Rattle.hir_store_core.proofs.UnderLemmas.{under_more}
-use Rattle.hir_scope.specs.Chains.{InContext, child_in_context, children_in_context, Occurs, entry_node, child, HasChain, within_own}
-use Rattle.hir_scope.specs.{ScopingForms.form_of, Frames.Chain, ChildContexts.ChildContext, ChildContexts.child_contexts}
+use Rattle.hir_scope.specs.Chains.{InContext, child_in_context, children_in_context, Occurs, entry_node, child, HasChain}
+use Rattle.hir_scope.specs.{Frames.Chain, ChildContexts.ChildContext, ChildContexts.child_contexts}
 use Rattle.hir_scope.proofs.{CountLemmas.one_if, ChildLemmas.children_in, ChildLemmas.child_contexts_children}
 use Rattle.hir_scope.proofs.MemberLemmas.{In, in_contains, contains_in, get_in, sum_mapped}
 use Rattle.hir_scope.proofs.UnderLemmas.{child_of_context, occurs_reached, occurs_in_range}
+use Rattle.std.proofs.lemmas.Grind.{common_steps}
 
 -- 1. How often a node occurs in a list
 
@@ -63,11 +64,7 @@ once m (x ∷ xs) h =
 present : (m : NodeId) (ps : List InContext) (j : ℕ) (q : InContext) → slice_get ps j ≡ Some q → m ≡ q.node →
     1 ≤ sum_by (λ (p : InContext). is m p.node) ps
 present m [] j q e n = absurd cc
-present m (p ∷ ps) zero q e n =
-    let a = sum_by-cons (λ (x : InContext). is m x.node) p ps in
-    let same : p ≡ q = cc in
-    let one : is m p.node ≡ 1 = ap (λ (x : InContext). is m x.node) same ∙ (ap (is m) (sym n) ∙ is_itself m) in
-    omega (arith, a, one)
+present m (p ∷ ps) zero q e n = grind (arith, common_steps, sum_by-cons, is_itself)
 present m (p ∷ ps) (suc j) q e n = omega (arith, sum_by-cons (λ (x : InContext). is m x.node) p ps, present m ps j q e n)
 
 -- it occurs there twice
@@ -75,13 +72,8 @@ twice : (m : NodeId) (ps : List InContext) (i j : ℕ) (p q : InContext) → i <
     slice_get ps j ≡ Some q → m ≡ p.node → m ≡ q.node → 2 ≤ sum_by (λ (x : InContext). is m x.node) ps
 twice m [] i j p q l e f n o = absurd cc
 twice m (x ∷ ps) i zero p q l e f n o = absurd (omega (arith, l))
-twice m (x ∷ ps) zero (suc j) p q l e f n o =
-    let a = sum_by-cons (λ (x : InContext). is m x.node) x ps in
-    let same : x ≡ p = cc in
-    let one : is m x.node ≡ 1 = ap (λ (y : InContext). is m y.node) same ∙ (ap (is m) (sym n) ∙ is_itself m) in
-    omega (arith, a, one, present m ps j q f o)
-twice m (x ∷ ps) (suc i) (suc j) p q l e f n o =
-    omega (arith, sum_by-cons (λ (x : InContext). is m x.node) x ps, twice m ps i j p q (omega (arith, l)) e f n o)
+twice m (x ∷ ps) zero (suc j) p q l e f n o = grind (arith, common_steps, sum_by-cons, is_itself, present)
+twice m (x ∷ ps) (suc i) (suc j) p q l e f n o = search (rules, sum_by-cons, twice m ps i j p q (omega (arith, l)) e f n o)
 
 -- 2. Places
 
@@ -93,12 +85,7 @@ level : (i j : ℕ) → (i < j → ⊥) → (j < i → ⊥) → i ≡ j
 level i j f g = ⊎_elim (λ l. absurd (f l)) (λ l. ⊎_elim (λ m. absurd (g m)) (λ m. omega (arith, l, m)) (cases_lt j i)) (cases_lt i j)
 
 same_context : (ps : List InContext) → OneEach ps → (p q : InContext) → In p ps → In q ps → p.node ≡ q.node → p ≡ q
-same_context ps one p q i j n =
-    let a = get_in ps p i in
-    let b = get_in ps q j in
-    let e = level a.0 b.0 (λ l. one a.0 b.0 p q l a.1 b.1 n) (λ l. one b.0 a.0 q p l b.1 a.1 (sym n)) in
-    let x : Some p ≡ Some q = sym a.1 ∙ (ap (slice_get ps) e ∙ b.1) in
-    cc
+same_context ps one p q i j n = search (rules, get_in, level)
 
 node_get : (ps : List InContext) (k : ℕ) (p : InContext) → slice_get ps k ≡ Some p →
     slice_get (map (λ (q : InContext). q.node) ps) k ≡ Some p.node
@@ -166,6 +153,4 @@ module _ (s : Nodes) (fall : RankDecreases s)
 
     -- so an expression has one chain
     pub one_chain : (expr : ℕ) (c d : Chain) → HasChain s entry_nodes expr c → HasChain s entry_nodes expr d → c ≡ d
-    one_chain expr c d h k =
-        let same = occurs_once h.at h.occurs k.at k.occurs (h.is_node ∙ sym k.is_node) in
-        h.is_chain ∙ (ap (λ (x : InContext). within_own (form_of s (NodeId.Expr expr)) x.scope) same ∙ sym k.is_chain)
+    one_chain expr c d h k = search (rules, occurs_once)

@@ -1,6 +1,5 @@
 use Rattle.std.proofs.lemmas.List.{drop_more}
-use Rattle.std.proofs.Math.ListN.{drop_of_length-le}
-use Rattle.hir_pretty_layout.proofs.PieceLemmas.{on_err, all_left, some_written, none_left, stops_in_rest}
+use Rattle.hir_pretty_layout.proofs.PieceLemmas.{on_err, some_written, stops_in_rest}
 use Rattle.hir_pretty_layout.proofs.literals.write_bytes.Goals as goal
 
 pub loop-byte-preserved : goal.loop-byte-preserved

@@ -1,8 +1,5 @@
-use Rattle.std.proofs.Common.{codes}
-use Rattle.hir_pretty_layout.specs.Layouts.{Text}
-use Rattle.hir_pretty_layout.specs.Literals.{lone_char}
-use Rattle.std.proofs.lemmas.Result.{on_ok_weaker, on_err_weaker}
-use Rattle.hir_pretty_layout.proofs.PieceLemmas.{on_err, stops_here, stops_inside, stops_at_last, last_written}
+use Rattle.std.proofs.lemmas.Result.{on_err_weaker}
+use Rattle.hir_pretty_layout.proofs.PieceLemmas.{on_err, stops_here, stops_inside, stops_at_last}
 use Rattle.hir_pretty_layout.proofs.literals.write_char_literal.Goals as goal
 
 pub returns-in_err-text-clause-err : goal.returns-in_err-text-clause-err
@@ -13,6 +10,3 @@ returns-in_err-write_escaped-clause-err g c = on_err _ (stops_inside _ c.in_ok-t
 
 pub returns-clause-err : goal.returns-clause-err
 returns-clause-err g c = on_err_weaker _ (stops_at_last _ _ c.in_ok-text.ensures.ok (rw c.short_escape.ensures at c.in_ok-write_escaped.ensures.ok)) c.text-2.ensures.err
-
-pub returns-clause-ok : goal.returns-clause-ok
-returns-clause-ok g c = on_ok_weaker _ (last_written g.W.PieceWriter.step (Text (codes "'")) (Text (codes "'")) (lone_char c.args.c) c.args.writer.now c.in_ok-text.ensures.ok (rw c.short_escape.ensures at c.in_ok-write_escaped.ensures.ok)) c.text-2.ensures.ok

@@ -1,13 +1,9 @@
-use Rattle.hir_node.proofs.RunLemmas.{going_from, going_item, going_over, may_freely}
+use Rattle.hir_node.proofs.RunLemmas.{going_item, going_over}
 use Rattle.hir_scope.proofs.tasks.defer_each.Goals as goal
-
-pub loop-item-init : goal.loop-item-init
-loop-item-init g c = going_from (may_freely _)
+use Rattle.std.proofs.Common.{rules}
 
 pub loop-item-preserved : goal.loop-item-preserved
-loop-item-preserved g c =
-    going_item g.T.Brings.tasks c.args.items.now c.loop-item.item-index c.item-item.result c.loop-item-test.true
-    c.item-item.is c.loop-item.invariant c.defer.ensures
+loop-item-preserved g c = search (rules, going_item)
 
 pub returns : goal.returns
 returns g c = going_over g.T.Brings.tasks c.args.items.now c.loop-item.item-index c.loop-item-test.false c.loop-item.invariant

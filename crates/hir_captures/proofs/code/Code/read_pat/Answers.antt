@@ -1,20 +1,8 @@
 use Rattle.std.proofs.Common.{◌∙◌, ◌++◌}
 use Rattle.hir_scope.specs.Order.{met_in_form}
 use Rattle.hir_captures.specs.internal.Pending.{tasks_of}
-use Rattle.hir_captures.proofs.ReadLemmas.{read_pat, pat_in_range}
+use Rattle.hir_captures.proofs.ReadLemmas.{read_pat}
 use Rattle.hir_captures.proofs.code.Code.read_pat.Goals as goal
-
-pub ask_pat-requires : goal.ask_pat-requires
-ask_pat-requires c =
-    record {
-      in_range = pat_in_range c.args.self.now.store.now.nodes c.args.assignment c.args.id
-          c.args.unread.now.stack.items c.requires.in_range;
-    }
-
-pub index-requires : goal.index-requires
-index-requires c =
-    pat_in_range c.args.self.now.store.now.nodes c.args.assignment c.args.id c.args.unread.now.stack.items
-    c.requires.in_range
 
 pub returns-clause-reads : goal.returns-clause-reads
 returns-clause-reads c =

@@ -1,7 +1,7 @@
-use Rattle.std.specs.String.{string_bytes}
 use Rattle.hir_pretty_layout.proofs.EndLemmas.{indentation_more}
 use Rattle.hir_pretty_layout.proofs.buffer.PageBuffer.raise_level.Goals as goal
+use Rattle.std.proofs.lemmas.Grind.{common_steps}
+use Rattle.std.proofs.Common.{arith}
 
 pub invariant_of-self-2 : goal.invariant_of-self-2
-invariant_of-self-2 c =
-    record { kept = c.self.invariant.kept; spaces = rw c.in_ok-push_str.ensures.bytes (indentation_more (string_bytes c.self.inside.indentation) c.self.invariant.spaces).0 }
+invariant_of-self-2 c = grind (arith, common_steps, indentation_more)

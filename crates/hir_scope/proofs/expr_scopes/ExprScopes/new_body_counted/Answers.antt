@@ -1,15 +1,12 @@
-use Rattle.std.proofs.Common.{rules, ◌+◌, ◌<◌, ◌≤◌, [], length, refl, arith}
+use Rattle.std.proofs.Common.{rules, ◌+◌, ◌≤◌, [], refl, arith}
 use Rattle.hir_body.specs.Bodies.{body_nodes}
-use Rattle.hir_scope.specs.BodyScopes.{expr_count, limit}
-use Rattle.hir_scope.specs.internal.Begins.{root_entries}
-use Rattle.hir_scope.specs.internal.WalkState.{walk_state, state, Exceeds}
+use Rattle.hir_scope.specs.BodyScopes.{expr_count}
+use Rattle.hir_scope.specs.internal.WalkState.{walk_state, state}
 use Rattle.hir_scope.proofs.BuiltLemmas.{body_starts, body_at_most, body_fails, body_made, body_ticks, root_fails}
 use Rattle.hir_scope.proofs.expr_scopes.ExprScopes.new_body_counted.Goals as goal
 
 pub returns-in_err-walk-clause-full : goal.returns-in_err-walk-clause-full
-returns-in_err-walk-clause-full c = λ h.
-    let long : limit < length (root_entries c.args.body.now) = search rules in
-    root_fails c.args.body.now c.is_sound_body.ensures long
+returns-in_err-walk-clause-full c = search (rules, root_fails)
 
 pub run-requires : goal.run-requires
 run-requires c =
@@ -25,10 +22,7 @@ returns-in_err-run-clause-most c =
     search (rules, most)
 
 pub returns-in_err-run-clause-full : goal.returns-in_err-run-clause-full
-returns-in_err-run-clause-full c = λ h.
-    let walk = c.in_ok-walk in
-    let full : Exceeds c.store.result.now.nodes (state walk.walk) = search rules in
-    body_fails c.args.body.now c.is_sound_body.ensures _ c.store.ensures (state walk.walk) walk.ensures.ok full
+returns-in_err-run-clause-full c = search (rules, body_fails)
 
 pub returns-clause-scopes : goal.returns-clause-scopes
 returns-clause-scopes c =
@@ -37,7 +31,4 @@ returns-clause-scopes c =
     (walk_state c.run.new.self []) _ _ c.in_ok-run.ensures.gone refl
 
 pub returns-clause-once : goal.returns-clause-once
-returns-clause-once c =
-    let walk = c.in_ok-walk in
-    body_ticks c.args.body.now c.is_sound_body.ensures _ c.store.ensures (state walk.walk) walk.ensures.ok
-    (walk_state c.run.new.self []) _ _ c.in_ok-run.ensures.gone refl
+returns-clause-once c = search (rules, body_ticks)

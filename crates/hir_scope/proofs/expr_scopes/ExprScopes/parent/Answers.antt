@@ -1,7 +1,6 @@
 use Rattle.hir_scope.proofs.SameLemmas.{parents_seen}
 use Rattle.hir_scope.proofs.expr_scopes.ExprScopes.parent.Goals as goal
+use Rattle.std.proofs.Common.{rules}
 
 pub returns-clause-parents : goal.returns-clause-parents
-returns-clause-parents c =
-    rw (← c.self.view_is)
-    (parents_seen c.self.inside.entries.items c.self.inside.scopes.items c.self.invariant.parents)
+returns-clause-parents c = search (rules, parents_seen)

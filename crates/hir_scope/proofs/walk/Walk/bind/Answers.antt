@@ -1,8 +1,7 @@
-use Rattle.std.proofs.Common.{rules, [], ◌∷◌, ◌++◌, map, sym, ap, ◌∙◌}
-use Rattle.hir_scope.specs.{Frames.frame, Scopes.frame_of}
+use Rattle.std.proofs.Common.{◌++◌, sym, ap, ◌∙◌}
 use Rattle.hir_scope.specs.ScopingForms.{ScopingForm, form_at, pat_form}
-use Rattle.hir_scope.specs.internal.{Pending.form_tasks, WalkState.Over}
-use Rattle.hir_scope.proofs.DoneLemmas.{bound_moves, bound_over}
+use Rattle.hir_scope.specs.internal.{Pending.form_tasks}
+use Rattle.hir_scope.proofs.DoneLemmas.{bound_moves}
 use Rattle.hir_scope.proofs.walk.Walk.bind.Goals as goal
 
 pub returns-clause-moves : goal.returns-clause-moves
@@ -13,9 +12,3 @@ returns-clause-moves c =
     bound_moves c.args.store.now.nodes fall w c.args.bound
     (c.in_ok-push_in.ensures.ok ∙ ap (λ (x : ScopingForm). form_tasks w.current x ++ w.tasks.stack.items) is)
     c.in_ok-open.ensures.opened c.requires.ready
-
-pub returns-in_err-open-clause-full : goal.returns-in_err-open-clause-full
-returns-in_err-open-clause-full c = λ h.
-    let w = c.args.self.now in
-    let o : Over (map frame_of w.scopes.scopes ++ frame c.args.store.now.nodes (c.args.bound ∷ []) ∷ []) = search rules in
-    bound_over c.args.store.now.nodes w c.args.bound o

@@ -1,9 +1,8 @@
-use Rattle.std.proofs.Common.{rules, List, [], ◌∷◌, ◌++◌, map, ap, ◌∙◌}
+use Rattle.std.proofs.Common.{List, ◌∷◌, ◌++◌, ap, ◌∙◌}
 use Rattle.hir_node.specs.ChildCalls.{e, opt}
-use Rattle.hir_scope.specs.{Frames.frame, Scopes.frame_of, declared.tasks.Task.Task}
-use Rattle.hir_scope.specs.internal.WalkState.{Over}
+use Rattle.hir_scope.specs.{declared.tasks.Task.Task}
 use Rattle.hir_scope.specs.internal.Pending.{tasks_of}
-use Rattle.hir_scope.proofs.DoneLemmas.{arm_moves, arm_over}
+use Rattle.hir_scope.proofs.DoneLemmas.{arm_moves}
 use Rattle.hir_scope.proofs.walk.Walk.enter_arm.Goals as goal
 
 pub returns-clause-moves : goal.returns-clause-moves
@@ -17,10 +16,3 @@ returns-clause-moves c =
     ∙ ap (λ (ts : List Task). tasks_of (opt e a.guard) ++ ts) (c.in_ok-push-2.ensures.ok
     ∙ ap (λ (ts : List Task). Task.Expr a.expr ∷ ts) c.in_ok-push.ensures.ok)) in
     arm_moves a.store.now.nodes w a.pat a.expr fall a.guard pushed c.in_ok-open.ensures.opened c.requires.ready
-
-pub returns-in_err-open-clause-full : goal.returns-in_err-open-clause-full
-returns-in_err-open-clause-full c = λ h.
-    let w = c.args.self.now in
-    let a = c.args in
-    let o : Over (map frame_of w.scopes.scopes ++ frame a.store.now.nodes (a.pat ∷ []) ∷ []) = search rules in
-    arm_over a.store.now.nodes w a.pat a.expr a.guard o

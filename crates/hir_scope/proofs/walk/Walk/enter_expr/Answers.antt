@@ -1,9 +1,9 @@
-use Rattle.std.proofs.Common.{rules, ℕ, ◌++◌, map, refl, sym, ap, ◌∙◌, subst}
+use Rattle.std.proofs.Common.{rules, ℕ, ◌++◌, refl, sym, ap, ◌∙◌, subst}
 use Rattle.hir_node.specs.ChildCalls.{children}
 use Rattle.hir_node.specs.declared.node_id.NodeId.{NodeId}
-use Rattle.hir_scope.specs.{Chains.within_own, Order.met_in_form, Scopes.frame_of}
-use Rattle.hir_scope.specs.ScopingForms.{ScopingForm, form_at, form_of, form_model, expr_form}
-use Rattle.hir_scope.specs.internal.WalkState.{state, walk_state, frames_of_scope, AreInRange, OpensScopes, Over, HasFrames, scope_within}
+use Rattle.hir_scope.specs.{Chains.within_own, Order.met_in_form}
+use Rattle.hir_scope.specs.ScopingForms.{ScopingForm, form_at, form_of, expr_form}
+use Rattle.hir_scope.specs.internal.WalkState.{state, walk_state, frames_of_scope, AreInRange, OpensScopes, HasFrames, scope_within}
 use Rattle.hir_scope.specs.internal.Pending.{form_tasks, opened_frames, opened_const_frames}
 use Rattle.hir_scope.proofs.DoneLemmas.{children_in_range, expr_moves, empty_moves, met_over}
 use Rattle.hir_scope.proofs.MovingLemmas.{frames_grown, own_frames}
@@ -18,15 +18,7 @@ open_inside-requires-clause-in_range c =
     (children_in_range s fall (NodeId.Expr c.args.expr) c.requires.ready.known.0)
 
 pub returns-in_err-open_inside-clause-full : goal.returns-in_err-open_inside-clause-full
-returns-in_err-open_inside-clause-full c = λ h.
-    let s = c.args.store.now.nodes in
-    let w = c.args.self.now in
-    let fall = c.rank_decreases.ensures c.args.store.now c.has_no_fault.ensures in
-    let is = c.of_expr-form.ensures ∙ ap (form_at expr_form) (sym c.index.ensures) in
-    let x = form_model c.of_expr-form.result in
-    let o : Over (map frame_of w.scopes.scopes ++ (opened_frames s x ++ opened_const_frames x)) = search rules in
-    met_over s fall w c.args.expr c.requires.ready.known
-    (subst (λ (y : ScopingForm). Over (map frame_of w.scopes.scopes ++ (opened_frames s y ++ opened_const_frames y))) is o)
+returns-in_err-open_inside-clause-full c = search (rules, met_over)
 
 pub returns-clause-meets : goal.returns-clause-meets
 returns-clause-meets c =
@@ -51,12 +43,4 @@ returns-clause-meets c =
     }
 
 pub returns-in-Leaf-clause-meets : goal.returns-in-Leaf-clause-meets
-returns-in-Leaf-clause-meets c =
-    let s = c.args.store.now.nodes in
-    let w = c.args.self.now in
-    let fall = c.rank_decreases.ensures c.args.store.now c.has_no_fault.ensures in
-    let is = ap (form_at expr_form) c.index.ensures ∙ (sym c.of_expr-form.ensures ∙ ap form_model c.in-Leaf.is) in
-    record {
-      moves = empty_moves s fall w c.args.expr is c.requires.ready;
-      frames = record { within = c.requires.ready.scope; is = ap (λ (x : ScopingForm). within_own x (frames_of_scope (state w))) (sym is) };
-    }
+returns-in-Leaf-clause-meets c = search (rules, empty_moves)

@@ -1,9 +1,9 @@
-use Rattle.std.proofs.Common.{rules, ◌≡◌, [], ◌∷◌, ◌++◌, map, subst}
-use Rattle.hir_scope.specs.{Frames.empty, Scopes.frame_of}
+use Rattle.std.proofs.Common.{rules, ◌≡◌, [], ◌∷◌, subst}
+use Rattle.hir_scope.specs.{Frames.empty}
 use Rattle.hir_scope.specs.declared.tasks.CurrentScopes.{CurrentScopes}
 use Rattle.hir_scope.specs.internal.Pending.{both}
-use Rattle.hir_scope.specs.internal.WalkState.{state, OpensScopes, Over}
-use Rattle.hir_scope.proofs.DoneLemmas.{root_moves, root_over}
+use Rattle.hir_scope.specs.internal.WalkState.{state, OpensScopes}
+use Rattle.hir_scope.proofs.DoneLemmas.{root_moves}
 use Rattle.hir_scope.proofs.MovingLemmas.{at}
 use Rattle.hir_scope.proofs.walk.Walk.enter_root.Goals as goal
 
@@ -16,9 +16,3 @@ returns-clause-moves c =
     subst (λ (a : CurrentScopes). OpensScopes (at w.scopes a us) (state c.open.new.self) (empty ∷ []) []) first
     c.in_ok-open.ensures.opened in
     root_moves c.args.store.now.nodes w c.args.root c.in_ok-push.ensures.ok o c.requires.ready
-
-pub returns-in_err-open-clause-full : goal.returns-in_err-open-clause-full
-returns-in_err-open-clause-full c = λ h.
-    let w = c.args.self.now in
-    let o : Over (map frame_of w.scopes.scopes ++ empty ∷ []) = search rules in
-    root_over c.args.store.now.nodes w c.args.root o

@@ -1,28 +1,12 @@
-use Rattle.std.proofs.Common.{rules, List, [], ◌∷◌, ◌++◌, map, ◌<◌, ◌+◌, ◌⊎◌, length, refl, ap, ◌∙◌, subst}
-use Rattle.hir_scope.specs.{Frames.of_kind, Scopes.Scopes, Scopes.entry_count, Scopes.frame_of}
+use Rattle.std.proofs.Common.{rules, List, [], ◌∷◌, ◌++◌, map, ◌<◌, ◌+◌, ◌⊎◌, length, subst}
+use Rattle.hir_scope.specs.{Frames.of_kind, Scopes.entry_count, Scopes.frame_of}
 use Rattle.hir_scope.specs.declared.scope.ScopeEntry.{ScopeEntry}
 use Rattle.hir_scope.specs.internal.WalkState.{state, Over}
-use Rattle.hir_scope.proofs.MovingLemmas.{child, opened_const_frames_are, opened_then, over_after, over_more, over_new}
+use Rattle.hir_scope.proofs.MovingLemmas.{child, opened_const_frames_are, opened_then, over_after, over_new}
 use Rattle.hir_scope.proofs.walk.Walk.open_both.Goals as goal
 
 pub returns-clause-opened : goal.returns-clause-opened
-returns-clause-opened c =
-    let mid = c.open.new.self in
-    let ok = c.in_ok-self.ensures.ok in
-    let opened = c.in_ok-open.ensures.opened in
-    opened_then (state c.args.self.now) (state mid) _ (of_kind c.args.scope) (of_kind c.args.const_scope ∷ []) opened
-    (opened_const_frames_are (state mid) _ c.args.const_scope []
-    (ap (λ (x : Scopes). x.scopes) ok
-    ∙ ap (λ (xs : List ScopeEntry). mid.scopes.scopes ++ child mid.current.const_scope c.args.const_scope xs ∷ [])
-    c.in_ok-open.ensures.taken)
-    (ap (λ (x : Scopes). x.scope_by_expr) ok)
-    c.in_ok-self.ensures.id refl refl opened.scope.within)
-
-pub returns-in_err-open-clause-full : goal.returns-in_err-open-clause-full
-returns-in_err-open-clause-full c = λ h.
-    let S = map frame_of c.args.self.now.scopes.scopes in
-    let o : Over (S ++ of_kind c.args.scope ∷ []) = search rules in
-    over_more S (of_kind c.args.scope) (of_kind c.args.const_scope ∷ []) o
+returns-clause-opened c = search (rules, opened_then, opened_const_frames_are, child)
 
 pub returns-in_err-self-clause-full : goal.returns-in_err-self-clause-full
 returns-in_err-self-clause-full c = λ h.
