@@ -1,5 +1,5 @@
 -- Documents that were added to a stack of tokens, one after another.
-use Rattle.std.proofs.Common.{◌≡◌, ◌+◌, ◌-◌, ◌<◌, ℕ, Bool, true, false, arith, List, [], ◌∷◌, ◌++◌, refl, sym, ap, ap₂, subst, ◌∙◌, append_assoc, append-nil, length, take, get_or}
+use Rattle.std.proofs.Common.{◌≡◌, ◌+◌, ◌<◌, ℕ, Bool, true, false, arith, List, [], ◌∷◌, ◌++◌, refl, sym, ap, ◌∙◌, append_assoc, append-nil, length, take, get_or, rules}
 use Rattle.std.specs.Prelude.{reverse}
 use Rattle.std.proofs.lemmas.List.{take_more, length-append, reverse-reverse, Concat.flat_map-append}
 use Rattle.std.proofs.Math.Seq.{take-append_seam}
@@ -8,11 +8,11 @@ use Rattle.hir_collections.proofs.DeferredLemmas.{defers_none, defers_two}
 use Rattle.hir_pretty_docs.specs.declared.token.Token.{Token}
 use Rattle.hir_pretty_docs.specs.Prelude.{PrintEnv, Doc, stands_for, docs_of_tokens, docs_one_by_one, stood_after, above, Adds, AddsTokens}
 use Rattle.hir_pretty_docs.specs.declared.token.Token.TheVariants as token
+use Rattle.std.proofs.lemmas.Grind.{common_steps}
 
 stood_is-after : (s : PrintEnv) (is : List Doc) (tokens : List Token) → is ++ docs_of_tokens s tokens ≡ stood_after s is tokens
 stood_is-after s is [] = append-nil is
-stood_is-after s is (w ∷ ws) =
-    sym (append_assoc is (stands_for s w) (docs_of_tokens s ws)) ∙ stood_is-after s (is ++ stands_for s w) ws
+stood_is-after s is (w ∷ ws) = search (rules, append_assoc, stood_is-after s (is ++ stands_for s w) ws)
 
 pub stood_is : (s : PrintEnv) (tokens : List Token) → docs_of_tokens s tokens ≡ docs_one_by_one s tokens
 stood_is s [] = refl
@@ -25,9 +25,7 @@ meant-append s xs ys = flat_map-append (stands_for s) xs ys
 -- one more token of a list
 pub deferred_more : (u v w : StackItems Token) (ws : List Token) (i : ℕ) (x : Token) → i < length ws → x ≡ get_or ws i x
     → Defers u (take i ws) v → Defers v (x ∷ []) w → Defers u (take (i + 1) ws) w
-deferred_more u v w ws i x h e a b =
-    subst (λ (ts : List Token). Defers u ts w) (ap (λ y. take i ws ++ (y ∷ [])) e ∙ sym (take_more ws i x h))
-    (defers_two u v w (take i ws) (x ∷ []) a b)
+deferred_more u v w ws i x h e a b = grind (arith, common_steps, take_more, defers_two)
 
 -- a stack that returned no refusal when it turned nothing over
 pub is_false : (b : Bool) → (b ≡ true → ⊥) → b ≡ false
@@ -47,19 +45,12 @@ checked {old} {new} h =
 -- 1. Documents that were added
 
 above_is : (old new : StackItems Token) (tokens : List Token) → new.items ≡ reverse tokens ++ old.items → above old new ≡ tokens
-above_is old new tokens e =
-    let long : length new.items - length old.items ≡ length (reverse tokens)
-    = let k = ap length e in let l = length-append (reverse tokens) old.items in omega arith in
-    ap₂ (λ n xs. reverse (take n xs)) long e ∙ ap (reverse {A = Token}) (take-append_seam (reverse tokens) old.items)
-    ∙ reverse-reverse tokens
+above_is old new tokens e = grind (arith, common_steps, length-append, take-append_seam, reverse-reverse)
 
 -- by the tokens
 adding_of : {docs : PrintEnv → List Doc} (old new : StackItems Token) (tokens : List Token) → Defers old tokens new
     → (new.refused ≡ false → (s : PrintEnv) → docs_of_tokens s tokens ≡ docs s) → Adds old docs new
-adding_of old new tokens d e = record {
-  defers = λ h. let k = d h in (k.0, k.1 ∙ ap (λ ws. reverse ws ++ old.items) (sym (above_is old new tokens k.1)));
-  same = λ h s. ap (docs_of_tokens s) (above_is old new tokens (d h).1) ∙ e h s;
-}
+adding_of old new tokens d e = search (rules, above_is)
 
 -- none
 pub adds_none : {old : StackItems Token} {docs : PrintEnv → List Doc} → ((s : PrintEnv) → [] ≡ docs s) → Adds old docs old
@@ -69,10 +60,13 @@ adds_none {old} e = adding_of old old [] (defers_none old) (λ h. e)
 pub adds_then : {old between new : StackItems Token} {f g : PrintEnv → List Doc} → Adds old f between → Adds between g new
     → Adds old (λ s. f s ++ g s) new
 adds_then {old} {between} {new} a b =
-    adding_of old new (above old between ++ above between new)
-    (defers_two old between new (above old between) (above between new) a.defers b.defers)
-    (λ h s. meant-append s (above old between) (above between new)
-    ∙ ap₂ (λ xs ys. xs ++ ys) (a.same (b.defers h).0 s) (b.same h s))
+    grind (
+      arith,
+      common_steps,
+      adding_of,
+      defers_two old between new (above old between) (above between new) a.defers b.defers,
+      meant-append,
+    )
 
 -- the same documents in other words
 pub adds_as : {old new : StackItems Token} {f g : PrintEnv → List Doc} → Adds old f new → ((s : PrintEnv) → f s ≡ g s)
@@ -115,7 +109,6 @@ left_goes_on {is = is} {more = more} l a e = record {
 
 pub left_ends : {old now : StackItems Token} {all rest : PrintEnv → List Doc} → AddsRest old all now rest
     → ((s : PrintEnv) → [] ≡ rest s) → Adds old all now
-left_ends l e =
-    adds_as l.adds (λ s. sym (append-nil (l.done s)) ∙ ap (λ xs. l.done s ++ xs) (e s) ∙ l.same s)
+left_ends l e = search (rules, adds_as, adds, append-nil)
 
 pub ruleset adding = (adds, adds_none)

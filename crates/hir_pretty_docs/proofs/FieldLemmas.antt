@@ -1,5 +1,5 @@
 -- Fields of patterns, and parameters of closures, one after another.
-use Rattle.std.proofs.Common.{◌≡◌, ℕ, ◌+◌, ◌<◌, ◌≤◌, Bool, true, false, List, [], ◌∷◌, ◌++◌, codes, length, drop, get_or, Option, refl, sym, ap, ap₂, ◌∙◌, arith, append_assoc, append-nil, ◌||◌, ◌==◌, not}
+use Rattle.std.proofs.Common.{◌≡◌, ℕ, ◌+◌, ◌<◌, ◌≤◌, Bool, true, false, List, [], ◌∷◌, ◌++◌, codes, length, drop, get_or, Option, refl, sym, ap, ◌∙◌, arith, append_assoc, append-nil, ◌||◌, ◌==◌, not, rules}
 use Rattle.std.proofs.lemmas.List.{drop_all}
 use Rattle.hir_path.specs.declared.path.Path.{Path}
 use Rattle.hir_node.specs.declared.pat.Pat.TheVariants as pat
@@ -39,9 +39,7 @@ record_plain s path fs = ap (λ is. is ++ out ++ text (codes "}")) (sym (append-
 pub param_step : (after : Bool) (args : List ℕ) (i : ℕ) (arg : ℕ) (types others : List (Option ℕ)) (type : Option ℕ) → i < length args → arg ≡ get_or args i arg → types ≡ type ∷ others
     → when after (text (codes ", ")) ++ p arg ++ opt (λ id. text (codes ": ") ++ t id) type ++ following (text (codes ", ")) true (params (drop (i + 1) args) others)
     ≡ following (text (codes ", ")) after (params (drop i args) types)
-param_step after args i arg types others type h e k =
-    ap (λ is. is ++ following (text (codes ", ")) true (params (drop (i + 1) args) others)) (append_assoc (when after (text (codes ", "))) (p arg) (opt (λ id. text (codes ": ") ++ t id) type))
-    ∙ sym (ap₂ (λ xs ys. following (text (codes ", ")) after (params xs ys)) (drop_item args i arg h e) k)
+param_step after args i arg types others type h e k = search (rules, append_assoc, drop_item)
 
 pub no_args : (after : Bool) (args : List ℕ) (i : ℕ) (types : List (Option ℕ)) → length args ≤ i → [] ≡ following (text (codes ", ")) after (params (drop i args) types)
 no_args after args i types h = sym (ap (λ xs. following (text (codes ", ")) after (params xs types)) (drop_all i args h))

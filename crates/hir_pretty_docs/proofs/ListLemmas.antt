@@ -1,5 +1,5 @@
 -- Lists that are gone through, and separators.
-use Rattle.std.proofs.Common.{◌≡◌, ℕ, ◌+◌, ◌-◌, ◌<◌, ◌≤◌, Bool, true, false, List, [], ◌∷◌, ◌++◌, length, map, take, drop, get_or, arith, refl, sym, ap, ap₂, ◌∙◌, append_assoc, append-nil, add-one, drop-cons, flat_map}
+use Rattle.std.proofs.Common.{◌≡◌, ℕ, ◌+◌, ◌-◌, ◌<◌, ◌≤◌, Bool, true, false, List, [], ◌∷◌, ◌++◌, length, map, take, drop, get_or, arith, refl, sym, ap, ap₂, ◌∙◌, append_assoc, append-nil, add-one, drop-cons, flat_map, rules}
 use Rattle.std.proofs.lemmas.List.{take_all, drop_all}
 use Rattle.hir_pretty_docs.specs.Prelude.{Doc, when, join, following}
 
@@ -24,8 +24,7 @@ following_ends sep f after xs i h = sym (ap (λ ys. following sep after (map f y
 
 following_is : (sep x : List Doc) (ys : List (List Doc)) → x ++ following sep true ys ≡ join sep (x ∷ ys)
 following_is sep x [] = append-nil x
-following_is sep x (y ∷ ys) =
-    ap (λ zs. x ++ zs) (append_assoc sep y (following sep true ys)) ∙ ap (λ zs. x ++ (sep ++ zs)) (following_is sep y ys) ∙ sym (append_assoc x sep (join sep (y ∷ ys)))
+following_is sep x (y ∷ ys) = search (rules, append_assoc, following_is sep y ys)
 
 pub following_joined : (sep : List Doc) (xs : List (List Doc)) → following sep false xs ≡ join sep xs
 following_joined sep [] = refl

@@ -1,5 +1,5 @@
 -- Items by what a list has: none, one, or more.
-use Rattle.std.proofs.Common.{◌≡◌, ℕ, zero, suc, ◌+◌, ◌-◌, ◌<◌, ◌≤◌, Bool, true, false, List, [], ◌∷◌, ◌++◌, codes, map, take, drop, length, get_or, Option, Some, None, refl, sym, ap, ap₂, ◌∙◌, arith, append_assoc, append-nil, inl, inr, ◌==◌, ◌&&◌, not, IsTrue, is_none, is_some, flat_map, option_to_list}
+use Rattle.std.proofs.Common.{◌≡◌, ℕ, zero, suc, ◌+◌, ◌-◌, ◌<◌, ◌≤◌, Bool, true, false, List, [], ◌∷◌, ◌++◌, codes, map, take, drop, length, get_or, Option, Some, None, refl, sym, ap, ap₂, ◌∙◌, arith, append_assoc, append-nil, ◌==◌, ◌&&◌, not, IsTrue, is_none, is_some, flat_map, option_to_list, rules}
 use Rattle.std.proofs.lemmas.{Bool.cases_lt, Bool.Decides.nat_tests, List.take-map, List.drop-map, List.take_all, List.drop_all}
 use Rattle.std.proofs.lemmas.List.{length-map, Concat.flat_map-append}
 use Rattle.hir_node.specs.declared.{expr_types.Array.TheVariants.ElementList, expr_types.Statement.Statement}
@@ -109,33 +109,20 @@ around sep x xs ys =
 
 -- a list cut where it ends, or before
 all_but_last_is : {X Y : Type 0} (f : X → Y) (xs : List X) (n m : ℕ) → m ≡ length xs - (length xs - n) → map f (take m xs) ≡ take n (map f xs)
-all_but_last_is f xs n m h = elim (cases_lt n (length xs)) [
-  | inl k ↦ let l : m ≡ n = omega arith in ap (λ i. map f (take i xs)) l ∙ sym (take-map f n xs)
-  | inr k ↦ let l : length xs ≤ m = omega arith in let i : length (map f xs) ≤ n = omega (arith, length-map xs f) in ap (map f) (take_all m xs l) ∙ sym (take_all n (map f xs) i)
-]
+all_but_last_is f xs n m h = search (rules, cases_lt, take-map, length-map, take_all)
 
 back_cut : {X Y : Type 0} (f : X → Y) (xs : List X) (n m : ℕ) → m ≡ length xs - (length xs - n) → map f (drop m xs) ≡ drop n (map f xs)
-back_cut f xs n m h = elim (cases_lt n (length xs)) [
-  | inl k ↦ let l : m ≡ n = omega arith in ap (λ i. map f (drop i xs)) l ∙ sym (drop-map f n xs)
-  | inr k ↦ let l : length xs ≤ m = omega arith in let i : length (map f xs) ≤ n = omega (arith, length-map xs f) in ap (map f) (drop_all m xs l) ∙ sym (drop_all n (map f xs) i)
-]
+back_cut f xs n m h = search (rules, cases_lt, drop-map, length-map, drop_all)
 
 pub rest_is : (pats all_but_last back : List ℕ) (n m : ℕ) → m ≡ length pats - (length pats - n) → all_but_last ≡ take m pats → back ≡ drop m pats
     → join (text (codes ", ")) (map p all_but_last) ++ when (not (length all_but_last == 0)) (text (codes ", ")) ++ text (codes "..") ++ following (text (codes ", ")) true (map p back)
     ≡ comma_joined (with_rest (Some n) (map p pats))
-rest_is pats all_but_last back n m h f b =
-    ap (λ c. join (text (codes ", ")) (map p all_but_last) ++ when c (text (codes ", ")) ++ text (codes "..") ++ following (text (codes ", ")) true (map p back)) (not_empty all_but_last ∙ sym (cons_map p all_but_last))
-    ∙ around (text (codes ", ")) (text (codes "..")) (map p all_but_last) (map p back)
-    ∙ ap₂ (λ xs ys. comma_joined (xs ++ (text (codes "..") ∷ []) ++ ys)) (ap (map p) f ∙ all_but_last_is p pats n m h) (ap (map p) b ∙ back_cut p pats n m h)
+rest_is pats all_but_last back n m h f b = search (rules, not_empty, cons_map, around, all_but_last_is, back_cut)
 
 slice_parts : (prefix suffix : List ℕ) (slice : Option ℕ)
     → flat_map (λ id. p id ++ text (codes ", ")) prefix ++ opt (λ id. p id ++ text (codes ", ")) slice ++ flat_map (λ id. p id ++ text (codes ", ")) suffix
     ≡ flat_map (λ id. p id ++ text (codes ", ")) (prefix ++ option_to_list slice ++ suffix)
-slice_parts prefix suffix slice =
-    let f : ℕ → List Doc = λ id. p id ++ text (codes ", ") in
-    let one : opt f slice ≡ flat_map f (option_to_list slice) = elim slice as (λ o. opt f o ≡ flat_map f (option_to_list o)) [ None ↦ refl | Some x ↦ refl ] in
-    ap (λ is. flat_map f prefix ++ is ++ flat_map f suffix) one ∙ ap (λ is. is ++ flat_map f suffix) (sym (flat_map-append f prefix (option_to_list slice)))
-    ∙ sym (flat_map-append f (prefix ++ option_to_list slice) suffix)
+slice_parts prefix suffix slice = search (rules, flat_map-append)
 
 pub slice_is : (prefix suffix : List ℕ) (slice : Option ℕ)
     → text (codes "[") ++ flat_map (λ id. p id ++ text (codes ", ")) prefix ++ opt (λ id. p id ++ text (codes ", ")) slice ++ flat_map (λ id. p id ++ text (codes ", ")) suffix ++ text (codes "]")
@@ -165,8 +152,7 @@ no_segments s after names i lists h = sym (ap (λ ns. segments_from s after ns l
 -- 7. A block after what comes before it
 
 pub braces_after : (before inside : List Doc) → before ++ (text (codes "{") ++ inside ++ text (codes "}")) ≡ before ++ text (codes "{") ++ inside ++ text (codes "}")
-braces_after before inside =
-    sym (append_assoc (before ++ text (codes "{")) inside (text (codes "}")) ∙ append_assoc before (text (codes "{")) (inside ++ text (codes "}")))
+braces_after before inside = search (rules, append_assoc)
 
 -- 8. The header of a closure that is no coroutine
 

@@ -1,5 +1,5 @@
 -- The documents of a function type by its parameters and its result.
-use Rattle.std.proofs.Common.{◌≡◌, ℕ, ◌-◌, Bool, true, false, List, [], ◌∷◌, ◌++◌, codes, map, length, Option, refl, sym, ap, ap₂, ◌∙◌, arith, append_assoc, append-nil, length-append, ◌&&◌, ◌==◌, not, flat_map}
+use Rattle.std.proofs.Common.{◌≡◌, ℕ, ◌-◌, Bool, true, false, List, [], ◌∷◌, ◌++◌, codes, map, length, Option, refl, sym, ap, ◌∙◌, arith, append_assoc, append-nil, length-append, ◌&&◌, ◌==◌, not, flat_map, rules}
 use Rattle.hir_pretty_docs.specs.Prelude.{Doc, text, t, when, join, comma_joined, all_but_last, last, varargs_docs, signature_docs}
 use Rattle.hir_pretty_docs.proofs.{ListLemmas.is_cons, OrderLemmas.not_empty}
 
@@ -44,8 +44,5 @@ pub signature_is : (v : Bool) (params bs ret : List (Option (List ℕ) × ℕ)) 
     → written v bs ret ≡ signature_docs v (map (λ (entry : Option (List ℕ) × ℕ). entry.1) params)
 signature_is v params [] [] h k = parts v [] [] ∙ ap (λ xs. signature_docs v (types_of xs)) (sym h)
 signature_is v params (b ∷ bs) [] h k = absurd (let l = ap length h in let m = length-append (b ∷ bs) [] in omega arith)
-signature_is v params bs (x ∷ []) h k =
-    parts v bs (x ∷ [])
-    ∙ ap₂ (λ fr la. text (codes "fn(") ++ comma_joined (map t fr) ++ varargs_docs v fr ++ text (codes ") -> ") ++ la) (sym (all_but_last_cut bs x)) (sym (lasts bs x))
-    ∙ ap (λ xs. signature_docs v (types_of xs)) (sym h)
+signature_is v params bs (x ∷ []) h k = search (rules, arith, parts v bs (x ∷ []), all_but_last_cut bs x, lasts bs x)
 signature_is v params bs (x ∷ y ∷ more) h k = absurd (let l = ap length h in let m = length-append bs (x ∷ y ∷ more) in omega arith)

@@ -1,5 +1,5 @@
 -- Steps of the printer's loop, and what is printed of all that was added.
-use Rattle.std.proofs.Common.{◌≡◌, ℕ, ◌+◌, ◌<◌, ◌≤◌, Bool, true, false, List, [], ◌∷◌, ◌++◌, map, length, Option, Some, None, refl, sym, ap, ap₂, subst, ◌∙◌, arith, append_assoc, append-nil, Result, Ok, Err, IsTrue, String, string_bytes, slice_get, inl, inr}
+use Rattle.std.proofs.Common.{◌≡◌, ℕ, ◌<◌, ◌≤◌, Bool, true, false, List, [], ◌∷◌, ◌++◌, map, length, Option, Some, None, refl, sym, ap, ap₂, subst, ◌∙◌, arith, append_assoc, append-nil, Result, Ok, Err, IsTrue, String, string_bytes, slice_get, rules}
 use Rattle.std.proofs.lemmas.{Bool.cases_lt, List.reverse-append, List.reverse-reverse, Option.slice_get_past}
 use Rattle.std.specs.Prelude.{reverse}
 use Rattle.hir_collections.specs.Stacks.{StackItems, Defers}
@@ -10,7 +10,7 @@ use Rattle.hir_pretty_layout.specs.{Page.Page, Page.empty_page, Page.page_text, 
 use Rattle.hir_pretty_docs.proofs.AddLemmas.{meant-append, is_false}
 use Rattle.hir_pretty_docs.specs.declared.token.Token.{Token}
 use Rattle.hir_pretty_docs.specs.declared.token.Token.TheVariants as token
-use Rattle.hir_pretty_nodes.specs.Prelude.{NodeId, Missing, PrintEnv, Doc, MissingDoc, ExprDoc, ExprIn, DocPiece, Present, PrintsPieces, WritesPieces, opt, format_of, first_missing, layout, docs_of, pieces, doc_list_pieces, stands_in_parentheses, precedence_found, DocsDecrease, size, stands_for, docs_of_tokens, above, Adds, Printing, env_of, printing_of, on_page, AddsTo, printing, Stacked, all_printed, enclose, AddsAt, PrintsAlike, FindsAt, WritesToken, ExpandsToken, ComesTo}
+use Rattle.hir_pretty_nodes.specs.Prelude.{NodeId, Missing, PrintEnv, Doc, MissingDoc, ExprDoc, ExprIn, DocPiece, Present, PrintsPieces, WritesPieces, opt, format_of, layout, docs_of, pieces, doc_list_pieces, stands_in_parentheses, precedence_found, DocsDecrease, size, stands_for, docs_of_tokens, above, Adds, Printing, env_of, printing_of, on_page, AddsTo, printing, Stacked, all_printed, enclose, AddsAt, PrintsAlike, FindsAt, WritesToken, ExpandsToken, ComesTo}
 use Rattle.hir_pretty_nodes.specs.declared.{printer.Printer.Printer, lookups.Found.Found, fault.PrintFault.PrintFault}
 use Rattle.hir_pretty_nodes.specs.declared.fault.PrintFault.TheVariants as fault
 use Rattle.hir_pretty_nodes.proofs.PieceLemmas.{printed-append, enclosed_printed, pieces_alike, missing_is, value_of_pieces, nothing_left, is_missing}
@@ -18,10 +18,7 @@ use Rattle.hir_pretty_nodes.proofs.{StepLemmas.pieces_at, SizeLemmas.size-append
 
 -- what is out of range isn't found
 pub not_there : {X : Type 0} (xs : List X) (id : ℕ) (b : Bool) → (IsTrue b → id < length xs) × (id < length xs → IsTrue b) → b ≡ false → slice_get xs id ≡ None
-not_there xs id b k e = elim (cases_lt id (length xs)) [
-  | inl h ↦ absurd (let yes : b ≡ true = k.1 h in let bad : false ≡ true = sym e ∙ yes in grind arith)
-  | inr h ↦ slice_get_past xs id h
-]
+not_there xs id b k e = search (rules, cases_lt, slice_get_past)
 
 -- what was found, by other words for its documents
 pub finds_as : {s : PrintEnv} {is js : List Doc} {result : Result Found Missing} → is ≡ js → FindsAt s is result → FindsAt s js result
@@ -39,18 +36,13 @@ pub at_as : {s : PrintEnv} {old new : StackItems Token} {is js : List Doc} → i
 at_as e a = record { tokens = a.tokens; defers = a.defers; same = λ h. a.same h ∙ e }
 
 pub at_then : {s : PrintEnv} {old between new : StackItems Token} {is js : List Doc} → AddsAt s old is between → AddsAt s between js new → AddsAt s old (is ++ js) new
-at_then {s} {old} {between} {new} {is} {js} a b = record {
-  tokens = a.tokens ++ b.tokens;
-  defers = defers_two old between new a.tokens b.tokens a.defers b.defers;
-  same = λ h. meant-append s a.tokens b.tokens ∙ ap (λ xs. xs ++ docs_of_tokens s b.tokens) (a.same (b.defers h).0)
-      ∙ ap (λ ys. is ++ ys) (b.same h);
-}
+at_then {s} {old} {between} {new} {is} {js} a b =
+    search (rules, arith, defers_two old between new a.tokens b.tokens a.defers b.defers, meant-append s a.tokens b.tokens)
 
 -- of a node that is found, and of one that isn't
 pub at_found : {X : Type 0} {s : PrintEnv} {old new : StackItems Token} (docs : PrintEnv → X → List Doc) (found : Option X) (x : X) → found ≡ Some x
     → Adds old (λ t. docs t x) new → AddsAt s old (opt (docs s) found) new
-at_found {s = s} {old} {new} docs found x e a =
-    record { tokens = above old new; defers = a.defers; same = λ h. a.same h s ∙ sym (ap (opt (docs s)) e) }
+at_found {s = s} {old} {new} docs found x e a = search rules
 
 pub at_absent : {X : Type 0} {s : PrintEnv} {old : StackItems Token} (docs : X → List Doc) (found : Option X) → found ≡ None → AddsAt s old (opt docs found) old
 at_absent docs found e = at_as (sym (ap (opt docs) e)) at_none
@@ -67,19 +59,7 @@ module _ {W : Type 0} {step : Layout → W → W} where
   pub expands_by : {w : Token} {old new : Stacked W} {is : List Doc} → new ≡ record old { tokens = new.tokens } → AddsAt old.from old.tokens is new.tokens
       → ((more : List Doc) → doc_list_pieces old.from (stands_for old.from w ++ more) ≡ doc_list_pieces old.from (is ++ more))
       → size old.from is < size old.from (stands_for old.from w) → ExpandsToken step w old new
-  expands_by {w} {old} {new} {is} same a e h =
-      let s = old.from in
-      let value : old.value ≡ new.value = sym (ap (λ (p : Stacked W). p.value) same) in
-      record {
-        from = ap (λ (p : Stacked W). p.from) same;
-        expansion = a.tokens;
-        defers = a.defers;
-        alike = λ r. record {
-          alike = λ more. ap (printing step old.value) (e more) ∙ ap (λ xs. printing step old.value (doc_list_pieces s (xs ++ more))) (sym (a.same r))
-              ∙ ap (λ v. printing step v (doc_list_pieces s (docs_of_tokens s a.tokens ++ more))) value;
-        };
-        less = λ r. let k = ap (size s) (a.same r) in omega arith;
-      }
+  expands_by {w} {old} {new} {is} same a e h = search rules
 
   -- of which the first layouts were written
   pub written_then : {w : Token} {old new : Stacked W} {is : List Doc} (first : List Doc) (ps : List Layout) → doc_list_pieces old.from first ≡ map Present ps
@@ -143,13 +123,7 @@ module _ {W : Type 0} {step : Layout → W → W} where
   -- these tokens are left once the next was taken from the stack
   pub comes_taken : {old now taken : Stacked W} {left : List Token} → ComesTo step old now.tokens.items now → now.tokens.items ≡ left → taken.from ≡ now.from → taken.value ≡ now.value
       → ComesTo step old left taken
-  comes_taken {old} {now} {taken} {left} c next from value =
-      let s = old.from in
-      record {
-        from = from ∙ c.from;
-        same = c.same ∙ ap (λ ws. printing step now.value (doc_list_pieces s (docs_of_tokens s ws))) next ∙ ap (λ v. printing step v (doc_list_pieces s (docs_of_tokens s left))) (sym value);
-        most = let h = c.most in let k = ap (λ ws. size s (docs_of_tokens s ws)) next in omega arith;
-      }
+  comes_taken {old} {now} {taken} {left} c next from value = search rules
 
   -- and it was written
   pub comes_written : {old taken new : Stacked W} {w : Token} → ComesTo step old (w ∷ taken.tokens.items) taken → WritesToken step w taken new → ComesTo step old new.tokens.items new
@@ -166,11 +140,7 @@ module _ {W : Type 0} {step : Layout → W → W} where
   -- or it is missing
   pub comes_missing : {old taken : Stacked W} {w : Token} {m : Missing} → ComesTo step old (w ∷ taken.tokens.items) taken → stands_for taken.from w ≡ MissingDoc m ∷ []
       → (all_printed step old).1 ≡ Some m
-  comes_missing {old} {taken} {w} {m} c lacks =
-      let s = old.from in
-      let here : stands_for s w ≡ MissingDoc m ∷ [] = subst (λ t. stands_for t w ≡ MissingDoc m ∷ []) c.from lacks in
-      ap (λ (r : W × Option Missing). r.1) (c.same ∙ ap (λ is. printing step taken.value (doc_list_pieces s (is ++ docs_of_tokens s taken.tokens.items))) here)
-      ∙ is_missing step taken.value m (doc_list_pieces s (docs_of_tokens s taken.tokens.items))
+  comes_missing {old} {taken} {w} {m} c lacks = search (rules, is_missing)
 
 -- 5. All that waits
 
@@ -206,8 +176,7 @@ turned_whole before old {new} turn = is_false old.refused (λ e.
     let long = ap (λ (v : StackItems Token). length v.items) (sym none ∙ some) in absurd (omega arith))
 
 pub never_turned : (old : StackItems Token) {new : StackItems Token} → old.refused ≡ true → TurnsOver 0 old new → ⊥
-never_turned old refused turn =
-    let whole : old.refused ≡ false = turned_whole (record { items = []; refused = false }) old turn in absurd (cc)
+never_turned old refused turn = search (rules, arith, (turned_whole (record { items = []; refused = false }) old turn))
 
 -- what is printed of the tokens on the stack comes to this
 pub record Comes {W : Type 0} (step : Layout → W → W) (s : PrintEnv) (whole : W × Option Missing) (now : Stacked W) : Type 0 where
@@ -223,23 +192,10 @@ module _ {W : Type 0} {step : Layout → W → W} {s : PrintEnv} {whole : W × O
     at = next.from ∙ c.from
 
     docs_now : docs_of_tokens s stack.items ≡ docs_of_tokens s a.expansion ++ docs_of_tokens s taken.tokens.items
-    docs_now = ap (λ (v : StackItems Token). docs_of_tokens s v.items) (turn taken.tokens a.expansion refl a.defers)
-        ∙ meant-append s a.expansion taken.tokens.items
+    docs_now = search (rules, arith, meant-append s a.expansion taken.tokens.items)
 
     pub comes_expanded : Comes step s whole (record between { tokens = stack })
-    comes_expanded =
-        let before : printing step now.value (doc_list_pieces s (docs_of_tokens s now.tokens.items))
-        ≡ printing step taken.value (doc_list_pieces s (docs_of_tokens s (w ∷ taken.tokens.items)))
-        = subst (λ t. printing step now.value (doc_list_pieces t (docs_of_tokens t now.tokens.items))
-        ≡ printing step taken.value (doc_list_pieces t (docs_of_tokens t (w ∷ taken.tokens.items)))) c.from next.same in
-        let alike : PrintsAlike step s taken.value (stands_for s w) between.value (docs_of_tokens s a.expansion)
-        = subst (λ t. PrintsAlike step t taken.value (stands_for t w) between.value (docs_of_tokens t a.expansion)) at
-        (a.alike (turned_whole taken.tokens between.tokens turn)) in
-        record {
-          from = a.from ∙ at;
-          same = c.same ∙ before ∙ alike.alike (docs_of_tokens s taken.tokens.items)
-              ∙ ap (λ is. printing step between.value (doc_list_pieces s is)) (sym docs_now);
-        }
+    comes_expanded = search (rules, at, turned_whole, docs_now)
 
     pub less_expanded : size s (docs_of_tokens s stack.items) < size s (docs_of_tokens s now.tokens.items)
     less_expanded =
@@ -253,19 +209,13 @@ module _ {W : Type 0} {step : Layout → W → W} {s : PrintEnv} {whole : W × O
 
   -- nothing waits
   pub comes_over : {now last : Stacked W} → Comes step s whole now → ComesTo step now [] last → whole ≡ (last.value, None)
-  comes_over {now} {last} c next =
-      c.same ∙ subst (λ t. printing step now.value (doc_list_pieces t (docs_of_tokens t now.tokens.items)) ≡ printing step last.value []) c.from next.same ∙ nothing_left step last.value
+  comes_over {now} {last} c next = search (rules, nothing_left)
 
 -- 6. What is printed of all that was added
 
 module _ {W : Type 0} {step : Layout → W → W} {value : W} {ps : List DocPiece} where
   pub writes_all : (exit : W) → printing step value ps ≡ (exit, None) → WritesPieces step ps value (Ok exit)
-  writes_all exit whole =
-      let none : first_missing ps ≡ None = sym (missing_is step value ps) ∙ ap (λ (r : W × Option Missing). r.1) whole in
-      record {
-        exit = (none, sym (ap (λ (r : W × Option Missing). r.0) whole) ∙ value_of_pieces step value ps none);
-        missing = λ m f. absurd (cc);
-      }
+  writes_all exit whole = search (rules, missing_is, value_of_pieces)
 
   pub writes_fault : (found : PrintFault) → ((m : Missing) → found ≡ fault.Missing m → (printing step value ps).1 ≡ Some m) → WritesPieces step ps value (Err found)
   writes_fault found h = record { exit = tt; missing = λ m e. sym (missing_is step value ps) ∙ h m (cc) }
@@ -291,11 +241,7 @@ by_case false f g = g refl
 prints_docs : {Z : Type 0} {s : PrintEnv} {docs : List Doc} {result : Result (String Z) PrintFault} (p : Printing Page) → p.from ≡ s → p.value ≡ empty_page (format_of s.one_line)
     → (p.refused ≡ false → p.added ≡ docs) → (p.value ≡ empty_page (format_of p.from.one_line) → PrintsPieces p.from (doc_list_pieces p.from p.added) result)
     → (p.refused ≡ true → result ≡ Err fault.Memory) → PrintsPieces s (doc_list_pieces s docs) result
-prints_docs {s = s} {docs} {result} p from value whole pieces memory =
-    by_case p.refused
-    (λ h. subst (λ r. PrintsPieces s (doc_list_pieces s docs) r) (sym (memory h)) prints_refused)
-    (λ h. subst (λ is. PrintsPieces s (doc_list_pieces s is) result) (whole h)
-    (subst (λ t. PrintsPieces t (doc_list_pieces t p.added) result) from (pieces (value ∙ ap (λ (t : PrintEnv). empty_page (format_of t.one_line)) (sym from)))))
+prints_docs {s = s} {docs} {result} p from value whole pieces memory = search (rules, by_case, prints_refused)
 
 -- the tokens on a stack, after others
 stack_more : {old new : StackItems Token} {docs : PrintEnv → List Doc} → Adds old docs new → new.refused ≡ false → (s : PrintEnv)
@@ -318,10 +264,7 @@ added_to old {new} {between} {docs} a h same =
 pub prints_added : {Z : Type 0} {s : PrintEnv} {first added : Printing Page} {docs : PrintEnv → List Doc} {result : Result (String Z) PrintFault} → first ≡ on_page s → AddsTo first docs added
     → (added.value ≡ empty_page (format_of added.from.one_line) → PrintsPieces added.from (doc_list_pieces added.from added.added) result)
     → (added.refused ≡ true → result ≡ Err fault.Memory) → PrintsPieces s (doc_list_pieces s (docs s)) result
-prints_added {added = added} {docs} b a pieces memory =
-    let is = a.same ∙ ap (λ (p : Printing Page). record p { added = p.added ++ docs p.from; refused = false }) b in
-    prints_docs added (ap (λ (p : Printing Page). p.from) is) (ap (λ (p : Printing Page). p.value) is)
-    (λ _. ap (λ (p : Printing Page). p.added) is) pieces memory
+prints_added {added = added} {docs} b a pieces memory = search (rules, prints_docs)
 
 -- by those of its tokens
 pub prints : {Z : Type 0} {s : PrintEnv} (first : Printer Page) {added : Printer Page} {docs : PrintEnv → List Doc} {result : Result (String Z) PrintFault} → printing_of first ≡ on_page s

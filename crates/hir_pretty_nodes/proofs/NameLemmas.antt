@@ -1,19 +1,15 @@
 -- Names by their parts.
-use Rattle.std.proofs.Common.{◌≡◌, ◌≢◌, ℕ, Bool, true, false, List, [], ◌∷◌, ◌++◌, map, codes, refl, sym, ap, ap₂, ◌∙◌, append-nil, ◌==◌, ◌&&◌, if◌then◌else◌, nat_eq, flat_map}
+use Rattle.std.proofs.Common.{◌≡◌, ◌≢◌, ℕ, Bool, true, false, List, [], ◌∷◌, ◌++◌, map, codes, refl, sym, ap, ◌∙◌, append-nil, ◌&&◌, if◌then◌else◌, nat_eq, flat_map, rules}
 use Rattle.std.proofs.lemmas.Bool.Decides.{Decides-eqb}
 use Rattle.hir_pretty_layout.specs.{Layouts.Layout, Layouts.Text, Steps.steps}
-use Rattle.std.specs.Cmp.Lexicographic.{bytes_decides}
-use Rattle.hir_pretty_nodes.specs.Prelude.{is_word, raw_parts, name_parts, first_if, printed_name, same_text}
+use Rattle.hir_pretty_nodes.specs.Prelude.{raw_parts, name_parts, first_if, printed_name, same_text}
 
 -- 1. Parts
 
 -- a name that doesn't begin with a quote
 pub no_quote : (words : List (List ℕ)) (name : List ℕ) → ((rest : List ℕ) → name ≢ 39 ∷ rest) → name_parts words name ≡ raw_parts words name
 no_quote words [] h = refl
-no_quote words (c ∷ cs) h = other (c == 39) (λ e. h cs (ap (λ d. d ∷ cs) ((Decides-eqb c 39).0 e))) where
-  other : (b : Bool) → (b ≡ true → ⊥) → if b then (if same_text cs (codes "static") then (c ∷ cs) ∷ [] else (c ∷ []) ∷ raw_parts words cs) else raw_parts words (c ∷ cs) ≡ raw_parts words (c ∷ cs)
-  other true k = absurd (k refl)
-  other false k = refl
+no_quote words (c ∷ cs) h = search (rules, Decides-eqb)
 
 -- a name that does
 pub quoted_static : (words : List (List ℕ)) (rest : List ℕ) → same_text rest (codes "static") ≡ true → name_parts words (39 ∷ rest) ≡ (39 ∷ rest) ∷ []
@@ -21,13 +17,6 @@ quoted_static words rest e = ap (λ b. if b then (39 ∷ rest) ∷ [] else (39 �
 
 pub quoted_other : (words : List (List ℕ)) (rest : List ℕ) → same_text rest (codes "static") ≡ false → name_parts words (39 ∷ rest) ≡ (39 ∷ []) ∷ raw_parts words rest
 quoted_other words rest e = ap (λ b. if b then (39 ∷ rest) ∷ [] else (39 ∷ []) ∷ raw_parts words rest) e
-
--- a word of the edition, and another
-pub raw_word : (words : List (List ℕ)) (name : List ℕ) → is_word words name ≡ true → raw_parts words name ≡ codes "r#" ∷ name ∷ []
-raw_word words name e = ap (λ b. if b then codes "r#" ∷ name ∷ [] else name ∷ []) e
-
-pub plain_word : (words : List (List ℕ)) (name : List ℕ) → is_word words name ≡ false → raw_parts words name ≡ name ∷ []
-plain_word words name e = ap (λ b. if b then codes "r#" ∷ name ∷ [] else name ∷ []) e
 
 -- 2. Parts as they were found
 
@@ -56,10 +45,7 @@ same_rest (c ∷ first) xs ys = ap (λ b. b && same_text (first ++ xs) (first ++
 
 -- a text that doesn't begin with this is none that does
 pub not_same : (text first rest : List ℕ) → ((others : List ℕ) → text ≢ first ++ others) → same_text text (first ++ rest) ≡ false
-not_same text first rest h = other (same_text text (first ++ rest)) (λ e. h rest ((bytes_decides text (first ++ rest)).0 e)) where
-  other : (b : Bool) → (b ≡ true → ⊥) → b ≡ false
-  other true k = absurd (k refl)
-  other false k = refl
+not_same text first rest h = search rules
 
 -- 3. A text beside what is printed of a name
 
@@ -72,11 +58,8 @@ module _ (words : List (List ℕ)) (name : List ℕ) (q r : Bool) (rest : List �
 
   pub not_raw : (text left : List ℕ) → text ≡ (if q then codes "'" else []) ++ left → ((others : List ℕ) → left ≢ (if r then codes "r#" else []) ++ others)
       → false ≡ same_text text (printed_name words name)
-  not_raw text left k h =
-      sym (ap₂ same_text k printed_as ∙ same_rest (if q then codes "'" else []) left ((if r then codes "r#" else []) ++ rest) ∙ not_same left (if r then codes "r#" else []) rest h)
+  not_raw text left k h = search (rules, printed_as, same_rest, not_same)
 
   pub same_printed : (text left others : List ℕ) → text ≡ (if q then codes "'" else []) ++ left → left ≡ (if r then codes "r#" else []) ++ others
       → same_text others rest ≡ same_text text (printed_name words name)
-  same_printed text left others k h =
-      sym (ap₂ same_text (k ∙ ap (λ xs. (if q then codes "'" else []) ++ xs) h) printed_as
-      ∙ same_rest (if q then codes "'" else []) ((if r then codes "r#" else []) ++ others) ((if r then codes "r#" else []) ++ rest) ∙ same_rest (if r then codes "r#" else []) others rest)
+  same_printed text left others k h = search (rules, printed_as, same_rest)

@@ -1,6 +1,6 @@
 -- What is printed inside an expression, a pattern or a type is among its child calls, or stands under one of
 -- them.
-use Rattle.std.proofs.Common.{ℕ, zero, suc, Bool, true, false, List, [], ◌∷◌, ◌++◌, map, take, drop, codes, Option, Some, None, sym, ap, ◌∙◌, subst, slice_get, not, Result, Ok, Err, flat_map, option_to_list}
+use Rattle.std.proofs.Common.{ℕ, zero, suc, Bool, true, false, List, [], ◌∷◌, ◌++◌, map, codes, Option, Some, None, sym, ap, ◌∙◌, subst, slice_get, Result, Ok, Err, flat_map, option_to_list, rules, arith}
 use Rattle.std.proofs.lemmas.List.Concat.{flat_map-append}
 use Rattle.hir_base.specs.OpTexts.{range_text}
 use Rattle.hir_base.specs.declared.{abi.ExternAbi.ExternAbi, mod_path.PathKind.PathKind, defs.LangItemTarget.LangItemTarget}
@@ -13,7 +13,7 @@ use Rattle.hir_path.specs.declared.{path.GenericArgs.GenericArgs, path.Path.Path
 use Rattle.hir_path.specs.declared.path.Path.TheVariants as path
 use Rattle.hir_node.specs.ChildCalls.{args_calls, path_calls, spread_calls, array_calls, arm_calls, statement_calls, expr_calls, pat_calls, type_calls}
 use Rattle.hir_node.specs.declared.{expr_types.RecordSpread.RecordSpread, expr_types.Unsafe.Unsafe, expr_types.ClosureKind.ClosureKind, expr_types.Array.Array, expr_types.MatchArm.MatchArm, expr_types.RecordLitField.RecordLitField, expr_types.Statement.Statement, literal.Literal.Literal, expr.Expr.Expr, pat.RecordFieldPat.RecordFieldPat, pat.Pat.Pat, type_ref.TypeRef.TypeRef, binding.Label.Label}
-use Rattle.hir_node.specs.{Keywords.ref_keyword, declared.binding.BindingAnnotation.BindingAnnotation}
+use Rattle.hir_node.specs.{declared.binding.BindingAnnotation.BindingAnnotation}
 use Rattle.hir_node.specs.ChildCalls as calls
 use Rattle.hir_node.specs.declared.binding.BindingAnnotation.TheVariants as annotation
 use Rattle.hir_node.specs.declared.expr_types.RecordSpread.TheVariants as spread
@@ -25,12 +25,13 @@ use Rattle.hir_node.specs.declared.literal.Literal.TheVariants as literal
 use Rattle.hir_node.specs.declared.expr.Expr.TheVariants as expr
 use Rattle.hir_node.specs.declared.pat.Pat.TheVariants as pat
 use Rattle.hir_node.specs.declared.type_ref.TypeRef.TheVariants as type
-use Rattle.hir_pretty_nodes.specs.Prelude.{NodeId, Missing, PrintEnv, Doc, text, sp, br, into, out, e, under, p, t, opt, when, join, comma_joined, name_docs, label_docs, annotation_docs, binding_docs, of_binding, l, found_name, target_docs, supers, kind_docs, colons_first, segments_from, start_docs, turbofish, args_docs, path_docs, for_names, literal_docs, label_before, to_label, operand, each_line, in_lines, arguments, arm_docs, field_docs, spread_docs, statement_docs, unsafe_docs, inside_block, params, header, coroutine_body, of_coroutine, printed_body, array_docs, expr_docs, with_rest, in_parentheses, is_short, field_pattern, after_last, field_patterns, pat_docs, type_param_docs, extern_docs, varargs_docs, all_but_last, last, signature_docs, type_docs, AllNodes}
+use Rattle.hir_pretty_nodes.specs.Prelude.{NodeId, Missing, PrintEnv, Doc, text, sp, br, into, out, e, under, p, t, opt, when, join, comma_joined, name_docs, label_docs, annotation_docs, binding_docs, of_binding, found_name, target_docs, supers, kind_docs, colons_first, segments_from, start_docs, turbofish, args_docs, path_docs, literal_docs, label_before, to_label, operand, each_line, in_lines, arguments, arm_docs, field_docs, spread_docs, statement_docs, unsafe_docs, inside_block, params, header, coroutine_body, of_coroutine, printed_body, array_docs, expr_docs, with_rest, in_parentheses, field_pattern, after_last, field_patterns, pat_docs, type_param_docs, extern_docs, varargs_docs, all_but_last, last, signature_docs, type_docs, AllNodes}
 use Rattle.hir_node.specs.declared.node_id.NodeId.TheVariants as node
 use Rattle.hir_validate.specs.Nodes.{calls_of}
 use Rattle.hir_pretty_layout.specs.Literals.{string_literal, char_literal, bytes_literal, c_string_literal}
 use Rattle.hir_pretty_nodes.proofs.StepLemmas.{nodes_append}
 use Rattle.hir_pretty_nodes.proofs.DecreaseLemmas.{AllCalls, AllLists, first_calls, last_calls, each_falls, map_falls, opt_falls, joined_falls, lists_append, lists_take, lists_drop, name_falls, names_fall, puts_fall, none_falls, lifetime_falls, for_falls, bounds_fall, generic_args_fall}
+use Rattle.std.proofs.lemmas.Grind.{common_steps}
 
 when_falls : (P : NodeId → Type 0) (b : Bool) (is : List Doc) → AllNodes P is → AllNodes P (when b is)
 when_falls P true is a = a
@@ -73,9 +74,7 @@ module _ (P : NodeId → Type 0) (s : PrintEnv) where
 
   segments_fall : (after : Bool) (names : List (List ℕ)) (lists : List (Option GenericArgs)) → AllCalls P (flat_map (calls.opt args_calls) lists) → AllNodes P (segments_from s after names lists)
   segments_fall after [] lists a = tt
-  segments_fall after (name ∷ names) [] a =
-      let colons = when after (text (codes "::")) in
-      nodes_append P (colons ++ name_docs s name) (segments_from s true names []) (nodes_append P colons (name_docs s name) (when_falls P after (text (codes "::")) tt) (name_falls P s name)) (segments_fall true names [] tt)
+  segments_fall after (name ∷ names) [] a = search (rules, nodes_append, when_falls, name_falls, segments_fall true names [] tt)
   segments_fall after (name ∷ names) (args ∷ lists) a =
       let colons = when after (text (codes "::")) in
       let here = calls.opt args_calls args in
@@ -90,15 +89,8 @@ module _ (P : NodeId → Type 0) (s : PrintEnv) where
 
   pub path_falls : (x : Path) → AllCalls P (path_calls x) → AllNodes P (path_docs s x)
   path_falls (path.BarePath x) a = nodes_append P (kind_docs s x.kind) (segments_from s (colons_first x.kind) x.segments []) (kind_falls x.kind) (segments_fall (colons_first x.kind) x.segments [] tt)
-  path_falls (path.Normal n) a =
-      let lists = flat_map (calls.opt args_calls) n.generic_args in
-      let anchor = calls.opt calls.t n.type_anchor in
-      let k = n.mod_path.kind in
-      nodes_append P (start_docs s n.type_anchor k) (segments_from s (colons_first k) n.mod_path.segments n.generic_args) (start_falls n.type_anchor k (last_calls P lists anchor a))
-      (segments_fall (colons_first k) n.mod_path.segments n.generic_args (first_calls P lists anchor a))
-  path_falls (path.LangItem x name) a =
-      let named = opt (λ n. text (codes "::") ++ name_docs s n) name in
-      nodes_append P (target_docs s x ++ named) (text (codes ")")) (nodes_append P (target_docs s x) named (target_falls x) (none_falls P (λ n. text (codes "::") ++ name_docs s n) (name_falls P s) name)) tt
+  path_falls (path.Normal n) a = search (rules, nodes_append, start_falls, last_calls, segments_fall, first_calls)
+  path_falls (path.LangItem x name) a = search (rules, nodes_append, target_falls, none_falls, name_falls)
 
   -- parts of expressions
   label_falls : (id : ℕ) → AllNodes P (label_docs s id)
@@ -128,12 +120,7 @@ module _ (P : NodeId → Type 0) (s : PrintEnv) where
   arm_falls arm a = parts_of_arm_fall arm.pat arm.guard arm.expr a
 
   field_falls : (field : RecordLitField) → AllCalls P (calls.e field.expr) → AllNodes P (field_docs s field)
-  field_falls field a =
-      let name = name_docs s field.name in
-      let colon = text (codes ": ") in
-      let comma = text (codes ",") in
-      nodes_append P (((name ++ colon) ++ e field.expr) ++ comma) br
-      (nodes_append P ((name ++ colon) ++ e field.expr) comma (nodes_append P (name ++ colon) (e field.expr) (nodes_append P name colon (name_falls P s field.name) tt) a) tt) tt
+  field_falls field a = search (rules, nodes_append, name_falls)
 
   spread_falls : (x : RecordSpread) → AllCalls P (spread_calls x) → AllNodes P (spread_docs x)
   spread_falls spread.None a = tt
@@ -145,9 +132,7 @@ module _ (P : NodeId → Type 0) (s : PrintEnv) where
 
   array_falls : (x : Array) → AllCalls P (array_calls x) → AllNodes P (array_docs x)
   array_falls (array.ElementList []) a = tt
-  array_falls (array.ElementList (x ∷ xs)) a =
-      let all = flat_map (λ id. e id ++ text (codes ", ")) (x ∷ xs) in
-      nodes_append P ((all ++ out) ++ br) (text (codes "]")) (nodes_append P (all ++ out) br (nodes_append P all out (element_falls (x ∷ xs) a) tt) tt) tt
+  array_falls (array.ElementList (x ∷ xs)) a = search (rules, nodes_append, element_falls)
   array_falls (array.Repeat initializer repeat) a = a
 
   statement_falls : (x : Statement) → AllCalls P (statement_calls x) → AllNodes P (statement_docs x)
@@ -190,10 +175,7 @@ module _ (P : NodeId → Type 0) (s : PrintEnv) where
       (param_falls pat type a.0 (first_calls P here rest b), params_fall pats types a.1 (last_calls P here rest b))
 
   bars_fall : (xs : List (List Doc)) (ret : Option ℕ) → AllLists P xs → AllCalls P (calls.opt calls.t ret) → AllNodes P (text (codes "|") ++ comma_joined xs ++ text (codes "|") ++ opt (λ id. text (codes " -> ") ++ t id) ret ++ sp)
-  bars_fall xs ret a b =
-      let bar = text (codes "|") in
-      let result = opt (λ id. text (codes " -> ") ++ t id) ret in
-      nodes_append P ((comma_joined xs ++ bar) ++ result) sp (nodes_append P (comma_joined xs ++ bar) result (nodes_append P (comma_joined xs) bar (joined_falls P (text (codes ", ")) tt xs a) tt) (opt_falls P calls.t (λ id. text (codes " -> ") ++ t id) (λ id h. h) ret b)) tt
+  bars_fall xs ret a b = grind (arith, common_steps, nodes_append, joined_falls P (text (codes ", ")) tt xs a, opt_falls)
 
   header_falls : (kind : ClosureKind) (xs : List (List Doc)) (ret : Option ℕ) → AllLists P xs → AllCalls P (calls.opt calls.t ret) → AllNodes P (header kind xs ret)
   header_falls (closure.Coroutine kind source) xs ret a b = tt
@@ -226,9 +208,7 @@ module _ (P : NodeId → Type 0) (s : PrintEnv) where
     expr_falls expr.Missing a = tt
     expr_falls expr.Underscore a = tt
     expr_falls expr.IncludeBytes a = tt
-    expr_falls (expr.OffsetOf o) a =
-        let names = join (text (codes ".")) (map (name_docs s) o.fields) in
-        (a.0, nodes_append P names (text (codes ")")) (joined_falls P (text (codes ".")) tt (map (name_docs s) o.fields) (names_fall P s o.fields)) tt)
+    expr_falls (expr.OffsetOf o) a = search (rules, nodes_append, joined_falls, names_fall)
     expr_falls (expr.If condition then_branch else_branch) a = (a.0, (a.1.0, opt_falls P calls.e (λ id. text (codes " else ") ++ e id) (λ id h. h) else_branch a.1.1))
     expr_falls (expr.Loop body label source) a = nodes_append P (label_before s label ++ text (codes "loop ")) (e body) (nodes_append P (label_before s label) (text (codes "loop ")) (labelled_falls label) tt) a
     expr_falls (expr.Call callee args) a = (a.0, arguments_fall args a.1)
@@ -263,19 +243,9 @@ module _ (P : NodeId → Type 0) (s : PrintEnv) where
     expr_falls (expr.Tuple xs) a = nodes_append P (flat_map (λ id. e id ++ text (codes ", ")) xs) (text (codes ")")) (element_falls xs a) tt
     expr_falls (expr.Array x) a = array_falls x a
     expr_falls (expr.Const id) a = tt
-    expr_falls (expr.Block id statements tail label unsafe_) a =
-        let head = label_before s label ++ unsafe_docs unsafe_ in
-        let brace = text (codes "{") in
-        nodes_append P ((head ++ brace) ++ inside_block statements tail) (text (codes "}"))
-        (nodes_append P (head ++ brace) (inside_block statements tail) (nodes_append P head brace (nodes_append P (label_before s label) (unsafe_docs unsafe_) (labelled_falls label) (unsafe_falls unsafe_)) tt) (inside_falls statements tail a)) tt
+    expr_falls (expr.Block id statements tail label unsafe_) a = search (rules, nodes_append, labelled_falls, unsafe_falls, inside_falls)
     expr_falls (expr.Closure args arg_types ret_type body kind capture) a =
-        let of_args = flat_map calls.p args in
-        let of_types = flat_map (calls.opt calls.t) arg_types in
-        let of_ret = calls.opt calls.t ret_type in
-        let both = first_calls P (of_args ++ of_types) of_ret a.1 in
-        nodes_append P (header kind (params args arg_types) ret_type) (e (printed_body s.nodes kind body))
-        (header_falls kind (params args arg_types) ret_type (params_fall args arg_types (first_calls P of_args of_types both) (last_calls P of_args of_types both)) (last_calls P (of_args ++ of_types) of_ret a.1))
-        (printed_falls kind body a.0, tt)
+        search (rules, first_calls, nodes_append, header_falls, params_fall, last_calls, printed_falls)
     expr_falls (expr.Literal x) a = literal_falls x
     expr_falls (expr.Path path) a = path_falls path a
     expr_falls x a = a
@@ -283,23 +253,16 @@ module _ (P : NodeId → Type 0) (s : PrintEnv) where
   -- patterns
   with_rest_falls : (rest : Option ℕ) (xs : List (List Doc)) → AllLists P xs → AllLists P (with_rest rest xs)
   with_rest_falls None xs a = a
-  with_rest_falls (Some n) xs a =
-      let dots = text (codes "..") ∷ [] in
-      lists_append P (take n xs ++ dots) (drop n xs) (lists_append P (take n xs) dots (lists_take P n xs a) (tt, tt)) (lists_drop P n xs a)
+  with_rest_falls (Some n) xs a = search (rules, lists_append, lists_take, lists_drop)
 
   pats_fall : (xs : List ℕ) → AllCalls P (flat_map calls.p xs) → AllLists P (map p xs)
   pats_fall xs a = map_falls P calls.p p (λ id h. h) xs a
 
   in_parentheses_fall : (rest : Option ℕ) (args : List ℕ) → AllCalls P (flat_map calls.p args) → AllNodes P (in_parentheses rest args)
-  in_parentheses_fall rest args a =
-      let all = with_rest rest (map p args) in
-      nodes_append P (comma_joined all) (text (codes ")")) (joined_falls P (text (codes ", ")) tt all (with_rest_falls rest (map p args) (pats_fall args a))) tt
+  in_parentheses_fall rest args a = search (rules, nodes_append, joined_falls, with_rest_falls, pats_fall)
 
   field_pattern_falls : (field : RecordFieldPat) → P (node.Pat field.pat) → AllNodes P (field_pattern s field)
-  field_pattern_falls field h =
-      let rest = text (codes ": ") ++ p field.pat in
-      let shown = not (is_short s field.name (slice_get s.nodes.pats field.pat)) in
-      nodes_append P (name_docs s field.name) (when shown rest) (name_falls P s field.name) (when_falls P shown rest (h, tt))
+  field_pattern_falls field h = search (rules, nodes_append, name_falls, when_falls)
 
   line_end_falls : (one_line : Bool) → AllNodes P (elim one_line [ true ↦ text (codes " ") | false ↦ text (codes ",") ++ br ])
   line_end_falls true = tt
@@ -312,9 +275,7 @@ module _ (P : NodeId → Type 0) (s : PrintEnv) where
   field_patterns_fall : (rest : Bool) (fields : List RecordFieldPat) → AllCalls P (flat_map (λ (field : RecordFieldPat). calls.p field.pat) fields) → AllNodes P (field_patterns s rest fields)
   field_patterns_fall rest [] a = tt
   field_patterns_fall rest (f ∷ []) a = nodes_append P (field_pattern s f) (after_last s rest) (field_pattern_falls f a.0) (after_last_falls rest)
-  field_patterns_fall rest (f ∷ g ∷ fs) a =
-      let comma = text (codes ",") in
-      nodes_append P ((field_pattern s f ++ comma) ++ br) (field_patterns s rest (g ∷ fs)) (nodes_append P (field_pattern s f ++ comma) br (nodes_append P (field_pattern s f) comma (field_pattern_falls f a.0) tt) tt) (field_patterns_fall rest (g ∷ fs) a.1)
+  field_patterns_fall rest (f ∷ g ∷ fs) a = search (rules, nodes_append, field_pattern_falls, field_patterns_fall rest (g ∷ fs) a.1)
 
   bound_falls : (mode : BindingAnnotation) (docs : List Doc) → AllNodes P docs → AllNodes P (annotation_docs mode ++ docs)
   bound_falls annotation.Unannotated docs h = h
@@ -353,21 +314,10 @@ module _ (P : NodeId → Type 0) (s : PrintEnv) where
   pat_falls pat.Wild a = tt
   pat_falls pat.NotNull a = tt
   pat_falls (pat.Tuple args ellipsis) a = in_parentheses_fall ellipsis args a
-  pat_falls (pat.TupleStruct path args ellipsis) a =
-      nodes_append P (path_docs s path) (in_parentheses ellipsis args) (path_falls path (last_calls P (flat_map calls.p args) (path_calls path) a)) (in_parentheses_fall ellipsis args (first_calls P (flat_map calls.p args) (path_calls path) a))
+  pat_falls (pat.TupleStruct path args ellipsis) a = search (rules, nodes_append, path_falls, last_calls, in_parentheses_fall, first_calls)
   pat_falls (pat.Or args) a = nodes_append P (join (text (codes " | ")) (map p args)) (text (codes ")")) (joined_falls P (text (codes " | ")) tt (map p args) (pats_fall args a)) tt
   pat_falls (pat.Record ellipsis path args) a =
-      let of_args = flat_map (λ (field : RecordFieldPat). calls.p field.pat) args in
-      let head = (path_docs s path ++ text (codes " {")) ++ into in
-      let all = field_patterns s ellipsis args in
-      let dots = when ellipsis (text (codes "..") ++ br) in
-      nodes_append P (((head ++ all) ++ dots) ++ out) (text (codes "}"))
-      (nodes_append P ((head ++ all) ++ dots) out
-      (nodes_append P (head ++ all) dots
-      (nodes_append P head all
-      (nodes_append P (path_docs s path ++ text (codes " {")) into (nodes_append P (path_docs s path) (text (codes " {")) (path_falls path (last_calls P of_args (path_calls path) a)) tt) tt)
-      (field_patterns_fall ellipsis args (first_calls P of_args (path_calls path) a)))
-      (when_falls P ellipsis (text (codes "..") ++ br) tt)) tt) tt
+      grind (arith, common_steps, nodes_append, path_falls, last_calls, field_patterns_fall, first_calls, when_falls)
   pat_falls (pat.Range start end range_type) a = range_falls start end (range_text range_type) a
   pat_falls (pat.Slice prefix slice suffix) a = nodes_append P (flat_map (λ id. p id ++ text (codes ", ")) (prefix ++ option_to_list slice ++ suffix)) (text (codes "]")) (slice_falls prefix slice suffix a) tt
   pat_falls (pat.Bind id subpat) a = nodes_append P (binding_docs s id) (opt (λ q. sp ++ text (codes "@ ") ++ p q) subpat) (binding_falls id) (opt_falls P calls.p (λ q. sp ++ text (codes "@ ") ++ p q) (λ q h. h) subpat a)
@@ -417,17 +367,8 @@ module _ (P : NodeId → Type 0) (s : PrintEnv) where
   type_falls type.Error a = tt
   type_falls (type.TypeParam id) a = type_param_falls id.local_id (s.tables.type_param id)
   type_falls (type.Tuple types) a = nodes_append P (comma_joined (map t types)) (text (codes ")")) (joined_falls P (text (codes ", ")) tt (map t types) (map_falls P calls.t t (λ id h. h) types a)) tt
-  type_falls (type.Reference r) a =
-      let lifetime = opt (λ id. l s id ++ text (codes " ")) r.lifetime in
-      let keyword = text (ref_keyword r.mutability) in
-      nodes_append P (lifetime ++ keyword) (t r.ty) (nodes_append P lifetime keyword (none_falls P (λ id. l s id ++ text (codes " ")) (λ id. nodes_append P (l s id) (text (codes " ")) (lifetime_falls P s id) tt) r.lifetime) tt) (a.0, tt)
-  type_falls (type.Fn f) a =
-      let types = map (λ (entry : Option (List ℕ) × ℕ). entry.1) f.params in
-      let before = opt (for_names s) f.binder in
-      let danger = when f.is_unsafe (text (codes "unsafe ")) in
-      nodes_append P ((before ++ danger) ++ extern_docs f.abi) (signature_docs f.is_varargs types)
-      (nodes_append P (before ++ danger) (extern_docs f.abi) (nodes_append P before danger (none_falls P (for_names s) (for_falls P s) f.binder) (when_falls P f.is_unsafe (text (codes "unsafe ")) tt)) (extern_falls f.abi))
-      (signature_falls f.is_varargs types (types_of_params f.params a))
+  type_falls (type.Reference r) a = search (rules, nodes_append, none_falls, lifetime_falls)
+  type_falls (type.Fn f) a = search (rules, nodes_append, none_falls, for_falls, when_falls, extern_falls, signature_falls, types_of_params)
   type_falls (type.ImplTrait bounds) a = bounds_fall P s bounds a
   type_falls (type.DynTrait bounds) a = bounds_fall P s bounds a
   type_falls (type.Path path) a = path_falls path a

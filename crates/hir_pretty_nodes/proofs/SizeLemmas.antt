@@ -45,10 +45,6 @@ pub enclosed_size : (s : PrintEnv) (b : Bool) (is : List Doc) → size s (enclos
 enclosed_size s false is = let k = total-append (doc_size (node_size s)) is [] in omega arith
 enclosed_size s true is = let k = total-append (doc_size (node_size s)) is (text (codes ")")) in omega arith
 
--- what is printed of a name is something
-some_texts : (s : PrintEnv) (t : List ℕ) (ts : List (List ℕ)) → 0 < size s (flat_map text (t ∷ ts))
-some_texts s t ts = omega arith
-
 raw_size : (s : PrintEnv) (b : Bool) (name : List ℕ) → 0 < size s (flat_map text (if b then codes "r#" ∷ name ∷ [] else name ∷ []))
 raw_size s true name = omega arith
 raw_size s false name = omega arith

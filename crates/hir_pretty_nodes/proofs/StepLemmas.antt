@@ -1,6 +1,6 @@
 -- The doc pieces of a node are those of its documents, in a store where what is printed inside a node has a
 -- lower rank.
-use Rattle.std.proofs.Common.{◌≡◌, ℕ, zero, suc, ◌<◌, List, [], ◌∷◌, ◌++◌, refl, ap, ap₂, arith, flat_map}
+use Rattle.std.proofs.Common.{◌≡◌, ℕ, zero, suc, ◌<◌, List, [], ◌∷◌, ◌++◌, refl, ap₂, arith, flat_map, rules}
 use Rattle.hir_pretty_nodes.specs.Prelude.{NodeId, PrintEnv, Doc, Put, MissingDoc, ExprDoc, ExprIn, Pattern, TypeDoc, DocPiece, docs_of, doc_pieces, pieces_step, pieces, AllNodes, DocsDecrease}
 use Rattle.hir_node.specs.declared.node_id.NodeId.TheVariants as node
 use Rattle.hir_validate.specs.Recursion.{rank, fold_down_within, fold_down}
@@ -35,9 +35,7 @@ module _ (s : PrintEnv) (self other : NodeId → List DocPiece) where
   same_pieces (Put piece ∷ xs) a = first (Put piece) xs refl (same_pieces xs a)
   same_pieces (MissingDoc missing ∷ xs) a = first (MissingDoc missing) xs refl (same_pieces xs a)
   same_pieces (ExprDoc id ∷ xs) a = first (ExprDoc id) xs a.0 (same_pieces xs a.1)
-  same_pieces (ExprIn id parent ∷ xs) a =
-      let in_place : (ps qs : List DocPiece) → ps ≡ qs → doc_pieces s (λ k. ps) (ExprIn id parent) ≡ doc_pieces s (λ k. qs) (ExprIn id parent) = λ ps qs e. ap (λ rs. doc_pieces s (λ k. rs) (ExprIn id parent)) e in
-      first (ExprIn id parent) xs (in_place (self (node.Expr id)) (other (node.Expr id)) a.0) (same_pieces xs a.1)
+  same_pieces (ExprIn id parent ∷ xs) a = search (rules, first, same_pieces xs a.1)
   same_pieces (Pattern id ∷ xs) a = first (Pattern id) xs a.0 (same_pieces xs a.1)
   same_pieces (TypeDoc id ∷ xs) a = first (TypeDoc id) xs a.0 (same_pieces xs a.1)
 

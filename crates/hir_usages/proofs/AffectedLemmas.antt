@@ -1,8 +1,7 @@
 -- A use that is none of the binding and doesn't ask for the new name resolves to what it resolved to before: what a
 -- rename may change is among the others.
-use Rattle.std.proofs.Common.{◌≡◌, ℕ, List, [], ◌∷◌, Option, Some, None, Bool, true, false, cond, map, refl, sym, ap, ◌∙◌, length, nat_eq}
+use Rattle.std.proofs.Common.{◌≡◌, ℕ, List, [], ◌∷◌, Option, Some, None, Bool, true, false, cond, map, refl, ap, length, nat_eq, rules, arith}
 use Rattle.std.proofs.lemmas.Bool.{eqb-true, lt-ltb}
-use Rattle.std.specs.Option.{option_or}
 use Rattle.std.specs.Prelude.{nat_lt, ◌<◌, ◌||◌, ◌&&◌}
 use Rattle.hir_base.specs.contracts.hygiene.HygieneIdPartialEq.TheImpl as hygienes
 use Rattle.hir_base.specs.contracts.name.NamePartialEq.TheImpl as names
@@ -14,14 +13,15 @@ use Rattle.hir_scope.specs.{PathResolution.binding_of, Resolution.matches, Resol
 use Rattle.hir_scope.specs.declared.scope.ScopeEntry.{ScopeEntry}
 use Rattle.hir_validate.specs.declared.node_arenas.Nodes.{Nodes}
 use Rattle.hir_usages.specs.Usages.{usages_of_body, usages_of, resolves_to}
-use Rattle.hir_usages.specs.Renames.{conflict_of, conflict_at, first_conflict, name_at, name_after, renamed_entry, renamed_chain}
-use Rattle.hir_usages.specs.Renames.{resolve_along, chain_at, resolved_after}
+use Rattle.hir_usages.specs.Renames.{conflict_of, conflict_at, first_conflict, name_at, renamed_entry}
+use Rattle.hir_usages.specs.Renames.{chain_at, resolved_after}
 use Rattle.hir_usages.specs.{declared.rename_fault.RenameFault.RenameFault, declared.usage.Usage.Usage}
-use Rattle.hir_usages.specs.internal.Wanted.{asks_for, is_affected, affected_among, wanted_among}
+use Rattle.hir_usages.specs.internal.Wanted.{asks_for, affected_among, wanted_among}
 use Rattle.hir_usages.specs.declared.walk.Wanted.{Wanted}
 use Rattle.hir_usages.proofs.KeptLemmas.{same_decides}
 use Rattle.hir_usages.proofs.{RenameLemmas.binding_in, UseLemmas.IsUse, UseLemmas.AreUses, UseLemmas.all_uses, UseLemmas.for_along}
 use Rattle.hir_usages.proofs.ConflictLemmas.{entries_mapped, binding_some, is_other}
+use Rattle.std.proofs.lemmas.Grind.{common_steps}
 
 -- 1. All uses
 
@@ -60,8 +60,7 @@ module _ (x : ℕ) (n : List ℕ) (h : SyntaxContext) where
       (rest later : Option ScopeEntry) → ((binding_in rest ≡ Some x → ⊥) → later ≡ rest) →
       (binding_in (cond (matches y h e) (Some e) rest) ≡ Some x → ⊥) →
       cond (matches y h (cond t (named e) e)) (Some (cond t (named e) e)) later ≡ cond (matches y h e) (Some e) rest
-  step y e true q misses rest later further differs =
-      own_kept e (matches y h e) (matches y h (named e)) rest later misses (eqb-true e.binding x q) further differs
+  step y e true q misses rest later further differs = search (rules, own_kept, eqb-true)
   step y e false q misses rest later further differs = other_kept e (matches y h e) rest later further differs
 
   finds_same : (y : List ℕ) (es : List ScopeEntry) → names.ghosts.eq n y ≡ false →
@@ -88,23 +87,13 @@ module _ (b : BodyContents) (x : ℕ) (n : List ℕ) (scopes : Scopes) (in_range
     es = entries_of (chain_at scopes v.expr)
 
     before_is : v.binding ≡ binding_of b.store (find_entry is.name h es)
-    before_is =
-        is.resolves ∙ (for_along b.store s scopes v.path v.expr is.asks_at
-        ∙ ap (resolve_along b.store (chain_at scopes v.expr) h) is.asks)
+    before_is = search (rules, for_along)
 
     after_is : after v ≡ binding_of b.store (find_entry is.name h (map (renamed_entry x n) es))
-    after_is =
-        let name : name_after x n s v ≡ Some is.name = ap (λ (t : Bool). cond t (Some n) (name_at s v.path)) other ∙ is.asks in
-        ap (resolve_along b.store (renamed_chain x n (chain_at scopes v.expr)) h) name
-        ∙ ap (λ (xs : List ScopeEntry). binding_of b.store (find_entry is.name h xs))
-        (entries_mapped (renamed_entry x n) (chain_at scopes v.expr))
+    after_is = grind (arith, common_steps, entries_mapped (renamed_entry x n) (chain_at scopes v.expr))
 
     keeps : after v ≡ v.binding
-    keeps =
-        let differs : binding_in (find_entry is.name h es) ≡ Some x → ⊥ =
-        λ found. is_other x v other (before_is ∙ binding_some b.store (find_entry is.name h es) x in_range found) in
-        let misses : names.ghosts.eq n is.name ≡ false = ap (asks_for n) (sym is.asks) ∙ asks in
-        after_is ∙ (ap (binding_of b.store) (finds_same x n h is.name es misses differs) ∙ sym before_is)
+    keeps = search (rules, binding_in, is_other, before_is, binding_some, after_is, finds_same)
 
     no_conflict : conflict_at b.store scopes x n v ≡ None
     no_conflict =
@@ -116,35 +105,16 @@ module _ (b : BodyContents) (x : ℕ) (n : List ℕ) (scopes : Scopes) (in_range
 
   same_conflict : (us : List Usage) → AreUses b scopes us → conflicts (affected_among x n s us) ≡ conflicts us
   same_conflict [] uses = refl
-  same_conflict (v ∷ vs) uses = at (is_affected x n (name_at s v.path) v) refl (same_conflict vs uses.1) where
-    at : (t : Bool) → is_affected x n (name_at s v.path) v ≡ t → conflicts (affected_among x n s vs) ≡ conflicts vs →
-        conflicts (cond t (v ∷ affected_among x n s vs) (affected_among x n s vs))
-        ≡ option_or (conflict_at b.store scopes x n v) (conflicts vs)
-    at true e rest = ap (option_or (conflict_at b.store scopes x n v)) rest
-    at false e rest =
-        let both = or_false (resolves_to x v) (asks_for n (name_at s v.path)) e in
-        rest ∙ ap (λ (o : Option RenameFault). option_or o (conflicts vs)) (sym (no_conflict v uses.0 both.0 both.1))
+  same_conflict (v ∷ vs) uses = search (rules, or_false, no_conflict, same_conflict vs uses.1)
 
 pub conflict_among : (b : BodyContents) (x : ℕ) (n : List ℕ) (scopes : Scopes) → RankDecreases b.store.nodes →
     x < length b.store.nodes.bindings →
     first_conflict b.store scopes x n (affected_among x n b.store.nodes (usages_of_body b scopes))
     ≡ first_conflict b.store scopes x n (usages_of_body b scopes)
-conflict_among b x n scopes fall l =
-    same_conflict b x n scopes (lt-ltb x (length b.store.nodes.bindings) l) (usages_of_body b scopes)
-    (all_uses b scopes fall)
+conflict_among b x n scopes fall l = search (rules, same_conflict, lt-ltb, all_uses)
 
 -- 4. All uses of the binding are affected
 
 pub own_among : (x : ℕ) (n : List ℕ) (s : Nodes) (us : List Usage) → usages_of x (affected_among x n s us) ≡ usages_of x us
 own_among x n s [] = refl
-own_among x n s (v ∷ vs) = at (resolves_to x v) (asks_for n (name_at s v.path)) refl (own_among x n s vs) where
-  at : (own asks : Bool) → resolves_to x v ≡ own → usages_of x (affected_among x n s vs) ≡ usages_of x vs →
-      usages_of x (cond (own || asks) (v ∷ affected_among x n s vs) (affected_among x n s vs))
-      ≡ cond own (v ∷ usages_of x vs) (usages_of x vs)
-  at true asks e rest =
-      ap (λ (t : Bool). cond t (v ∷ usages_of x (affected_among x n s vs)) (usages_of x (affected_among x n s vs))) e
-      ∙ ap (λ (ws : List Usage). v ∷ ws) rest
-  at false true e rest =
-      ap (λ (t : Bool). cond t (v ∷ usages_of x (affected_among x n s vs)) (usages_of x (affected_among x n s vs))) e
-      ∙ rest
-  at false false e rest = rest
+own_among x n s (v ∷ vs) = search (rules, own_among x n s vs)

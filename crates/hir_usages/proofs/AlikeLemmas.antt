@@ -1,5 +1,5 @@
 -- Nodes in which only names differ: the frames, the open frames and the child_contexts of each node are the same, with the entries renamed.
-use Rattle.std.proofs.Common.{◌≡◌, ℕ, zero, suc, List, [], ◌∷◌, ◌++◌, Option, Some, None, Bool, false, cond, map, refl, sym, ap, ◌∙◌}
+use Rattle.std.proofs.Common.{◌≡◌, ℕ, zero, suc, List, [], ◌∷◌, ◌++◌, Option, Some, None, Bool, false, cond, map, refl, sym, ap, ◌∙◌, rules}
 use Rattle.std.proofs.Common.{Contains, subst, length, fold, nat_eq, arith}
 use Rattle.std.proofs.Math.{Path.fun_ext, Dec.eqb-suc-suc, Dec.eqb-suc-zero, Dec.eqb-zero-suc}
 use Rattle.std.proofs.lemmas.{List.map-append, Option.slice_get-map}
@@ -38,6 +38,7 @@ use Rattle.hir_usages.specs.Renames.{renamed_entry, renamed_chain}
 use Rattle.hir_usages.specs.Renamed.{change_at, renamed_expr, renamed_pat, renamed_binding, rename_path, rename_binding, renamed_nodes}
 use Rattle.hir_usages.specs.Renamed.{renamed_body}
 use Rattle.hir_usages.specs.{Usages.usages_of, Usages.usages_of_body, declared.usage.Usage.Usage}
+use Rattle.std.proofs.lemmas.Grind.{common_steps}
 
 -- 1. Lists
 
@@ -57,10 +58,7 @@ module _ {X A B : Type 0} where
   flat_map_mapped : (f : X → List B) (g : X → List A) (h : A → B) → ((x : X) → f x ≡ map h (g x)) → (xs : List X) →
       flat_map f xs ≡ map h (flat_map g xs)
   flat_map_mapped f g h same [] = refl
-  flat_map_mapped f g h same (x ∷ xs) =
-      let first = same x in
-      let rest = flat_map_mapped f g h same xs in
-      (λ i. first i ++ rest i) ∙ sym (map-append h (g x) (flat_map g xs))
+  flat_map_mapped f g h same (x ∷ xs) = search (rules, map-append, flat_map_mapped f g h same xs)
 
 form_told : {X : Type 0} (f : X → ScopingForm) (o q : Option X) → option_map f o ≡ option_map f q → form_at f o ≡ form_at f q
 form_told f None None h = refl
@@ -110,19 +108,13 @@ module _ (ren : ScopeEntry → ScopeEntry) (s u : Nodes) (a : Alike ren s u) whe
   R_two x y = map-append (mapped_frame ren) x y
 
   form_same : (n : NodeId) → form_of u n ≡ form_of s n
-  form_same (NodeId.Expr id) =
-      form_told expr_form (slice_get u.exprs id) (slice_get s.exprs id)
-      (same_at expr_form u.exprs s.exprs a.expr_forms id)
+  form_same (NodeId.Expr id) = search (rules, form_told, same_at)
   form_same (NodeId.Pat id) = form_told pat_form (slice_get u.pats id) (slice_get s.pats id) (same_at pat_form u.pats s.pats a.pat_forms id)
   form_same (NodeId.TypeRef id) = ap (λ (ts : List TypeRef). form_at type_form (slice_get ts id)) a.types
 
   calls_same : (n : NodeId) → calls_of u n ≡ calls_of s n
-  calls_same (NodeId.Expr id) =
-      calls_told expr_calls (slice_get u.exprs id) (slice_get s.exprs id)
-      (same_at expr_calls u.exprs s.exprs a.expr_calls id)
-  calls_same (NodeId.Pat id) =
-      calls_told pat_calls (slice_get u.pats id) (slice_get s.pats id)
-      (same_at pat_calls u.pats s.pats a.pat_calls id)
+  calls_same (NodeId.Expr id) = search (rules, calls_told, same_at)
+  calls_same (NodeId.Pat id) = search (rules, calls_told, same_at)
   calls_same (NodeId.TypeRef id) = ap (λ (ts : List TypeRef). opt type_calls (slice_get ts id)) a.types
 
   pub children_same : (n : NodeId) → children_of u n ≡ children_of s n
@@ -141,9 +133,7 @@ module _ (ren : ScopeEntry → ScopeEntry) (s u : Nodes) (a : Alike ren s u) whe
   -- bindings and frames
 
   pats_steps : (self : NodeId → List ℕ) (n : NodeId) → pats_step u self n ≡ pats_step s self n
-  pats_steps self (NodeId.Pat q) =
-      ap (λ (cs : List Call). q ∷ flat_map (λ r. self (NodeId.Pat r)) (flat_map pat_of_call cs))
-      (calls_same (NodeId.Pat q))
+  pats_steps self (NodeId.Pat q) = search (rules, calls_same)
   pats_steps self (NodeId.Expr q) = refl
   pats_steps self (NodeId.TypeRef q) = refl
 
@@ -157,10 +147,7 @@ module _ (ren : ScopeEntry → ScopeEntry) (s u : Nodes) (a : Alike ren s u) whe
   own_same q = all_told pat_bindings (slice_get u.pats q) (slice_get s.pats q) (same_at pat_bindings u.pats s.pats a.pat_bindings q)
 
   bindings_same : (q : ℕ) → bindings_in u q ≡ bindings_in s q
-  bindings_same q =
-      let own : bindings_at u ≡ bindings_at s = fun_ext own_same in
-      let inside = pats_same q in
-      λ i. flat_map (own i) (inside i)
+  bindings_same q = search (rules, fun_ext, own_same, pats_same)
 
   binds_renamed : (q : ℕ) → binds u q ≡ map ren (binds s q)
   binds_renamed q = ap (flat_map (entry_at u)) (bindings_same q) ∙ flat_map_mapped (entry_at u) (entry_at s) ren a.entries (bindings_in s q)
@@ -187,10 +174,12 @@ module _ (ren : ScopeEntry → ScopeEntry) (s u : Nodes) (a : Alike ren s u) whe
 
     form_open_frames : (f : ScopingForm) → open_frames_of_form u L f ≡ R (open_frames_of_form s M f)
     form_open_frames (form.Let pat x) =
-        let own = frame_renamed ScopeKind.None (pat ∷ []) in
-        let inner = h (NodeId.Pat pat) in
-        let outer = h (NodeId.Expr x) in
-        (λ i. inner i ++ (own i ∷ outer i)) ∙ sym (R_two (M (NodeId.Pat pat)) (frame s (pat ∷ []) ∷ M (NodeId.Expr x)))
+        grind (
+          arith,
+          common_steps,
+          frame_renamed ScopeKind.None (pat ∷ []),
+          R_two (M (NodeId.Pat pat)) (frame s (pat ∷ []) ∷ M (NodeId.Expr x)),
+        )
     form_open_frames (form.If c y o) = open_frames_of_calls_renamed (opt e o)
     form_open_frames (form.Match x arms) = h (NodeId.Expr x)
     form_open_frames (form.Assignment target x) = h (NodeId.Expr x)
@@ -265,9 +254,7 @@ module _ (ren : ScopeEntry → ScopeEntry) (s u : Nodes) (a : Alike ren s u) whe
   -- a pattern after its frame
   bound : (k outer outer_u : Chain) (ps : List ℕ) (cs : List Call) → outer_u ≡ R outer →
       in_turn u (R k) (frame u ps ∷ outer_u) cs ≡ S (in_turn s k (frame s ps ∷ outer) cs)
-  bound k outer outer_u ps cs h =
-      let own = frame_renamed ScopeKind.None ps in
-      (λ i. in_turn u (R k) (own i ∷ h i) cs) ∙ turn k (frame s ps ∷ outer) cs
+  bound k outer outer_u ps cs h = grind (arith, common_steps, frame_renamed ScopeKind.None ps, turn k (frame s ps ∷ outer) cs)
 
   statement : (k add : Chain) (x : Statement) → statement_child_contexts u (R k) (R add) x ≡ S (statement_child_contexts s k add x)
   statement k add (Statement.Let pat ty x y) =
@@ -289,15 +276,15 @@ module _ (ren : ScopeEntry → ScopeEntry) (s u : Nodes) (a : Alike ren s u) whe
       ≡ S (block_child_contexts s k add xs tail)
   in_block k add [] tail = turn k add (opt e tail)
   in_block k add (x ∷ xs) tail =
-      let ck : const_frames_after x ++ R k ≡ R (const_frames_after x ++ k) =
-      ap (λ (c : Chain). c ++ R k) (behind_constants x) ∙ sym (R_two (const_frames_after x) k) in
-      let ca : frames_after u x ++ R add ≡ R (frames_after s x ++ add) =
-      ap (λ (c : Chain). c ++ R add) (behind x) ∙ sym (R_two (frames_after s x) add) in
-      two (statement_child_contexts u (R k) (R add) x)
-      (block_child_contexts u (const_frames_after x ++ R k) (frames_after u x ++ R add) xs tail)
-      (statement_child_contexts s k add x) (block_child_contexts s (const_frames_after x ++ k) (frames_after s x ++ add) xs tail)
-      (statement k add x) ((λ i. block_child_contexts u (ck i) (ca i) xs tail) ∙ in_block (const_frames_after x ++ k)
-      (frames_after s x ++ add) xs tail)
+      search (
+        rules,
+        behind_constants,
+        R_two,
+        behind,
+        two,
+        statement,
+        in_block (const_frames_after x ++ k) (frames_after s x ++ add) xs tail,
+      )
 
   in_arm : (add : Chain) (arm : MatchArm) → arm_child_contexts u (R add) arm ≡ S (arm_child_contexts s add arm)
   in_arm add arm = bound [] add (R add) (arm.pat ∷ []) (p arm.pat ++ opt e arm.guard ++ e arm.expr) refl
@@ -317,8 +304,7 @@ module _ (ren : ScopeEntry → ScopeEntry) (s u : Nodes) (a : Alike ren s u) whe
       (turn [] [] (e x)) (bound [] (open_frames s (NodeId.Expr x)) (open_frames u (NodeId.Expr x)) (pat ∷ []) (p pat)
       (open_frames_renamed (NodeId.Expr x)))
   form_contexts (form.Block id label xs tail) =
-      ap (λ (k : Chain). block_child_contexts u k (own_frame id label ∷ []) xs tail) (of_block id)
-      ∙ in_block (block_const_frames id) (own_frame id label ∷ []) xs tail
+      grind (arith, common_steps, of_block id, in_block (block_const_frames id) (own_frame id label ∷ []) xs tail)
   form_contexts (form.Loop label x) = turn [] (of_kind (loop_kind label) ∷ []) (e x)
   form_contexts (form.Closure types ret args x) =
       let ts = flat_map (opt t) types ++ opt t ret in
@@ -361,27 +347,16 @@ module _ (ren : ScopeEntry → ScopeEntry) (s u : Nodes) (a : Alike ren s u) whe
 
   child_renamed : (h k : Chain) (x : ChildContext) → child_in_context (R h) (R k) (renamed_context x)
       ≡ renamed_in_context (child_in_context h k x)
-  child_renamed h k x =
-      let ks : R x.const_frames ++ R k ≡ R (x.const_frames ++ k) = sym (R_two x.const_frames k) in
-      let on : on_base x.base (R h) (R x.const_frames ++ R k) ≡ R (on_base x.base h (x.const_frames ++ k)) =
-      ap (λ (c : Chain). on_base x.base (R h) c) ks ∙ based x.base h (x.const_frames ++ k) in
-      let here : R x.frames ++ on_base x.base (R h) (R x.const_frames ++ R k) ≡ R (x.frames ++ on_base x.base h (x.const_frames ++ k)) =
-      ap (λ (c : Chain). R x.frames ++ c) on ∙ sym (R_two x.frames (on_base x.base h (x.const_frames ++ k))) in
-      λ i. in_context x.child (here i) (ks i)
+  child_renamed h k x = search (rules, R_two, based)
 
   children_renamed : (h k : Chain) (xs : List ChildContext) → map (child_in_context (R h) (R k)) (S xs)
       ≡ map renamed_in_context (map (child_in_context h k) xs)
   children_renamed h k [] = refl
-  children_renamed h k (x ∷ xs) =
-      let first = child_renamed h k x in
-      let rest = children_renamed h k xs in
-      λ i. first i ∷ rest i
+  children_renamed h k (x ∷ xs) = search (rules, child_renamed, children_renamed h k xs)
 
   children_in_context_renamed : (at : InContext) → children_in_context u (renamed_in_context at)
       ≡ map renamed_in_context (children_in_context s at)
-  children_in_context_renamed at =
-      ap (map (child_in_context (R at.scope) (R at.const_scope))) (child_contexts_renamed at.node)
-      ∙ children_renamed at.scope at.const_scope (child_contexts s at.node)
+  children_in_context_renamed at = search (rules, child_contexts_renamed, children_renamed)
 
   occurs_renamed : (entry_nodes : List InContext) (at : InContext) → Occurs s entry_nodes at →
       Occurs u (map renamed_in_context entry_nodes) (renamed_in_context at)
@@ -405,25 +380,21 @@ module _ (ren : ScopeEntry → ScopeEntry) (s u : Nodes) (a : Alike ren s u) whe
   -- the chains are the same, with the entries renamed
   pub chain_renamed : (entry_nodes : List InContext) (x : ℕ) (c : Chain) → HasChain s entry_nodes x c →
       HasChain u (map renamed_in_context entry_nodes) x (R c)
-  chain_renamed entry_nodes x c has = record {
-    at = renamed_in_context has.at;
-    occurs = occurs_renamed entry_nodes has.at has.occurs;
-    is_node = has.is_node;
-    is_chain =
-        ap R has.is_chain
-        ∙ (sym (own_renamed (form_of s (NodeId.Expr x)) has.at.scope)
-        ∙ ap (λ (f : ScopingForm). within_own f (R has.at.scope)) (sym (form_same (NodeId.Expr x))));
-  }
+  chain_renamed entry_nodes x c has =
+      grind (
+        arith,
+        common_steps,
+        occurs_renamed entry_nodes has.at has.occurs,
+        own_renamed (form_of s (NodeId.Expr x)) has.at.scope,
+        form_same (NodeId.Expr x),
+      )
 
   self_renamed : (o : Option ℕ) → all_of (entry_at u) o ≡ map ren (all_of (entry_at s) o)
   self_renamed None = refl
   self_renamed (Some id) = a.entries id
 
   root_renamed : (o : Option ℕ) (formals : List ℕ) → root_frame u o formals ≡ mapped_frame ren (root_frame s o formals)
-  root_renamed o formals =
-      let own = self_renamed o in
-      let rest = flat_map_mapped (binds u) (binds s) ren binds_renamed formals in
-      ap (framed ScopeKind.None) ((λ i. own i ++ rest i) ∙ sym (map-append ren (all_of (entry_at s) o) (flat_map (binds s) formals)))
+  root_renamed o formals = search (rules, self_renamed, flat_map_mapped, binds_renamed, map-append)
 
   pub entry_nodes_renamed : (o : Option ℕ) (formals : List ℕ) (last : Option ℕ) → body_entry_nodes u o formals last
       ≡ map renamed_in_context (body_entry_nodes s o formals last)
@@ -495,12 +466,9 @@ changed_entry : (name : List ℕ) (xs : List Binding) (i j id : ℕ) →
     ≡ map (renamed_where name (nat_eq j i)) (one_entry id (slice_get xs j))
 changed_entry name [] i j id = refl
 changed_entry name (x ∷ xs) zero zero id = refl
-changed_entry name (x ∷ xs) zero (suc j) id =
-    none_changed name id (slice_get xs j)
-    ∙ ap (λ (b : Bool). map (renamed_where name b) (one_entry id (slice_get xs j))) (sym (eqb-suc-zero j))
+changed_entry name (x ∷ xs) zero (suc j) id = search (rules, none_changed, eqb-suc-zero)
 changed_entry name (x ∷ xs) (suc i) zero id = ap (λ (b : Bool). map (renamed_where name b) (one_entry id (Some x))) (sym (eqb-zero-suc i))
-changed_entry name (x ∷ xs) (suc i) (suc j) id =
-    changed_entry name xs i j id ∙ ap (λ (b : Bool). map (renamed_where name b) (one_entry id (slice_get xs j))) (sym (eqb-suc-suc j i))
+changed_entry name (x ∷ xs) (suc i) (suc j) id = search (rules, eqb-suc-suc, changed_entry name xs i j id)
 
 as_renamed : (name : List ℕ) (binding id : ℕ) (o : Option Binding) →
     map (renamed_where name (nat_eq id binding)) (one_entry id o) ≡ map (renamed_entry binding name) (one_entry id o)
@@ -522,27 +490,8 @@ module _ (name : List ℕ) (binding : ℕ) (s : Nodes) where
 
   alike_path : (u : Nodes) (path : ExprOrPatId) → Alike (renamed_entry binding name) s u →
       Alike (renamed_entry binding name) s (rename_path name u path)
-  alike_path u (ExprId id) a = record {
-    expr_forms = changed_map expr_form (renamed_expr name) (expr_form_kept name) u.exprs id ∙ a.expr_forms;
-    expr_calls = changed_map expr_calls (renamed_expr name) (expr_calls_kept name) u.exprs id ∙ a.expr_calls;
-    pat_forms = a.pat_forms;
-    pat_calls = a.pat_calls;
-    pat_bindings = a.pat_bindings;
-    types = a.types;
-    entries = a.entries;
-    sizes = ap (with_exprs (sizes_of u)) (changed_length (renamed_expr name) u.exprs id) ∙ a.sizes;
-  }
-  alike_path u (PatId id) a = record {
-    expr_forms = a.expr_forms;
-    expr_calls = a.expr_calls;
-    pat_forms = changed_map pat_form (renamed_pat name)
-        (λ (x : Pat). ap (λ (cs : List Call). form.InTurn cs) (pat_calls_kept name x)) u.pats id ∙ a.pat_forms;
-    pat_calls = changed_map pat_calls (renamed_pat name) (pat_calls_kept name) u.pats id ∙ a.pat_calls;
-    pat_bindings = changed_map pat_bindings (renamed_pat name) (pat_bindings_kept name) u.pats id ∙ a.pat_bindings;
-    types = a.types;
-    entries = a.entries;
-    sizes = ap (with_pats (sizes_of u)) (changed_length (renamed_pat name) u.pats id) ∙ a.sizes;
-  }
+  alike_path u (ExprId id) a = search (rules, changed_map, expr_form_kept, expr_calls_kept, changed_length)
+  alike_path u (PatId id) a = search (rules, changed_map, pat_calls_kept, pat_bindings_kept, changed_length)
 
   alike_paths : (u : Nodes) (paths : List ExprOrPatId) → Alike (renamed_entry binding name) s u →
       Alike (renamed_entry binding name) s (fold (rename_path name) u paths)

@@ -1,5 +1,5 @@
 -- The first conflict is a use that changes: one of the binding finds another one, any other use finds the binding.
-use Rattle.std.proofs.Common.{◌≡◌, ℕ, zero, suc, List, [], ◌∷◌, ◌++◌, Option, Some, None, Bool, true, false, cond, map, refl, sym, ap}
+use Rattle.std.proofs.Common.{◌≡◌, ℕ, zero, suc, List, [], ◌∷◌, Option, Some, None, Bool, true, false, cond, map, refl, sym, ap, rules}
 use Rattle.std.proofs.Common.{◌∙◌, Contains, subst, length, nat_eq, arith, ◌⊎◌, inl, inr, ⊎_elim}
 use Rattle.std.proofs.lemmas.Bool.{eqb-true, eq-eqb, lt-ltb}
 use Rattle.std.proofs.lemmas.{List.map-append, Option.slice_get_within}
@@ -13,11 +13,11 @@ use Rattle.hir_validate.specs.{declared.node_arenas.Nodes.Nodes, Nodes.children_
 use Rattle.hir_store_core.specs.{Contents.Contents, SideTables.hygiene_of}
 use Rattle.hir_body.specs.{Bodies.BodyContents, Bodies.formals_of, Bodies.last_root, declared.formals.Param.Param}
 use Rattle.hir_scope.specs.{BodyScopes.AreBodyScopes, BodyScopes.entry_nodes_of_body, Chains.InContext, Chains.HasChain, Frames.Chain}
-use Rattle.hir_scope.specs.{Frames.entry_of, PathResolution.binding_of, Resolution.matches, Resolution.find_entry, Resolution.entries_of}
+use Rattle.hir_scope.specs.{PathResolution.binding_of, Resolution.matches, Resolution.find_entry, Resolution.entries_of}
 use Rattle.hir_scope.specs.{Scopes.Scopes}
 use Rattle.hir_scope.specs.declared.scope.ScopeEntry.{ScopeEntry}
-use Rattle.hir_usages.specs.Usages.{usages_of_body, resolves_to, is_binding}
-use Rattle.hir_usages.specs.Renames.{binding_for, is_same, conflict_of, first_conflict, name_at, name_after, refusal, refusal_at}
+use Rattle.hir_usages.specs.Usages.{usages_of_body, resolves_to}
+use Rattle.hir_usages.specs.Renames.{binding_for, is_same, conflict_of, first_conflict, name_at, name_after, refusal}
 use Rattle.hir_usages.specs.Renames.{rename_fault, renamed_entry, resolve_along, chain_at, resolved_after, renamed_chain}
 use Rattle.hir_usages.specs.Kept.{ResolvesTo, Keeps, MayBeRenamed, IsFirstChange, IsConflict, hidden, captures, IsWhyNot, refused, conflict}
 use Rattle.hir_usages.specs.{Renamed.renamed_body, declared.rename_fault.RenameFault.RenameFault, declared.usage.Usage.Usage}
@@ -26,13 +26,13 @@ use Rattle.hir_usages.proofs.KeptLemmas.{same_decides, kept_exactly}
 use Rattle.hir_usages.proofs.{RenameLemmas.binding_in, UseLemmas.IsUse, UseLemmas.AreUses, UseLemmas.all_uses, UseLemmas.for_along}
 use Rattle.hir_usages.proofs.RenamedLemmas.{OneChain, by_frames, by_scopes, reaches_after, as_many, chain_after, resolves_after}
 use Rattle.hir_usages.proofs.VisibleLemmas.{asked, among}
+use Rattle.std.proofs.lemmas.Grind.{common_steps}
 
 -- 1. The bindings of the entries around an expression are in range: a change of all other entries changes none of them.
 
 pub entries_mapped : (ren : ScopeEntry → ScopeEntry) (c : Chain) → entries_of (mapped_chain ren c) ≡ map ren (entries_of c)
 entries_mapped ren [] = refl
-entries_mapped ren (f ∷ c) =
-    ap (λ (es : List ScopeEntry). map ren f.entries ++ es) (entries_mapped ren c) ∙ sym (map-append ren f.entries (entries_of c))
+entries_mapped ren (f ∷ c) = search (rules, map-append, entries_mapped ren c)
 
 abbrev moved : ℕ → ScopeEntry → ScopeEntry
 moved limit e = cond (nat_lt e.binding limit) e (record e { binding = suc e.binding })
@@ -48,39 +48,17 @@ but_first (x ∷ xs) = xs
 fixed_entry : (limit : ℕ) (es : List ScopeEntry) → es ≡ map (moved limit) es → (e : ScopeEntry) → Contains es e →
     nat_lt e.binding limit ≡ true
 fixed_entry limit [] h e m = absurd (omega (arith, m.1))
-fixed_entry limit (x ∷ es) h e (zero, l, is) = at (nat_lt x.binding limit) refl where
-  at : (t : Bool) → nat_lt x.binding limit ≡ t → nat_lt e.binding limit ≡ true
-  at true q = ap (λ (y : ScopeEntry). nat_lt y.binding limit) (sym is) ∙ q
-  at false q =
-      let head : x ≡ moved limit x = ap (first_or x) h in
-      let up : x.binding ≡ suc x.binding =
-      ap (λ (y : ScopeEntry). y.binding) head
-      ∙ ap (λ (t : Bool). (cond t x (record x { binding = suc x.binding })).binding) q in
-      absurd (omega (arith, up))
-fixed_entry limit (x ∷ es) h e (suc i, l, is) =
-    let tail : es ≡ map (moved limit) es = ap but_first h in
-    fixed_entry limit es tail e (i, omega (arith, l), is)
+fixed_entry limit (x ∷ es) h e (zero, l, is) = search rules
+fixed_entry limit (x ∷ es) h e (suc i, l, is) = grind (arith, common_steps)
 
 module _ (s : Nodes) where
   in_range_fixed : (id : ℕ) (o : Option Binding) → slice_get s.bindings id ≡ o → one_entry id o
       ≡ map (moved (length s.bindings)) (one_entry id o)
   in_range_fixed id None e = refl
-  in_range_fixed id (Some x) e =
-      let entry : ScopeEntry = entry_of id x in
-      ap (λ (t : Bool). cond t entry (record entry { binding = suc id }) ∷ [])
-      (sym (lt-ltb id (length s.bindings) (slice_get_within s.bindings id x e)))
+  in_range_fixed id (Some x) e = search (rules, lt-ltb, slice_get_within)
 
   nothing_moved : Alike (moved (length s.bindings)) s s
-  nothing_moved = record {
-    expr_forms = refl;
-    expr_calls = refl;
-    pat_forms = refl;
-    pat_calls = refl;
-    pat_bindings = refl;
-    types = refl;
-    entries = λ id. in_range_fixed id (slice_get s.bindings id) refl;
-    sizes = refl;
-  }
+  nothing_moved = search (rules, in_range_fixed)
 
 -- the bindings of the entries around an expression are in range
 entries_are_in_range : (b : BodyContents) → OneChain b → (x : ℕ) (c : Chain) →
@@ -128,8 +106,7 @@ module _ (x : ℕ) (n : List ℕ) (h : SyntaxContext) where
       (binding_in (cond (matches y h (cond t (named e) e)) (Some (cond t (named e) e)) later)
       ≡ Some x) ⊎ (cond (matches y h (cond t (named e) e)) (Some (cond t (named e) e)) later
       ≡ cond (matches y h e) (Some e) rest)
-  step y e true q rest later further differs =
-      own_step e (matches y h (named e)) (matches y h e) rest later (eqb-true e.binding x q) further differs
+  step y e true q rest later further differs = search (rules, own_step, eqb-true)
   step y e false q rest later further differs = other_step e (matches y h e) rest later further differs
 
   -- a name that didn't find the binding finds it, or what it found
@@ -167,10 +144,7 @@ module _ (x : ℕ) (n : List ℕ) (h : SyntaxContext) where
 
 binding_told : (c : Contents) (o : Option ScopeEntry) (x : ℕ) → binding_of c o ≡ Some x → (e : ScopeEntry) × (o ≡ Some e) × (e.binding ≡ x)
 binding_told c None x is = absurd cc
-binding_told c (Some e) x is = at (nat_lt e.binding (length c.nodes.bindings)) is where
-  at : (t : Bool) → cond t (Some e.binding) None ≡ Some x → (f : ScopeEntry) × (Some e ≡ Some f) × (f.binding ≡ x)
-  at true q = let same : e.binding ≡ x = cc in (e, refl, same)
-  at false q = absurd cc
+binding_told c (Some e) x is = search rules
 
 binding_here : (c : Contents) (e : ScopeEntry) → nat_lt e.binding (length c.nodes.bindings) ≡ true → binding_of c (Some e) ≡ Some e.binding
 binding_here c e l = ap (λ (t : Bool). cond t (Some e.binding) None) l
@@ -178,23 +152,15 @@ binding_here c e l = ap (λ (t : Bool). cond t (Some e.binding) None) l
 pub binding_some : (c : Contents) (o : Option ScopeEntry) (x : ℕ) → nat_lt x (length c.nodes.bindings) ≡ true →
     binding_in o ≡ Some x → binding_of c o ≡ Some x
 binding_some c None x l is = absurd cc
-binding_some c (Some e) x l is =
-    let same : e.binding ≡ x = cc in
-    binding_here c e (ap (λ (k : ℕ). nat_lt k (length c.nodes.bindings)) same ∙ l) ∙ is
+binding_some c (Some e) x l is = search (rules, binding_here)
 
 -- 3. A use that changes
 
 is_own : (x : ℕ) (v : Usage) → resolves_to x v ≡ true → v.binding ≡ Some x
-is_own x v q = at v.binding q where
-  at : (o : Option ℕ) → is_binding x o ≡ true → o ≡ Some x
-  at None q = absurd cc
-  at (Some y) q = ap (λ (k : ℕ). Some k) (eqb-true y x q)
+is_own x v q = search (rules, eqb-true)
 
 pub is_other : (x : ℕ) (v : Usage) → resolves_to x v ≡ false → v.binding ≡ Some x → ⊥
-is_other x v q e =
-    let holds : resolves_to x v ≡ true = ap (is_binding x) e ∙ eq-eqb x x refl in
-    let lie : true ≡ false = sym holds ∙ q in
-    absurd cc
+is_other x v q e = search (rules, eq-eqb)
 
 module _ (b : BodyContents) (x : ℕ) (n : List ℕ) (scopes : Scopes) (are : AreBodyScopes b scopes)
     (only : OneChain (renamed_body b scopes x n)) (in_range : nat_lt x (length b.store.nodes.bindings) ≡ true) where
@@ -216,19 +182,14 @@ module _ (b : BodyContents) (x : ℕ) (n : List ℕ) (scopes : Scopes) (are : Ar
 
     -- what it resolves to before, and after
     before_is : v.binding ≡ binding_of b.store (find_entry is.name h es)
-    before_is =
-        is.resolves ∙ (for_along b.store b.store.nodes scopes v.path v.expr is.asks_at
-        ∙ ap (resolve_along b.store (chain_at scopes v.expr) h) is.asks)
+    before_is = search (rules, for_along)
 
     finds : List ℕ → Option ScopeEntry
     finds y = find_entry y h (map (renamed_entry x n) es)
 
     along : (y : List ℕ) → name_after x n b.store.nodes v ≡ Some y → after v
         ≡ binding_of b.store (find_entry y h (map (renamed_entry x n) es))
-    along y q =
-        ap (resolve_along b.store (renamed_chain x n (chain_at scopes v.expr)) h) q
-        ∙ ap (λ (xs : List ScopeEntry). binding_of b.store (find_entry y h xs))
-        (entries_mapped (renamed_entry x n) (chain_at scopes v.expr))
+    along y q = grind (arith, common_steps, entries_mapped (renamed_entry x n) (chain_at scopes v.expr))
 
     own_name : resolves_to x v ≡ true → name_after x n b.store.nodes v ≡ Some n
     own_name q = ap (λ (t : Bool). cond t (Some n) (name_at b.store.nodes v.path)) q
@@ -325,14 +286,8 @@ module _ (b : BodyContents) (x : ℕ) (n : List ℕ) (scopes : Scopes) (are : Ar
               option_or (cond t None (Some (conflict_of v (resolves_to x v) (after v))))
               (first_conflict b.store scopes x n vs) ≡ Some fault →
               Here v → (first_conflict b.store scopes x n vs ≡ Some fault → IsFault vs fault) → IsFault (v ∷ vs) fault
-          at true e q to further =
-              let same = (same_decides (after v) v.binding).0 e in
-              conflict_later v vs fault (subst (ResolvesTo renamed v.path v.expr) same to) (further q)
-          at false e q to further =
-              let is : conflict_of v (resolves_to x v) (after v) ≡ fault = cc in
-              let changes : after v ≡ v.binding → ⊥ =
-              λ same. let lie : true ≡ false = sym ((same_decides (after v) v.binding).1 same) ∙ e in absurd cc in
-              subst (IsFault (v ∷ vs)) is (conflict_here v vs uses.0 to changes (resolves_to x v) refl)
+          at true e q to further = search (rules, same_decides, conflict_later)
+          at false e q to further = search (rules, same_decides, conflict_here)
 
     -- without a conflict each keeps
     all_keep : (vs : List Usage) → AreUses b scopes vs → ((v : Usage) → Contains vs v → Contains us v) →
@@ -365,10 +320,7 @@ module _ (b : BodyContents) (x : ℕ) (n : List ℕ) (scopes : Scopes) (are : Ar
 -- a binding that isn't refused exists
 pub bound_in_range : (b : BodyContents) (scopes : Scopes) (x : ℕ) (n : List ℕ) → refusal b scopes x n ≡ None →
     x < length b.store.nodes.bindings
-bound_in_range b scopes x n none = at (slice_get b.store.nodes.bindings x) refl none where
-  at : (o : Option Binding) → slice_get b.store.nodes.bindings x ≡ o → refusal_at b scopes x n o ≡ None → x < length b.store.nodes.bindings
-  at None e h = absurd cc
-  at (Some found) e h = slice_get_within b.store.nodes.bindings x found e
+bound_in_range b scopes x n none = search (rules, slice_get_within)
 
 module _ (b : BodyContents) (x : ℕ) (n : List ℕ) (scopes : Scopes) (are : AreBodyScopes b scopes)
     (fall : RankDecreases b.store.nodes) (one : (m k j : NodeId) → Contains (children_of b.store.nodes m) j →
@@ -397,17 +349,10 @@ module _ (b : BodyContents) (x : ℕ) (n : List ℕ) (scopes : Scopes) (are : Ar
       (recursion_from_All (Keeps (renamed_body b scopes x n)) body_uses may.keeps)))
 
   may_be_where : rename_fault b scopes x n ≡ None → MayBeRenamed b scopes x n
-  may_be_where none = at (refusal b scopes x n) refl none where
-    at : (o : Option RenameFault) → refusal b scopes x n ≡ o →
-        option_or o (first_conflict b.store scopes x n body_uses) ≡ None → MayBeRenamed b scopes x n
-    at None e h = may_be e h
-    at (Some fault) e h = absurd cc
+  may_be_where none = search (rules, may_be)
 
   pub no_fault_exactly : (rename_fault b scopes x n ≡ None) ↔ MayBeRenamed b scopes x n
-  no_fault_exactly = (
-    may_be_where,
-    λ may. ap (λ (o : Option RenameFault). option_or o (first_conflict b.store scopes x n body_uses)) may.accepted ∙ no_conflict may,
-  )
+  no_fault_exactly = search (rules, may_be_where, no_conflict)
 
   pub fault_is_why : (fault : RenameFault) → rename_fault b scopes x n ≡ Some fault → IsWhyNot b scopes x n fault
   fault_is_why fault is = at (refusal b scopes x n) refl is where
@@ -431,8 +376,7 @@ each_kept b scopes are (v ∷ vs) uses = (
 
 pub uses_keep : (b : BodyContents) (scopes : Scopes) → AreBodyScopes b scopes → RankDecreases b.store.nodes →
     All (Keeps b) (usages_of_body b scopes)
-uses_keep b scopes are fall =
-    All-from_recursion (Keeps b) (usages_of_body b scopes) (each_kept b scopes are (usages_of_body b scopes) (all_uses b scopes fall))
+uses_keep b scopes are fall = search (rules, All-from_recursion, each_kept, all_uses)
 
 -- by scopes that were made anew of the renamed body each use resolves to what it resolves to along its frames
 module _ (b : BodyContents) (x : ℕ) (n : List ℕ) (scopes later : Scopes)
@@ -449,7 +393,4 @@ module _ (b : BodyContents) (x : ℕ) (n : List ℕ) (scopes later : Scopes)
 
   pub all_by_later : All (Keeps (renamed_body b scopes x n)) (usages_of_body b scopes) →
       All (λ (v : Usage). binding_for (renamed_body b scopes x n).store later v.path v.expr ≡ v.binding) (usages_of_body b scopes)
-  all_by_later keeps =
-      let us = usages_of_body b scopes in
-      All-from_recursion (λ (v : Usage). binding_for (renamed_body b scopes x n).store later v.path v.expr ≡ v.binding) us
-      (by_later us (all_uses b scopes fall) (recursion_from_All (Keeps (renamed_body b scopes x n)) us keeps))
+  all_by_later keeps = search (rules, All-from_recursion, by_later, all_uses, recursion_from_All)

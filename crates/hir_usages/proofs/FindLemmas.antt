@@ -1,16 +1,15 @@
 -- Where the walk over a body begins: at its formals and its last root.
-use Rattle.std.proofs.Common.{◌≡◌, ℕ, List, [], ◌∷◌, ◌++◌, Option, Some, None, refl, ap, ◌∙◌, Contains, arith, subst, suc, map}
+use Rattle.std.proofs.Common.{◌≡◌, ℕ, List, [], ◌∷◌, ◌++◌, Option, Some, None, refl, ap, ◌∙◌, Contains, arith, subst, suc, map, rules}
 use Rattle.std.specs.List.{flat_map}
 use Rattle.std.specs.Option.{option_to_list, option_map}
 use Rattle.hir_node.specs.declared.node_id.NodeId.{NodeId}
 use Rattle.hir_validate.specs.Nodes.{Has}
 use Rattle.hir_validate.specs.declared.node_arenas.Nodes.{Nodes}
-use Rattle.hir_store_core.specs.Contents.{Contents}
 use Rattle.hir_body.specs.{Bodies.BodyContents, Bodies.formals_of, Bodies.last_root, Bodies.entry_nodes, declared.formals.Param.Param}
 use Rattle.hir_captures.specs.Uses.{Spot}
 use Rattle.hir_usages.specs.Visits.{visits_under, visits}
-use Rattle.hir_usages.specs.Usages.{usages_in, usages_of_body, bound_in, bound_by_body}
-use Rattle.hir_usages.specs.declared.{to_visit.Task.Task, usage.Usage.Usage, walk.Walk.Walk}
+use Rattle.hir_usages.specs.Usages.{usages_of_body, bound_by_body}
+use Rattle.hir_usages.specs.declared.{to_visit.Task.Task, walk.Walk.Walk}
 use Rattle.hir_usages.specs.internal.Pending.{AreInRange, visits_of}
 use Rattle.hir_usages.specs.internal.Reading.{FoundLists, with_tasks, with_visits}
 use Rattle.hir_usages.specs.internal.Wanted.{wanted_among}
@@ -51,20 +50,10 @@ module _ (b : BodyContents) (w : Walk) (same : w.store.now ≡ b.store) (before 
   at_end = with_visits w before (visits b)
 
   ends : after ≡ at_end
-  ends =
-      ran
-      ∙ (ap (λ (c : Contents). with_visits w before (visits_of c.nodes tasks)) same ∙ ap (with_visits w before) begins)
+  ends = search rules
 
   pub all_usages : before.usages ≡ [] → after.usages ≡ wanted_among w.wanted b.store.nodes (usages_of_body b w.scopes.now)
-  all_usages none =
-      ap (λ (x : FoundLists). x.usages) ends
-      ∙ (added w before (visits b)
-      ∙ (ap (λ (us : List Usage). us ++ wanted_among w.wanted w.store.now.nodes (usages_in w.store.now w.scopes.now (visits b))) none
-      ∙ ap (λ (c : Contents). wanted_among w.wanted c.nodes (usages_in c w.scopes.now (visits b))) same))
+  all_usages none = search (rules, ends, added)
 
   pub all_bound : before.bound ≡ option_to_list (option_map (λ (p : Param ℕ). p.formal) b.self_param) → after.bound ≡ bound_by_body b
-  all_bound own =
-      ap (λ (x : FoundLists). x.bound) ends
-      ∙ (added_bound w before (visits b)
-      ∙ (ap (λ (bs : List ℕ). bs ++ bound_in w.store.now.nodes (visits b)) own
-      ∙ ap (λ (c : Contents). option_to_list (option_map (λ (p : Param ℕ). p.formal) b.self_param) ++ bound_in c.nodes (visits b)) same))
+  all_bound own = search (rules, ends, added_bound)

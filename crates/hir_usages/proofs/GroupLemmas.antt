@@ -1,6 +1,6 @@
 -- One more use in its group, and bindings that no use resolves to.
-use Rattle.std.proofs.Common.{◌≡◌, ℕ, List, [], ◌∷◌, ◌++◌, Option, Some, None, Bool, true, false, cond, refl, sym, ap, ◌∙◌, nat_eq}
-use Rattle.std.proofs.Common.{length, arith, fold, take, get_or, ◌+◌, ◌<◌, subst}
+use Rattle.std.proofs.Common.{◌≡◌, ℕ, List, [], ◌∷◌, ◌++◌, Option, Some, None, Bool, true, false, cond, refl, sym, ap, ◌∙◌, nat_eq, rules}
+use Rattle.std.proofs.Common.{length, arith, take, get_or, ◌+◌, ◌<◌}
 use Rattle.std.proofs.lemmas.Bool.{ne_eqb, eq-eqb}
 use Rattle.std.proofs.lemmas.{Cmp.ranked, Cmp.nat_cmp_total, List.append-nil, List.take_more, List.Elements.filter-append}
 use Rattle.std.proofs.lemmas.{List.Sums.fold-append, Bool.eqb-true}
@@ -10,11 +10,9 @@ use Rattle.std.specs.Ordering.{nat_cmp, eq_by_cmp, is_eq, MatchOrdering}
 use Rattle.std.specs.{Prelude.not, Prelude.is_some, Prelude.◌||◌, declared.cmp.Ordering.Ordering}
 use Rattle.hir_captures.specs.Captures.{with_new}
 use Rattle.hir_usages.specs.Usages.{FoundUsages, resolves_to, is_binding, usages_of, unresolved_in, is_unused, unused_among}
-use Rattle.hir_usages.specs.Usages.{usages_of_body, bound_by_body, found_in_body}
-use Rattle.hir_body.specs.Bodies.{BodyContents}
-use Rattle.hir_scope.specs.Scopes.{Scopes}
 use Rattle.hir_usages.specs.declared.usage.Usage.{Usage}
 use Rattle.hir_usages.specs.Groups.{AreGroups, or_none}
+use Rattle.std.proofs.lemmas.Grind.{common_steps}
 
 -- 1. Groups
 
@@ -43,24 +41,16 @@ module _ (before : List Usage) (usage : Usage) where
   -- and the unresolved ones
   rest_more : (o : Option ℕ) → usage.binding ≡ o → unresolved_in (before ++ usage ∷ [])
       ≡ unresolved_in before ++ cond (not (is_some o)) (usage ∷ []) []
-  rest_more o is =
-      filter-append (λ (u : Usage). not (is_some u.binding)) before (usage ∷ [])
-      ∙ ap (λ (x : Option ℕ). unresolved_in before ++ cond (not (is_some x)) (usage ∷ []) []) is
+  rest_more o is = search (rules, filter-append)
 
   pub one_more_of : (groups more : Groups) (unresolved : List Usage) (x : ℕ) → AreGroups before groups unresolved → usage.binding ≡ Some x →
       ((q : ℕ) → or_none (map.get more q) ≡ or_none (map.get groups q) ++ cond (nat_eq x q) (usage ∷ []) []) →
       AreGroups (before ++ usage ∷ []) more unresolved
-  one_more_of groups more unresolved x h is adds = record {
-    each = λ q. adds q ∙ (ap (λ (us : List Usage). us ++ cond (nat_eq x q) (usage ∷ []) []) (h.each q) ∙ sym (uses_more q (Some x) is));
-    rest = h.rest ∙ (sym (append-nil (unresolved_in before)) ∙ sym (rest_more (Some x) is));
-  }
+  one_more_of groups more unresolved x h is adds = grind (arith, common_steps, append-nil, rest_more)
 
   pub one_more_unresolved : (groups : Groups) (unresolved : List Usage) → AreGroups before groups unresolved →
       usage.binding ≡ None → AreGroups (before ++ usage ∷ []) groups (unresolved ++ usage ∷ [])
-  one_more_unresolved groups unresolved h is = record {
-    each = λ b. h.each b ∙ (sym (append-nil (usages_of b before)) ∙ sym (uses_more b None is));
-    rest = ap (λ (us : List Usage). us ++ usage ∷ []) h.rest ∙ sym (rest_more None is);
-  }
+  one_more_unresolved groups unresolved h is = grind (arith, common_steps, append-nil, rest_more)
 
 -- a list that is taken out, gets one use more and is put back
 pub put_back : (m more : Groups) (x : ℕ) (a b : List Usage) (usage : Usage) → more
@@ -109,42 +99,11 @@ module _ (usages : List Usage) (b : ℕ) where
 
   pub unused_more : (xs : List ℕ) (t : Bool) → is_unused usages b ≡ t → unused_among usages (xs ++ b ∷ [])
       ≡ cond t (with_new (unused_among usages xs) b) (unused_among usages xs)
-  unused_more xs t e =
-      let p = is_unused usages in
-      ap (fold with_new []) (filter-append p xs (b ∷ []))
-      ∙ (fold-append with_new [] (filter p xs) (filter p (b ∷ []))
-      ∙ (ap (λ (v : Bool). fold with_new (unused_among usages xs) (cond v (b ∷ []) [])) e ∙ at t)) where
-        at : (v : Bool) → fold with_new (unused_among usages xs) (cond v (b ∷ []) [])
-            ≡ cond v (with_new (unused_among usages xs) b) (unused_among usages xs)
-        at true = refl
-        at false = refl
-
--- one item more, of a vector that is read as a slice
-pub one_taken : {X : Type 0} (items slice : List X) (i : ℕ) (x : X) → slice ≡ items → i < length slice → x
-    ≡ get_or slice i x → take (i + 1) items ≡ take i items ++ x ∷ []
-one_taken {X} items slice i x same l is =
-    subst (λ (ys : List X). take (i + 1) ys ≡ take i ys ++ x ∷ []) same
-    (take_more slice i x l ∙ ap (λ (y : X). take i slice ++ y ∷ []) (sym is))
-
--- one binding more, at an index
-pub unused_step : (usages : List Usage) (b : ℕ) (xs : List ℕ) (i : ℕ) (before later : List ℕ) → later
-    ≡ cond (is_unused usages b) (with_new before b) before →
-    before ≡ unused_among usages (take i xs) → take (i + 1) xs ≡ take i xs ++ b ∷ [] → later ≡ unused_among usages (take (i + 1) xs)
-unused_step usages b xs i before later is was more =
-    is
-    ∙ (ap (λ (found : List ℕ). cond (is_unused usages b) (with_new found b) found) was
-    ∙ (sym (unused_more usages b (take i xs) (is_unused usages b) refl) ∙ ap (unused_among usages) (sym more)))
+  unused_more xs t e = search (rules, filter-append, fold-append)
 
 -- one use more, at an index
 pub takes_of : (b : ℕ) (us : List Usage) (i : ℕ) (d : Usage) → i < length us → usages_of b (take (i + 1) us)
     ≡ usages_of b (take i us) ++ cond (resolves_to b (get_or us i d)) (get_or us i d ∷ []) []
 takes_of b us i d l = ap (usages_of b) (take_more us i d l) ∙ filter-append (resolves_to b) (take i us) (get_or us i d ∷ [])
-
-pub found_all : (b : BodyContents) (scopes : Scopes) (us : List Usage) (bs un : List ℕ) → us
-    ≡ usages_of_body b scopes → bs ≡ bound_by_body b → un ≡ unused_among us bs → found_as us un
-    ≡ found_in_body b scopes
-found_all b scopes us bs un p q r =
-    let unused = r ∙ (λ i. unused_among (p i) (q i)) in
-    λ i. found_as (p i) (unused i)
 
 pub ruleset grouping = (no_groups, put_back, one_more_of, one_more_unresolved, is_unused_where, is_used_where, unused_more)

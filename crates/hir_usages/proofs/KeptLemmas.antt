@@ -1,5 +1,5 @@
 -- There is no conflict exactly where each use resolves to what it resolved to before.
-use Rattle.std.proofs.Common.{◌≡◌, ℕ, List, [], ◌∷◌, Option, Some, None, Bool, true, false, cond, refl, ap, ◌∙◌}
+use Rattle.std.proofs.Common.{◌≡◌, ℕ, List, [], ◌∷◌, Option, Some, None, Bool, true, false, cond, refl, ap, rules}
 use Rattle.std.proofs.lemmas.Bool.{eqb-true, eq-eqb}
 use Rattle.std.proofs.lemmas.List.Elements.{All-from_recursion, recursion_from_All}
 use Rattle.std.specs.{Bool.Decides, List.All, List.AllByRecursion, Option.option_or, Prelude.◌↔◌}
@@ -42,13 +42,8 @@ module _ (c : Contents) (scopes : Scopes) (b : ℕ) (name : List ℕ) where
 
   none_first : (us : List Usage) → AllByRecursion Keeps us → first_conflict c scopes b name us ≡ None
   none_first [] h = refl
-  none_first (u ∷ us) h =
-      ap (λ (o : Option RenameFault). option_or o (first_conflict c scopes b name us)) (no_change u h.0)
-      ∙ none_first us h.1
+  none_first (u ∷ us) h = search (rules, no_change, none_first us h.1)
 
 pub kept_exactly : (c : Contents) (scopes : Scopes) (b : ℕ) (name : List ℕ) (us : List Usage) →
     (first_conflict c scopes b name us ≡ None) ↔ All (λ (u : Usage). resolved_after c scopes b name u ≡ u.binding) us
-kept_exactly c scopes b name us = (
-  λ h. All-from_recursion (λ (u : Usage). resolved_after c scopes b name u ≡ u.binding) us (each_kept c scopes b name us h),
-  λ h. none_first c scopes b name us (recursion_from_All (λ (u : Usage). resolved_after c scopes b name u ≡ u.binding) us h),
-)
+kept_exactly c scopes b name us = search (rules, All-from_recursion, each_kept, none_first, recursion_from_All)

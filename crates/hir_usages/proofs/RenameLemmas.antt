@@ -1,17 +1,17 @@
 -- What a name resolves to before and after a rename, scope by scope.
-use Rattle.std.proofs.Common.{◌≡◌, ℕ, Bool, true, false, cond, List, [], ◌∷◌, ◌++◌, Option, Some, None, refl, ap, sym, ◌∙◌, map, ◌+◌}
+use Rattle.std.proofs.Common.{◌≡◌, ℕ, Bool, true, false, cond, List, [], ◌∷◌, ◌++◌, Option, Some, None, refl, ap, sym, ◌∙◌, map, ◌+◌, rules, arith}
 use Rattle.std.proofs.Common.{zero, suc, drop, add-one}
 use Rattle.std.proofs.lemmas.{List.append-nil, List.Concat.flat_map-append}
-use Rattle.std.specs.{List.slice_get, List.flat_map, List.list_any, Option.option_or, Prelude.◌||◌}
+use Rattle.std.specs.{List.slice_get, List.list_any, Option.option_or, Prelude.◌||◌}
 use Rattle.std.specs.Prelude.{option_map}
 use Rattle.hir_base.specs.declared.hygiene.SyntaxContext.{SyntaxContext}
-use Rattle.hir_validate.specs.TestedParts.{all_of}
-use Rattle.hir_scope.specs.{Frames.Frame, Frames.Chain}
-use Rattle.hir_scope.specs.Paths.{path, frame_at, chain}
-use Rattle.hir_scope.specs.Resolution.{matches, find_entry, entries_of, resolve}
+use Rattle.hir_scope.specs.{Frames.Chain}
+use Rattle.hir_scope.specs.Paths.{path, chain}
+use Rattle.hir_scope.specs.Resolution.{find_entry, resolve}
 use Rattle.hir_scope.specs.Scopes.{Scope, frame_of}
 use Rattle.hir_scope.specs.declared.scope.ScopeEntry.{ScopeEntry}
-use Rattle.hir_usages.specs.Renames.{first_some, has_entry, other_among, renamed_entry, renamed_frame, renamed_chain}
+use Rattle.hir_usages.specs.Renames.{first_some, has_entry, other_among, renamed_entry, renamed_chain}
+use Rattle.std.proofs.lemmas.Grind.{common_steps}
 
 -- the binding of an entry that was found
 abbrev pub binding_in : Option ScopeEntry → Option ℕ
@@ -43,9 +43,7 @@ GoesOutward scopes = (s : ℕ) (x : Scope) → slice_get scopes s ≡ Some x →
 path_of_parent : (scopes : List Scope) (s : ℕ) (parent : Option ℕ) → GoesOutward scopes →
     option_map (λ (x : Scope). x.parent) (slice_get scopes s) ≡ Some parent → path scopes (Some s)
     ≡ s ∷ path scopes parent
-path_of_parent scopes s parent outward e =
-    let x = of_some_scope (λ (x : Scope). x.parent) (slice_get scopes s) parent e in
-    outward s x.0 x.1 ∙ ap (λ (p : Option ℕ). s ∷ path scopes p) x.2
+path_of_parent scopes s parent outward e = search (rules, of_some_scope)
 
 -- what a name resolves to along a chain in two parts
 module _ (n : List ℕ) (h : SyntaxContext) where
@@ -56,24 +54,16 @@ module _ (n : List ℕ) (h : SyntaxContext) where
 
   first_append : (xs ys : List ScopeEntry) → find_entry n h (xs ++ ys) ≡ option_or (find_entry n h xs) (find_entry n h ys)
   first_append [] ys = refl
-  first_append (x ∷ xs) ys =
-      or_later (matches n h x) x (find_entry n h (xs ++ ys)) (find_entry n h xs) (find_entry n h ys)
-      (first_append xs ys)
+  first_append (x ∷ xs) ys = search (rules, or_later, first_append xs ys)
 
   resolve_append : (xs ys : Chain) → resolve (xs ++ ys) n h ≡ option_or (resolve xs n h) (resolve ys n h)
-  resolve_append xs ys =
-      ap (find_entry n h) (flat_map-append (λ (f : Frame). f.entries) xs ys) ∙ first_append (entries_of xs)
-      (entries_of ys)
+  resolve_append xs ys = search (rules, flat_map-append, first_append)
 
 -- the chain of a scope is its frame on the chain of its parent
 pub chain_step : (scopes : List Scope) (s : ℕ) (parent : Option ℕ) (x : Scope) → GoesOutward scopes →
     option_map (λ (y : Scope). y.parent) (slice_get scopes s) ≡ Some parent → slice_get scopes s ≡ Some x →
     chain scopes (Some s) ≡ frame_of x ∷ chain scopes parent
-chain_step scopes s parent x outward p is =
-    let along : chain scopes (Some s) ≡ frame_at scopes s ++ chain scopes parent =
-    ap (λ (ids : List ℕ). flat_map (frame_at scopes) ids) (path_of_parent scopes s parent outward p) in
-    let first : frame_at scopes s ≡ frame_of x ∷ [] = ap (all_of (λ (y : Scope). frame_of y ∷ [])) is in
-    along ∙ ap (λ (fs : Chain). fs ++ chain scopes parent) first
+chain_step scopes s parent x outward p is = search (rules, path_of_parent)
 
 -- before a rename
 module _ (scopes : List Scope) (name : List ℕ) (h : SyntaxContext) where
@@ -89,14 +79,7 @@ module _ (scopes : List Scope) (name : List ℕ) (h : SyntaxContext) where
 
     -- the entries of the scope come first
     first_or_outer : resolve (chain scopes (Some s)) name h ≡ option_or first (resolve (chain scopes parent) name h)
-    first_or_outer =
-        let x = of_some_scope (λ (y : Scope). y.entries) (slice_get scopes s) es e in
-        let outer : Chain = chain scopes parent in
-        let f : Frame = frame_of x.0 in
-        let entries : resolve (f ∷ []) name h ≡ first =
-        ap (find_entry name h) (append-nil f.entries) ∙ ap (λ (xs : List ScopeEntry). find_entry name h xs) x.2 in
-        ap (λ (c : Chain). resolve c name h) (chain_step scopes s parent x.0 outward p x.1)
-        ∙ (resolve_append name h (f ∷ []) outer ∙ ap (λ (o : Option ScopeEntry). option_or o (resolve outer name h)) entries)
+    first_or_outer = search (rules, of_some_scope, append-nil, chain_step, resolve_append)
 
     pub found_first : (x : ℕ) → binding_in first ≡ Some x → found_in (Some s) ≡ Some x
     found_first x is = ap binding_in first_or_outer ∙ or_found first (resolve (chain scopes parent) name h) x is
@@ -119,16 +102,7 @@ module _ (scopes : List Scope) (b : ℕ) (new name : List ℕ) (h : SyntaxContex
     -- the entries of the scope come first
     in_parts : resolve (renamed_chain b new (chain scopes (Some s))) name h
         ≡ option_or here (resolve (renamed_chain b new (chain scopes parent)) name h)
-    in_parts =
-        let x = of_some_scope (λ (y : Scope). y.entries) (slice_get scopes s) es e in
-        let outer : Chain = renamed_chain b new (chain scopes parent) in
-        let f : Frame = renamed_frame b new (frame_of x.0) in
-        let whole = chain_step scopes s parent x.0 outward p x.1 in
-        let entries : resolve (f ∷ []) name h ≡ here =
-        ap (find_entry name h) (append-nil f.entries)
-        ∙ ap (λ (xs : List ScopeEntry). find_entry name h (map (renamed_entry b new) xs)) x.2 in
-        ap (λ (c : Chain). resolve (renamed_chain b new c) name h) whole
-        ∙ (resolve_append name h (f ∷ []) outer ∙ ap (λ (o : Option ScopeEntry). option_or o (resolve outer name h)) entries)
+    in_parts = grind (arith, common_steps, of_some_scope, chain_step, append-nil, resolve_append)
 
     pub found_here : (x : ℕ) → binding_in here ≡ Some x → found_from (Some s) ≡ Some x
     found_here x is = ap binding_in in_parts ∙ or_found here (resolve (renamed_chain b new (chain scopes parent)) name h) x is
@@ -147,22 +121,13 @@ module _ (scopes : List Scope) (i : ℕ) (es : List ScopeEntry)
     (e : option_map (λ (x : Scope). x.entries) (slice_get scopes i) ≡ Some es) where
   pub any_step : (b : ℕ) → list_any (λ (s : Scope). has_entry b s.entries) (drop i scopes)
       ≡ (has_entry b es || list_any (λ (s : Scope). has_entry b s.entries) (drop (i + 1) scopes))
-  any_step b =
-      let x = of_some_scope (λ (y : Scope). y.entries) (slice_get scopes i) es e in
-      ap (list_any (λ (s : Scope). has_entry b s.entries)) (split_drop scopes i x.0 x.1)
-      ∙ ((λ j. has_entry b (x.2 j) || list_any (λ (s : Scope). has_entry b s.entries) (drop (suc i) scopes))
-      ∙ ap (λ (n : ℕ). has_entry b es || list_any (λ (s : Scope). has_entry b s.entries) (drop n scopes)) (sym (add-one i)))
+  any_step b = search (rules, of_some_scope, split_drop, add-one)
 
   pub beside_step : (b : ℕ) (n : List ℕ) (h : SyntaxContext) →
       first_some (λ (s : Scope). other_among b n h s.entries) (drop i scopes)
       ≡ option_or (other_among b n h es)
       (first_some (λ (s : Scope). other_among b n h s.entries) (drop (i + 1) scopes))
-  beside_step b n h =
-      let x = of_some_scope (λ (y : Scope). y.entries) (slice_get scopes i) es e in
-      ap (first_some (λ (s : Scope). other_among b n h s.entries)) (split_drop scopes i x.0 x.1)
-      ∙ ((λ j. option_or (other_among b n h (x.2 j)) (first_some (λ (s : Scope). other_among b n h s.entries) (drop (suc i) scopes)))
-      ∙ ap (λ (k : ℕ). option_or (other_among b n h es)
-      (first_some (λ (s : Scope). other_among b n h s.entries) (drop k scopes))) (sym (add-one i)))
+  beside_step b n h = search (rules, of_some_scope, split_drop, add-one)
 
   -- a scope has an entry of the binding, or the later ones decide
   module _ (b : ℕ) (before : list_any (λ (s : Scope). has_entry b s.entries) (drop i scopes)

@@ -1,8 +1,7 @@
 -- In the renamed body each use of the body resolves to what it is said to resolve to after the rename, and the chain of each expression
 -- is the only one.
-use Rattle.std.proofs.Common.{◌≡◌, ℕ, List, Option, Some, None, cond, refl, sym, ap, ◌∙◌, Contains, subst, length}
-use Rattle.std.specs.FinMap as finmap
-use Rattle.std.specs.Prelude.{IsSome, nat_lt}
+use Rattle.std.proofs.Common.{◌≡◌, ℕ, List, Option, Some, None, cond, refl, sym, ap, ◌∙◌, Contains, subst, length, rules, arith}
+use Rattle.std.specs.Prelude.{nat_lt}
 use Rattle.hir_base.specs.declared.hygiene.SyntaxContext.{SyntaxContext}
 use Rattle.hir_path.specs.declared.ids.ExprOrPatId.{ExprOrPatId}
 use Rattle.hir_node.specs.declared.node_id.NodeId.{NodeId}
@@ -11,14 +10,15 @@ use Rattle.hir_validate.specs.{declared.node_arenas.Nodes.Nodes, Nodes.Has, Node
 use Rattle.hir_store_core.specs.{SideTables.hygiene_of, Under.Under, Under.itself, Under.below}
 use Rattle.hir_body.specs.Bodies.{BodyContents, BodyReaches}
 use Rattle.hir_scope.specs.{BodyScopes.AreBodyScopes, BodyScopes.entry_nodes_of_body, Chains.HasChain, Frames.Chain}
-use Rattle.hir_scope.specs.{PathResolution.binding_of, Paths.chain, Resolution.resolve, Scopes.Scopes}
+use Rattle.hir_scope.specs.{PathResolution.binding_of, Resolution.resolve, Scopes.Scopes}
 use Rattle.hir_scope.specs.declared.scope.ScopeEntry.{ScopeEntry}
 use Rattle.hir_usages.specs.Usages.{usages_of_body, usages_of}
-use Rattle.hir_usages.specs.Renames.{binding_for, name_at, name_after, renamed_entry, resolve_along, chain_at, resolved_after}
+use Rattle.hir_usages.specs.Renames.{binding_for, name_at, renamed_entry, resolve_along, chain_at, resolved_after}
 use Rattle.hir_usages.specs.Renames.{renamed_chain}
 use Rattle.hir_usages.specs.{Kept.ResolvesTo, Renamed.renamed_body, declared.usage.Usage.Usage}
 use Rattle.hir_usages.proofs.AlikeLemmas.{Alike, alike, children_same, chains_renamed}
 use Rattle.hir_usages.proofs.UseLemmas.{AsksAt, IsUse, AreUses, for_along, new_name}
+use Rattle.std.proofs.lemmas.Grind.{common_steps}
 
 -- 1. Scopes of a body, where the chain of each expression is the only one
 
@@ -31,22 +31,12 @@ module _ (b : BodyContents) where
   module _ (scopes : Scopes) (are : AreBodyScopes b scopes) where
     -- what the body reaches has the chain of its scope
     pub chain_of_reached : (x : ℕ) → BodyReaches b (NodeId.Expr x) → HasChain b.store.nodes (entry_nodes_of_body b) x (chain_at scopes x)
-    chain_of_reached x r = at (finmap.get scopes.scope_by_expr x) refl ((are.reached x).1 r) where
-      at : (o : Option ℕ) → finmap.get scopes.scope_by_expr x ≡ o → IsSome o →
-          HasChain b.store.nodes (entry_nodes_of_body b) x (chain_at scopes x)
-      at None e h = absurd cc
-      at (Some scope) e h =
-          subst (λ (o : Option ℕ). HasChain b.store.nodes (entry_nodes_of_body b) x (chain scopes.scopes o)) (sym e)
-          (are.chains x scope e)
+    chain_of_reached x r = search rules
 
     -- what a path resolves to by the scopes is what it resolves to along the frames
     pub by_frames : (s : Nodes) (path : ExprOrPatId) (x : ℕ) → AsksAt s path x → BodyReaches b (NodeId.Expr x) →
         ResolvesTo b path x (binding_for b.store scopes path x)
-    by_frames s path x asks r = record {
-      frames = chain_at scopes x;
-      are_around = chain_of_reached x r;
-      is = sym (for_along b.store s scopes path x asks);
-    }
+    by_frames s path x asks r = search (rules, chain_of_reached, for_along)
 
     pub by_scopes : OneChain b → (s : Nodes) (path : ExprOrPatId) (x : ℕ) (found : Option ℕ) → AsksAt s path x →
         BodyReaches b (NodeId.Expr x) → ResolvesTo b path x found → binding_for b.store scopes path x ≡ found
@@ -109,24 +99,11 @@ module _ (b : BodyContents) (x : ℕ) (n : List ℕ) (scopes : Scopes) where
     -- a use has in the renamed body the renamed chain
     pub chain_after : (v : Usage) → IsUse b scopes v →
         HasChain u (entry_nodes_of_body renamed) v.expr (renamed_chain x n (chain_at scopes v.expr))
-    chain_after v is = at (finmap.get scopes.scope_by_expr v.expr) refl ((are.reached v.expr).1 is.reached) where
-      at : (o : Option ℕ) → finmap.get scopes.scope_by_expr v.expr ≡ o → IsSome o →
-          HasChain u (entry_nodes_of_body renamed) v.expr (renamed_chain x n (chain_at scopes v.expr))
-      at None e h = absurd cc
-      at (Some scope) e h =
-          subst (λ (o : Option ℕ). HasChain u (entry_nodes_of_body renamed) v.expr (renamed_chain x n (chain scopes.scopes o))) (sym e)
-          (chains_renamed b scopes scopes are.chains x n v.expr scope e)
+    chain_after v is = search (rules, chains_renamed)
 
     -- and resolves in it to what it is said to resolve to
     pub resolves_after : ((a m k : NodeId) → Contains (children_of s a) k → Contains (children_of s m) k → a ≡ m) →
         AreUses b scopes us → (v : Usage) → Contains us v → IsUse b scopes v →
         ResolvesTo renamed v.path v.expr (resolved_after b.store scopes x n v)
     resolves_after one all v among is =
-        let frames = renamed_chain x n (chain_at scopes v.expr) in
-        let h = hygiene_of b.store.side_tables v.path in
-        record {
-          frames = frames;
-          are_around = chain_after v is;
-          is = ap (resolve_along renamed.store frames h) (new_name b scopes one x n us v all is among)
-              ∙ along_same frames h (name_after x n s v);
-        }
+        grind (arith, common_steps, chain_after v is, new_name b scopes one x n us v all is among, along_same)

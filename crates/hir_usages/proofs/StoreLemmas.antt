@@ -1,14 +1,14 @@
 -- The renamed nodes are those of a store, and of a body: where the nodes have no fault, neither have the renamed ones.
-use Rattle.std.proofs.Common.{◌≡◌, ◌<◌, ℕ, zero, suc, List, [], ◌∷◌, Option, Some, None, map, refl, sym, ap, ◌∙◌, subst, length, fold}
+use Rattle.std.proofs.Common.{◌≡◌, ◌<◌, ℕ, zero, suc, List, [], ◌∷◌, Option, Some, None, map, refl, sym, ap, ◌∙◌, subst, length, fold, rules}
 use Rattle.std.proofs.Common.{arith}
 use Rattle.std.proofs.lemmas.List.{length-map}
-use Rattle.std.specs.Prelude.{slice_index_or, IfSome}
+use Rattle.std.specs.Prelude.{slice_index_or}
 use Rattle.hir_path.specs.declared.ids.ExprOrPatId.{ExprOrPatId}
 use Rattle.hir_path.specs.declared.ids.ExprOrPatId.TheVariants.{ExprId, PatId}
 use Rattle.hir_path.specs.declared.path.Path.{Path}
 use Rattle.hir_node.specs.declared.{expr.Expr.Expr, node_id.NodeId.NodeId, pat.Pat.Pat, type_ref.TypeRef.TypeRef}
 use Rattle.hir_forest.specs.declared.roots.{Ends.Ends, Root.Root}
-use Rattle.hir_forest.specs.{Faults.forest_fault, Parents.HasParents}
+use Rattle.hir_forest.specs.{Faults.forest_fault}
 use Rattle.hir_validate.specs.declared.{sizes.Sizes.Sizes}
 use Rattle.hir_validate.specs.{declared.node_arenas.Nodes.Nodes, Nodes.sizes_of, Nodes.graph, TestedParts.TestedParts}
 use Rattle.hir_validate.specs.{TestedParts.tested_expr, TestedParts.tested_pat, TestedParts.tested_type}
@@ -16,19 +16,18 @@ use Rattle.hir_validate.specs.Faults.{ends_of, node_fault, nothing_tested, first
 use Rattle.hir_store_core.specs.{Contents.Contents, Contents.IsStore, Contents.contents_fault, Contents.contents_of_parts}
 use Rattle.hir_store_core.specs.{PatLinks.HasPatLinks, PatLinks.AreLinked, Under.LiesUnderOther}
 use Rattle.hir_store_core.specs.declared.kept_parts.KeptParts.{KeptParts}
-use Rattle.hir_body.specs.declared.formals.Param.{Param}
-use Rattle.hir_body.specs.Bodies.{BodyContents, body_of, body_fault, fault_at_root, last_root, apart_fault, AreBelow}
+use Rattle.hir_body.specs.Bodies.{BodyContents, body_fault, fault_at_root, last_root, apart_fault}
 use Rattle.hir_scope.specs.Scopes.{Scopes}
 use Rattle.hir_usages.specs.Renames.{renamed_entry}
 use Rattle.hir_usages.specs.Renamed.{change_at, renamed_expr, renamed_pat, rename_path, rename_binding, renamed_nodes, renamed_body}
 use Rattle.hir_usages.specs.Renamed.{with_nodes}
-use Rattle.hir_usages.specs.Usages.{usages_of, usages_of_body}
 use Rattle.hir_usages.specs.declared.usage.Usage.{Usage}
 use Rattle.hir_usages.proofs.AlikeLemmas.{Alike, alike, graph_same, changed_length, children_at_same}
 use Rattle.hir_store_core.specs.declared.side_tables.SideTables.{SideTables}
 use Rattle.hir_usages.specs.internal.RenamedUses.{rename_use}
 use Rattle.hir_usages.proofs.ChangeLemmas.{uses_are_paths}
 use Rattle.hir_usages.proofs.RenamedLemmas.{has_before, under_before, as_many}
+use Rattle.std.proofs.lemmas.Grind.{common_steps}
 
 -- 1. Each node has no fault.
 
@@ -126,15 +125,7 @@ module _ (x : ℕ) (n : List ℕ) (us : List Usage) (s : Nodes) where
 
   pub store_kept : (c : Contents) → c.nodes ≡ s → (kept : KeptParts) → IsStore c kept → IsStore (with_nodes c u) kept
   unfolding rooted_fault
-  store_kept c is kept h = record {
-    sound = (
-      nodes_kept (subst (λ (y : Nodes). first_bad_node y None) is h.sound.0),
-      graph_kept c.roots (subst (λ (y : Nodes). graph_fault (record { nodes = y; roots = c.roots }) None) is h.sound.1),
-    );
-    parents = subst (λ (g : List (List ℕ)). HasParents g kept.parents.parents)
-        (ap graph is ∙ sym (graph_same (renamed_entry x n) s u a)) h.parents;
-    links = links_kept kept (subst (λ (y : Nodes). HasPatLinks y.pats kept.links) is h.links);
-  }
+  store_kept c is kept h = grind (arith, common_steps, nodes_kept, graph_kept, graph_same (renamed_entry x n) s u a, links_kept)
 
 -- the nodes of a store in which a binding and its uses are renamed, with what else it has, are a store's
 pub renamed_is_store : (n : List ℕ) (x : ℕ) (us : List Usage) (s later : Nodes) (roots : List Root)
@@ -142,9 +133,12 @@ pub renamed_is_store : (n : List ℕ) (x : ℕ) (us : List Usage) (s later : Nod
     IsStore (contents_of_parts s roots side_tables) kept → later ≡ fold (rename_use n) (rename_binding n s x) us →
     IsStore (contents_of_parts later roots side_tables) kept
 renamed_is_store n x us s later roots side_tables kept h is =
-    let same : renamed_nodes n x us s ≡ later = sym (uses_are_paths n (rename_binding n s x) us) ∙ sym is in
-    subst (λ (u : Nodes). IsStore (contents_of_parts u roots side_tables) kept) same
-    (store_kept x n us s (contents_of_parts s roots side_tables) refl kept h)
+    grind (
+      arith,
+      common_steps,
+      uses_are_paths n (rename_binding n s x) us,
+      store_kept x n us s (contents_of_parts s roots side_tables) refl kept h,
+    )
 
 -- 3. The body
 
@@ -161,31 +155,12 @@ module _ (b : BodyContents) (x : ℕ) (n : List ℕ) (scopes : Scopes) where
 
   at_root : (o : Option ℕ) → fault_at_root b o None → fault_at_root renamed o None
   at_root None h = absurd cc
-  at_root (Some root) h =
-      let bindings : length b.store.nodes.bindings ≡ length renamed.store.nodes.bindings = sym (as_many b x n scopes) in
-      let pats : length b.store.nodes.pats ≡ length renamed.store.nodes.pats =
-      ap (λ (z : Sizes). z.pats) (sym (alike n x b.store.nodes (usages_of x (usages_of_body b scopes))).sizes) in (
-        subst (λ (k : ℕ). IfSome b.self_param (AreBelow k)) bindings h.0,
-        (λ i l. (omega (arith, (h.1.0 i l).0, pats), omega (arith, (h.1.0 i l).1, pats)), apart_kept root h.1.1),
-      )
+  at_root (Some root) h = search (rules, as_many, alike, apart_kept)
 
   pub contents_kept : contents_fault b.store None → contents_fault renamed.store None
   unfolding rooted_fault
-  contents_kept h =
-      let us = usages_of x (usages_of_body b scopes) in
-      (nodes_kept x n us b.store.nodes h.0, graph_kept x n us b.store.nodes b.store.roots h.1)
+  contents_kept h = search (rules, nodes_kept, graph_kept)
 
   pub body_kept : body_fault b None → body_fault renamed None
   unfolding body_fault
   body_kept h = at_root (last_root b.store) h
-
--- a body of the renamed store, and of the parameters as they are
-pub made_is : (b : BodyContents) (scopes : Scopes) (x : ℕ) (n : List ℕ) (us : List Usage) (store : Contents)
-    (params : List (Param ℕ)) (own : Option (Param ℕ)) →
-    store ≡ with_nodes b.store (renamed_nodes n x us b.store.nodes) → us ≡ usages_of x (usages_of_body b scopes) →
-    params ≡ b.params → own ≡ b.self_param →
-    body_of store params own ≡ renamed_body b scopes x n
-made_is b scopes x n us store params own is uses same same_own =
-    let whole : store ≡ with_nodes b.store (renamed_nodes n x (usages_of x (usages_of_body b scopes)) b.store.nodes) =
-    is ∙ ap (λ (vs : List Usage). with_nodes b.store (renamed_nodes n x vs b.store.nodes)) uses in
-    λ i. body_of (whole i) (same i) (same_own i)

@@ -1,11 +1,10 @@
 -- The uses of a body: each asks where the body reaches, each path once, and in the renamed body by its new name.
-use Rattle.std.proofs.Common.{◌≡◌, ℕ, zero, suc, List, [], ◌∷◌, ◌++◌, Option, Some, None, Bool, true, false, cond, map, refl, sym, ap}
+use Rattle.std.proofs.Common.{◌≡◌, ℕ, zero, suc, List, [], ◌∷◌, ◌++◌, Option, Some, None, Bool, true, false, cond, map, refl, sym, ap, rules}
 use Rattle.std.proofs.Common.{◌∙◌, Contains, subst, fold, nat_eq, arith}
 use Rattle.std.proofs.lemmas.Bool.{eqb-true, eq-eqb}
 use Rattle.std.proofs.Math.Dec.{eqb-suc-suc, eqb-suc-zero, eqb-zero-suc}
 use Rattle.std.specs.List.{slice_get, list_any, AllByRecursion}
 use Rattle.std.specs.Option.{option_map}
-use Rattle.std.specs.Prelude.{◌||◌}
 use Rattle.hir_base.specs.declared.hygiene.SyntaxContext.{SyntaxContext}
 use Rattle.hir_path.specs.declared.ids.ExprOrPatId.{ExprOrPatId}
 use Rattle.hir_path.specs.declared.ids.ExprOrPatId.TheVariants.{ExprId, PatId}
@@ -20,7 +19,7 @@ use Rattle.hir_scope.specs.{Scopes.Scopes}
 use Rattle.hir_captures.specs.Uses.{Spot, if_assignment, assignment_at, of_pattern}
 use Rattle.hir_usages.specs.Visits.{children_in_order, visits}
 use Rattle.hir_usages.specs.Usages.{usage_with, usages_of_expr, usages_of_pat, usages_at, usages_in, usages_of_body, resolves_to}
-use Rattle.hir_usages.specs.Usages.{is_binding, usages_of}
+use Rattle.hir_usages.specs.Usages.{usages_of}
 use Rattle.hir_usages.specs.Renames.{binding_for, name_of_expr, name_of_pat, name_at, name_after, resolve_along, chain_at}
 use Rattle.hir_usages.specs.Renamed.{change_at, renamed_expr, renamed_pat, rename_path, rename_binding, renamed_nodes}
 use Rattle.hir_usages.specs.declared.usage.Usage.{Usage}
@@ -96,8 +95,7 @@ under_more s n k (below d u) c = below d (under_more s n k u c)
 module _ (b : BodyContents) where
   owner_reached : (m : NodeId) (a : Option ℕ) → ReachedAt b m a → (x : ℕ) → assignment_at b.store.nodes m a ≡ Some x →
       BodyReaches b (NodeId.Expr x)
-  owner_reached (NodeId.Expr id) a r x e =
-      subst (λ (y : ℕ). BodyReaches b (NodeId.Expr y)) (if_is id x (slice_get b.store.nodes.exprs id) e) r.0
+  owner_reached (NodeId.Expr id) a r x e = search (rules, if_is)
   owner_reached (NodeId.Pat id) a r x e = r.1 x e
   owner_reached (NodeId.TypeRef id) a r x e = absurd cc
 
@@ -108,14 +106,7 @@ module _ (b : BodyContents) where
 
   visit_goes : (m : NodeId) (a : Option ℕ) (k : NodeId) → VisitOk b m a →
       Contains (children_in_order b.store.nodes m) k → VisitOk b k (of_pattern k (assignment_at b.store.nodes m a))
-  visit_goes m a k ok c =
-      let up : BodyReaches b m = ok.1.0 in (
-        owner_of_child b.store.nodes m a k ok.0 c,
-        (
-          (up.0, up.1, under_more b.store.nodes k m up.2 (child_among b.store.nodes m k c)),
-          λ x e. owner_reached m a ok.1 x (of_pattern_is k (assignment_at b.store.nodes m a) x e),
-        ),
-      )
+  visit_goes m a k ok c = search (rules, owner_of_child, under_more, child_among, owner_reached, of_pattern_is)
 
   entry_ok : (n : NodeId) → Contains (entry_nodes b) n → VisitOk b n None
   entry_ok n c = (none_ok b.store.nodes n, ((n, c, itself), λ x e. absurd cc))
@@ -188,10 +179,7 @@ module _ (b : BodyContents) (scopes : Scopes) where
   told_by_path one (ExprId i) (ExprId j) x y e f g = let is : i ≡ j = cc in ap (binding_at c scopes) is
   told_by_path one (ExprId i) (PatId j) x y e f g = absurd cc
   told_by_path one (PatId i) (ExprId j) x y e f g = absurd cc
-  told_by_path one (PatId i) (PatId j) x y e f g =
-      let is : j ≡ i = cc in
-      let same = one_owner c.nodes one x y i f (subst (λ (k : ℕ). Owns c.nodes y k) is g) in
-      λ k. target_binding_at c scopes (same k) (sym is k)
+  told_by_path one (PatId i) (PatId j) x y e f g = search (rules, one_owner)
 
 -- 4. The paths of the binding's uses have the new name, and no others.
 
@@ -220,8 +208,7 @@ changed_at f [] i j = same_either (nat_eq i j) None
 changed_at f (x ∷ xs) zero zero = refl
 changed_at f (x ∷ xs) zero (suc j) = ap (λ (t : Bool). cond t (option_map f (slice_get xs j)) (slice_get xs j)) (sym (eqb-zero-suc j))
 changed_at f (x ∷ xs) (suc i) zero = ap (λ (t : Bool). cond t (Some (f x)) (Some x)) (sym (eqb-suc-zero i))
-changed_at f (x ∷ xs) (suc i) (suc j) =
-    changed_at f xs i j ∙ ap (λ (t : Bool). cond t (option_map f (slice_get xs j)) (slice_get xs j)) (sym (eqb-suc-suc i j))
+changed_at f (x ∷ xs) (suc i) (suc j) = search (rules, eqb-suc-suc, changed_at f xs i j)
 
 expr_renamed : (n : List ℕ) (o : Option Expr) (y : List ℕ) → name_of_expr o ≡ Some y → name_of_expr (option_map (renamed_expr n) o) ≡ Some n
 expr_renamed n (Some (Expr.Path (Path.BarePath path))) y e = refl
@@ -239,14 +226,8 @@ pat_renamed n (Some _) y e = absurd cc
 
 name_changed : (n : List ℕ) (u : Nodes) (q p : ExprOrPatId) (y : List ℕ) → name_at u p ≡ Some y →
     name_at (rename_path n u q) p ≡ Some (cond (same_path q p) n y)
-name_changed n u (ExprId i) (ExprId j) y e = ap name_of_expr (changed_at (renamed_expr n) u.exprs i j) ∙ at (nat_eq i j) where
-  at : (t : Bool) → name_of_expr (cond t (option_map (renamed_expr n) (slice_get u.exprs j)) (slice_get u.exprs j)) ≡ Some (cond t n y)
-  at true = expr_renamed n (slice_get u.exprs j) y e
-  at false = e
-name_changed n u (PatId i) (PatId j) y e = ap name_of_pat (changed_at (renamed_pat n) u.pats i j) ∙ at (nat_eq i j) where
-  at : (t : Bool) → name_of_pat (cond t (option_map (renamed_pat n) (slice_get u.pats j)) (slice_get u.pats j)) ≡ Some (cond t n y)
-  at true = pat_renamed n (slice_get u.pats j) y e
-  at false = e
+name_changed n u (ExprId i) (ExprId j) y e = search (rules, changed_at, expr_renamed)
+name_changed n u (PatId i) (PatId j) y e = search (rules, changed_at, pat_renamed)
 name_changed n u (ExprId i) (PatId j) y e = e
 name_changed n u (PatId i) (ExprId j) y e = e
 
@@ -255,13 +236,7 @@ names_changed : (n : List ℕ) (u : Nodes) (qs : List ExprOrPatId) (p : ExprOrPa
     ≡ Some (cond (list_any (λ (q : ExprOrPatId). same_path q p) qs) n y)
 names_changed n u [] p y e = e
 names_changed n u (q ∷ qs) p y e =
-    names_changed n (rename_path n u q) qs p (cond (same_path q p) n y) (name_changed n u q p y e)
-    ∙ ap (λ (z : List ℕ). Some z) (at (same_path q p) (list_any (λ (r : ExprOrPatId). same_path r p) qs)) where
-      at : (t r : Bool) → cond r n (cond t n y) ≡ cond (t || r) n y
-      at true true = refl
-      at true false = refl
-      at false true = refl
-      at false false = refl
+    search (rules, name_changed, names_changed n (rename_path n u q) qs p (cond (same_path q p) n y) (name_changed n u q p y e))
 
 module _ (b : BodyContents) (scopes : Scopes) (one : (n m k : NodeId) → Contains (children_of b.store.nodes n) k →
     Contains (children_of b.store.nodes m) k → n ≡ m) (x : ℕ) where
@@ -270,45 +245,15 @@ module _ (b : BodyContents) (scopes : Scopes) (one : (n m k : NodeId) → Contai
 
   not_marked : (us : List Usage) (v : Usage) → AreUses b scopes us → IsUse b scopes v → resolves_to x v ≡ false → marked us v.path ≡ false
   not_marked [] v are is other = refl
-  not_marked (w ∷ us) v are is other = at (resolves_to x w) refl (not_marked us v are.1 is other) where
-    differ : (t : Bool) → same_path w.path v.path ≡ t → resolves_to x w ≡ true → marked us v.path ≡ false → (t || marked us v.path) ≡ false
-    differ false e own rest = rest
-    differ true e own rest =
-        let same = told_by_path b scopes one w.path v.path w.expr v.expr (same_is w.path v.path e) are.0.asks_at is.asks_at in
-        let both : w.binding ≡ v.binding = are.0.resolves ∙ (same ∙ sym is.resolves) in
-        let lie : true ≡ false = sym own ∙ (ap (is_binding x) both ∙ other) in
-        absurd cc
-
-    at : (t : Bool) → resolves_to x w ≡ t → marked us v.path ≡ false →
-        list_any (λ (q : ExprOrPatId). same_path q v.path)
-        (map (λ (z : Usage). z.path) (cond t (w ∷ usages_of x us) (usages_of x us))) ≡ false
-    at false e rest = rest
-    at true e rest = differ (same_path w.path v.path) refl e rest
+  not_marked (w ∷ us) v are is other = search (rules, told_by_path, same_is, not_marked us v are.1 is other)
 
   is_marked : (us : List Usage) (v : Usage) → Contains us v → resolves_to x v ≡ true → marked us v.path ≡ true
   is_marked [] v (i, l, is) own = absurd (omega (arith, l))
-  is_marked (w ∷ us) v (zero, l, is) own =
-      let here : resolves_to x w ≡ true = ap (resolves_to x) is ∙ own in
-      let same : same_path w.path v.path ≡ true = ap (λ (z : Usage). same_path z.path v.path) is ∙ is_same_path v.path in
-      ap (λ (t : Bool). list_any (λ (q : ExprOrPatId). same_path q v.path)
-      (map (λ (z : Usage). z.path) (cond t (w ∷ usages_of x us) (usages_of x us)))) here
-      ∙ ap (λ (t : Bool). t || marked us v.path) same
-  is_marked (w ∷ us) v (suc i, l, is) own = at (resolves_to x w) (is_marked us v (i, omega (arith, l), is) own) where
-    or_true : (t : Bool) → marked us v.path ≡ true → (t || marked us v.path) ≡ true
-    or_true true rest = refl
-    or_true false rest = rest
-
-    at : (t : Bool) → marked us v.path ≡ true →
-        list_any (λ (q : ExprOrPatId). same_path q v.path)
-        (map (λ (z : Usage). z.path) (cond t (w ∷ usages_of x us) (usages_of x us))) ≡ true
-    at true rest = or_true (same_path w.path v.path) rest
-    at false rest = rest
+  is_marked (w ∷ us) v (zero, l, is) own = search (rules, is_same_path)
+  is_marked (w ∷ us) v (suc i, l, is) own = search (rules, is_marked us v (i, omega (arith, l), is) own)
 
   marks : (us : List Usage) (v : Usage) → AreUses b scopes us → IsUse b scopes v → Contains us v → marked us v.path ≡ resolves_to x v
-  marks us v are is among = at (resolves_to x v) refl where
-    at : (t : Bool) → resolves_to x v ≡ t → marked us v.path ≡ t
-    at true e = is_marked us v among e
-    at false e = not_marked us v are is e
+  marks us v are is among = search (rules, is_marked, not_marked)
 
   -- each use asks for its new name
   pub new_name : (n : List ℕ) (us : List Usage) (v : Usage) → AreUses b scopes us → IsUse b scopes v → Contains us v →
@@ -348,8 +293,5 @@ pat_along c scopes a id (Some _) = refl
 -- what a path resolves to is what its name resolves to along the chain of the expression at which it asks
 pub for_along : (c : Contents) (s : Nodes) (scopes : Scopes) (p : ExprOrPatId) (x : ℕ) → AsksAt s p x →
     binding_for c scopes p x ≡ resolve_along c (chain_at scopes x) (hygiene_of c.side_tables p) (name_at c.nodes p)
-for_along c s scopes (ExprId id) x e =
-    expr_along c scopes id (slice_get c.nodes.exprs id)
-    ∙ ap (λ (y : ℕ). resolve_along c (chain_at scopes y) (hygiene_of c.side_tables (ExprId id))
-    (name_of_expr (slice_get c.nodes.exprs id))) (sym e)
+for_along c s scopes (ExprId id) x e = search (rules, expr_along)
 for_along c s scopes (PatId id) x e = pat_along c scopes x id (slice_get c.nodes.pats id)

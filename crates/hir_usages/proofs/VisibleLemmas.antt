@@ -1,11 +1,9 @@
 -- The visible entries are those that some name resolves to.
-use Rattle.std.proofs.Common.{◌≡◌, ℕ, zero, suc, List, [], ◌∷◌, ◌++◌, Option, Some, None, Bool, true, false, cond, refl, sym, ap, ◌∙◌}
+use Rattle.std.proofs.Common.{◌≡◌, ℕ, zero, suc, List, [], ◌∷◌, ◌++◌, Option, Some, None, Bool, true, false, cond, refl, sym, ap, ◌∙◌, rules}
 use Rattle.std.proofs.Common.{Contains, arith, subst, append_assoc, fold, ◌⊎◌, inl, inr}
-use Rattle.std.proofs.lemmas.{List.append-nil, List.Folds.list_any-append, List.Sorted.list_any-IsPermutation, List.Sums.fold-append}
+use Rattle.std.proofs.lemmas.{List.append-nil, List.Folds.list_any-append, List.Sorted.list_any-IsPermutation}
 use Rattle.std.proofs.lemmas.{Bool.Decides.Decides-and}
 use Rattle.std.specs.List.Sorted.{IsPermutation}
-use Rattle.std.specs.List.{slice_get}
-use Rattle.std.specs.Prelude.{option_map}
 use Rattle.std.specs.{Bool.Decides, List.list_any, Prelude.◌||◌, Prelude.◌&&◌, Prelude.◌↔◌, Prelude.not}
 use Rattle.hir_base.specs.declared.hygiene.SyntaxContext.{SyntaxContext}
 use Rattle.hir_base.specs.contracts.hygiene.HygieneIdPartialEq.TheImpl as hygienes
@@ -14,10 +12,8 @@ use Rattle.hir_path.specs.same.Leaves.{names_decide}
 use Rattle.hir_node.specs.same.Leaves.{hygienes_decide}
 use Rattle.hir_scope.specs.{Frames.Chain, Resolution.matches, Resolution.find_entry, Resolution.entries_of, Resolution.resolve}
 use Rattle.hir_scope.specs.declared.scope.ScopeEntry.{ScopeEntry}
-use Rattle.hir_scope.specs.{Paths.chain, Scopes.Scope}
 use Rattle.hir_usages.specs.Visible.{with_new_name, visible_in}
 use Rattle.hir_usages.specs.internal.Seen.{AreSeen, is_key}
-use Rattle.hir_usages.proofs.RenameLemmas.{GoesOutward, chain_step, of_some_scope}
 
 pub asked : (n : List ℕ) (h : SyntaxContext) (e : ScopeEntry) → Decides (matches n h e) ((e.hygiene ≡ h) × (e.name ≡ n))
 asked n h e = Decides-and (hygienes.ghosts.eq e.hygiene h) (names.ghosts.eq e.name n) (hygienes_decide e.hygiene h) (names_decide e.name n)
@@ -69,18 +65,7 @@ module _ (n : List ℕ) (h : SyntaxContext) where
   -- each name resolves to the same among the entries that are left
   kept : (found es : List ScopeEntry) → find_entry n h (fold with_new_name found es) ≡ find_entry n h (found ++ es)
   kept found [] = ap (find_entry n h) (sym (append-nil found))
-  kept found (e ∷ es) = kept (with_new_name found e) es ∙ at (list_any (matches e.name e.hygiene) found) refl where
-    here : (t : Bool) → matches n h e ≡ t → list_any (matches e.name e.hygiene) found ≡ true →
-        find_entry n h (found ++ es) ≡ find_entry n h (found ++ e ∷ es)
-    here false r q = unasked e r found es
-    here true r q =
-        let same = (asked n h e).0 r in
-        found_before found es (e ∷ es) ((λ i. list_any (matches (sym same.1 i) (sym same.0 i)) found) ∙ q)
-
-    at : (t : Bool) → list_any (matches e.name e.hygiene) found ≡ t →
-        find_entry n h (cond t found (found ++ e ∷ []) ++ es) ≡ find_entry n h (found ++ e ∷ es)
-    at true q = here (matches n h e) refl q
-    at false q = ap (find_entry n h) (append_assoc found (e ∷ []) es)
+  kept found (e ∷ es) = search (rules, unasked, asked, found_before, append_assoc, kept (with_new_name found e) es)
 
 in_two : (xs : List ScopeEntry) (x e : ScopeEntry) → Contains (xs ++ x ∷ []) e → Contains xs e ⊎ (x ≡ e)
 in_two [] x e (zero, l, is) = inr is
@@ -121,18 +106,6 @@ visible_resolves frames e = (
   λ r. among r.0 r.1 (visible_in frames) e (kept r.0 r.1 [] (entries_of frames) ∙ r.2),
 )
 
--- the entries of a scope come before those of its parent
-pub visible_step : (scopes : List Scope) (s : ℕ) (parent : Option ℕ) (es : List ScopeEntry) → GoesOutward scopes →
-    option_map (λ (y : Scope). y.parent) (slice_get scopes s) ≡ Some parent →
-    option_map (λ (y : Scope). y.entries) (slice_get scopes s) ≡ Some es → (found : List ScopeEntry) →
-    fold with_new_name found (entries_of (chain scopes (Some s))) ≡ fold with_new_name (fold with_new_name found es)
-    (entries_of (chain scopes parent))
-visible_step scopes s parent es outward p e found =
-    let x = of_some_scope (λ (y : Scope). y.entries) (slice_get scopes s) es e in
-    let outer = entries_of (chain scopes parent) in
-    ap (λ (c : Chain). fold with_new_name found (entries_of c)) (chain_step scopes s parent x.0 outward p x.1)
-    ∙ (ap (λ (xs : List ScopeEntry). fold with_new_name found (xs ++ outer)) x.2 ∙ fold-append with_new_name found es outer)
-
 -- What was seen is what the entries have.
 
 or_turned : (t r : Bool) → (t || r) ≡ (r || (t || false))
@@ -154,22 +127,12 @@ module _ {K : Type 0} (hygiene : K → SyntaxContext) (name : K → List ℕ) wh
   -- a key is equal to those of its name and hygiene
   equal_keys : (n : List ℕ) (h : SyntaxContext) (k : K) →
       (hygienes.ghosts.eq h (hygiene k) && names.ghosts.eq n (name k)) ≡ is_key n h (hygiene k) (name k)
-  equal_keys n h k =
-      alike (hygienes.ghosts.eq h (hygiene k) && names.ghosts.eq n (name k)) (is_key n h (hygiene k) (name k))
-      ((h ≡ hygiene k) × (n ≡ name k)) ((hygiene k ≡ h) × (name k ≡ n))
-      (Decides-and (hygienes.ghosts.eq h (hygiene k)) (names.ghosts.eq n (name k)) (hygienes_decide h (hygiene k))
-      (names_decide n (name k)))
-      (Decides-and (hygienes.ghosts.eq (hygiene k) h) (names.ghosts.eq (name k) n) (hygienes_decide (hygiene k) h)
-      (names_decide (name k) n))
-      (λ e. (sym e.0, sym e.1)) (λ e. (sym e.0, sym e.1))
+  equal_keys n h k = search (rules, alike, Decides-and)
 
   pub key_was_seen : (n : List ℕ) (h : SyntaxContext) (keys : List K) →
       list_any (λ (k : K). hygienes.ghosts.eq h (hygiene k) && names.ghosts.eq n (name k)) keys ≡ was_seen keys n h
   key_was_seen n h [] = refl
-  key_was_seen n h (k ∷ keys) =
-      let first = equal_keys n h k in
-      let rest = key_was_seen n h keys in
-      λ i. first i || rest i
+  key_was_seen n h (k ∷ keys) = search (rules, equal_keys, key_was_seen n h keys)
 
   -- one more was seen, and has an entry
   pub seen_more : (entries : List ScopeEntry) (keys later : List K) (k : K) (e : ScopeEntry) → hygiene k ≡ e.hygiene →

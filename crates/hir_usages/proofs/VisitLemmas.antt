@@ -1,5 +1,5 @@
 -- The visits under a node are its own, and then those of the tasks that visiting it puts.
-use Rattle.std.proofs.Common.{◌≡◌, ◌<◌, ℕ, List, [], ◌∷◌, ◌++◌, Option, Some, None, refl, sym, ap, ◌∙◌, Contains, arith, subst, zero, suc}
+use Rattle.std.proofs.Common.{◌≡◌, ◌<◌, ℕ, List, [], ◌∷◌, ◌++◌, Option, Some, None, refl, sym, ap, ◌∙◌, Contains, arith, subst, zero, suc, rules}
 use Rattle.std.proofs.Math.Path.{fun_ext}
 use Rattle.std.proofs.lemmas.List.Sorted.{IsPermutation-sym, Contains-permutation}
 use Rattle.std.specs.List.{flat_map, AllByRecursion}
@@ -15,6 +15,7 @@ use Rattle.hir_captures.specs.Uses.{Spot, spot, of_pattern, assignment_at}
 use Rattle.hir_usages.specs.Visits.{children_in_order, visit_child, visit_step, visits_under}
 use Rattle.hir_usages.specs.declared.to_visit.Task.{Task}
 use Rattle.hir_usages.specs.internal.Pending.{tasks_of, task_node, visits_of, AreInRange}
+use Rattle.std.proofs.lemmas.Grind.{common_steps}
 
 -- 1. The visits under a node
 
@@ -24,12 +25,7 @@ Visiting = NodeId → Option ℕ → List Spot
 module _ (s : Nodes) where
   -- the children in the order of the walk are the node's children
   pub child_among : (n k : NodeId) → Contains (children_in_order s n) k → Contains (children_of s n) k
-  child_among n k m =
-      Contains-permutation (children_in_order s n) (children_of s n) k
-      (IsPermutation-sym (children_of s n) (children_in_order s n) (met_children s n)) m
-
-  among_children : (n k : NodeId) → Contains (children_of s n) k → Contains (children_in_order s n) k
-  among_children n k m = Contains-permutation (children_of s n) (children_in_order s n) k (met_children s n) m
+  child_among n k m = search (rules, Contains-permutation, IsPermutation-sym, met_children)
 
 agreed : (f g : Visiting) (xs : List NodeId) → AgreeOn f g xs → (k : NodeId) → Contains xs k → f k ≡ g k
 agreed f g [] h k m = absurd (omega (arith, m.1))
@@ -63,8 +59,7 @@ visits_of_calls s a [] = refl
 visits_of_calls s a (OnExpr id ∷ cs) = ap (λ (xs : List Spot). visits_under s (NodeId.Expr id) None ++ xs) (visits_of_calls s a cs)
 visits_of_calls s a (OnAnonConst id ∷ cs) = ap (λ (xs : List Spot). visits_under s (NodeId.Expr id) None ++ xs) (visits_of_calls s a cs)
 visits_of_calls s None (OnPat id ∷ cs) = ap (λ (xs : List Spot). visits_under s (NodeId.Pat id) None ++ xs) (visits_of_calls s None cs)
-visits_of_calls s (Some x) (OnPat id ∷ cs) =
-    ap (λ (xs : List Spot). visits_under s (NodeId.Pat id) (Some x) ++ xs) (visits_of_calls s (Some x) cs)
+visits_of_calls s (Some x) (OnPat id ∷ cs) = search (rules, visits_of_calls s (Some x) cs)
 visits_of_calls s a (OnType id ∷ cs) = ap (λ (xs : List Spot). visits_under s (NodeId.TypeRef id) None ++ xs) (visits_of_calls s a cs)
 visits_of_calls s a (OnLifetime id ∷ cs) = visits_of_calls s a cs
 
@@ -72,8 +67,7 @@ visits_of_calls s a (OnLifetime id ∷ cs) = visits_of_calls s a cs
 pub visits_left : (s : Nodes) → RankDecreases s → (n : NodeId) (a : Option ℕ) → visits_under s n a
     ≡ spot n a ∷ visits_of s (tasks_of (assignment_at s n a) (met_in_form (form_of s n)))
 visits_left s fall n a =
-    visits_at s fall n a
-    ∙ ap (λ (xs : List Spot). spot n a ∷ xs) (sym (visits_of_calls s (assignment_at s n a) (met_in_form (form_of s n))))
+    grind (arith, common_steps, visits_at s fall n a, visits_of_calls s (assignment_at s n a) (met_in_form (form_of s n)))
 
 all_two : {X : Type 0} (P : X → Type 0) (xs ys : List X) → AllByRecursion P xs → AllByRecursion P ys → AllByRecursion P (xs ++ ys)
 all_two P [] ys h k = k

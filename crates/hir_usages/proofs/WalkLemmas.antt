@@ -1,5 +1,5 @@
 -- What a run of child calls leaves to be visited, and what visiting a node finds.
-use Rattle.std.proofs.Common.{◌≡◌, ℕ, List, ◌∷◌, refl, ap, ◌∙◌, subst, Option, ◌<◌, [], ◌++◌, Some, None, cond, length, sym, arith}
+use Rattle.std.proofs.Common.{◌≡◌, ℕ, List, ◌∷◌, refl, ap, ◌∙◌, Option, [], ◌++◌, Some, None, sym, arith, rules}
 use Rattle.std.proofs.Common.{append_assoc}
 use Rattle.std.proofs.lemmas.List.{append-nil}
 use Rattle.std.proofs.lemmas.List.{Concat.flat_map-append, Elements.filter-append}
@@ -12,21 +12,20 @@ use Rattle.hir_collections.specs.Stacks.{Defers}
 use Rattle.hir_collections.proofs.DeferredLemmas.{defers_none, defers_two}
 use Rattle.hir_scope.specs.ScopingForms.{form_of, form_at, expr_form, pat_form, type_form}
 use Rattle.hir_scope.specs.{Order.met_in_form, Scopes.Scopes}
-use Rattle.hir_scope.specs.PathResolution.{local_name, resolve_path, resolved_by_expr, binding_at, resolved_by_pat, target_binding_at}
+use Rattle.hir_scope.specs.PathResolution.{local_name, resolve_path, resolved_by_expr, binding_at, target_binding_at}
 use Rattle.hir_store_core.specs.SideTables.{hygiene_of}
 use Rattle.hir_captures.specs.Uses.{Spot, spot, if_assignment, assignment_at}
 use Rattle.hir_path.specs.declared.path.Path.{Path}
 use Rattle.hir_path.specs.declared.ids.ExprOrPatId.TheVariants.{ExprId, PatId}
 use Rattle.hir_node.specs.OtherIds.{pat_bindings}
-use Rattle.hir_validate.specs.TestedParts.{all_of}
-use Rattle.hir_usages.specs.Usages.{usage_with, usages_of_expr, usages_of_pat, usages_at, usages_in, bound_at, bound_in}
+use Rattle.hir_usages.specs.Usages.{usage_with, usages_of_expr, usages_of_pat, usages_in, bound_at, bound_in}
 use Rattle.hir_usages.specs.declared.{to_visit.Task.Task, to_visit.ToVisit.ToVisit, usage.Usage.Usage, walk.Walk.Walk}
 use Rattle.hir_usages.specs.internal.Pending.{task_of, tasks_of, pat_task, task_node, task_target, visits_of, AreInRange}
-use Rattle.hir_usages.specs.Renames.{name_of_expr, name_of_pat, name_at}
-use Rattle.hir_usages.specs.internal.Wanted.{is_wanted, wanted_among, wanted_at, if_wanted, usage_of_expr, usage_of_pat}
-use Rattle.hir_usages.specs.internal.Reading.{FoundLists, with_visit, with_visits, with_tasks, Reads}
+use Rattle.hir_usages.specs.Renames.{name_of_expr}
+use Rattle.hir_usages.specs.internal.Wanted.{wanted_among, wanted_at, if_wanted, usage_of_expr, usage_of_pat}
+use Rattle.hir_usages.specs.internal.Reading.{FoundLists, with_visit, with_visits, Reads}
 use Rattle.hir_usages.proofs.VisitLemmas.{visits_left, children_in_range}
-use Rattle.hir_usages.specs.Visits.{visits_under}
+use Rattle.std.proofs.lemmas.Grind.{common_steps}
 
 -- 1. What a run of child calls leaves to be visited.
 
@@ -38,17 +37,9 @@ DefersCall v c w = (w.assignment ≡ v.assignment) × Defers v.stack (task_of v.
 
 pub defers_all : {v w : ToVisit} {cs : List Call} → Runs DefersCall v cs w → DefersCalls v cs w
 defers_all {v} no_call = (refl, defers_none v.stack)
-defers_all {v} {w} (a_call {v = u} {c = c} {cs = cs} step rest) =
-    let later = defers_all rest in
-    let same = subst (λ (a : Option ℕ). Defers u.stack (tasks_of a cs) w.stack) step.0 later.1 in
-    (later.0 ∙ step.0, defers_two v.stack u.stack w.stack (task_of v.assignment c) (tasks_of v.assignment cs) step.1 same)
+defers_all {v} {w} (a_call {v = u} {c = c} {cs = cs} step rest) = grind (arith, common_steps, defers_two, defers_all rest)
 
 -- 2. Visiting a node leaves what is to be found as it was.
-
--- the pattern of a task is in range
-pub pat_in_range : (s : Nodes) (a : Option ℕ) (id : ℕ) (rest : List Task) → AreInRange s (pat_task a id ∷ rest) → id < length s.pats
-pat_in_range s None id rest h = h.0
-pat_in_range s (Some a) id rest h = h.0
 
 abbrev listed : List Usage → List ℕ → FoundLists
 listed usages bound = record { usages = usages; bound = bound }
@@ -65,29 +56,18 @@ module _ (w : Walk) where
   pub added : (found : FoundLists) (spots : List Spot) → (with_visits w found spots).usages
       ≡ found.usages ++ wanted_among w.wanted c.nodes (usages_in c w.scopes.now spots)
   added found [] = sym (append-nil found.usages)
-  added found (x ∷ xs) =
-      let here = usages_at c w.scopes.now x.node x.assignment in
-      let later = usages_in c w.scopes.now xs in
-      added (with_visit w found x) xs
-      ∙ (append_assoc found.usages (wanted here) (wanted later)
-      ∙ ap (λ (us : List Usage). found.usages ++ us)
-      (sym (filter-append (λ (u : Usage). is_wanted w.wanted (name_at c.nodes u.path) u) here later)))
+  added found (x ∷ xs) = search (rules, append_assoc, filter-append, added (with_visit w found x) xs)
 
   pub added_bound : (found : FoundLists) (spots : List Spot) → (with_visits w found spots).bound ≡ found.bound ++ bound_in c.nodes spots
   added_bound found [] = sym (append-nil found.bound)
-  added_bound found (x ∷ xs) =
-      added_bound (with_visit w found x) xs ∙ append_assoc found.bound (bound_at c.nodes x.node) (bound_in c.nodes xs)
+  added_bound found (x ∷ xs) = search (rules, append_assoc, added_bound (with_visit w found x) xs)
 
   module _ (fall : RankDecreases c.nodes) (t : Task) (rest new : List Task) (before after : FoundLists) where
     abbrev deferred : List Task
     deferred = tasks_of (assignment_at c.nodes (task_node t) (task_target t)) (met_in_form (form_of c.nodes (task_node t))) ++ rest
 
     visits_now : visits_of c.nodes (t ∷ rest) ≡ spot (task_node t) (task_target t) ∷ visits_of c.nodes deferred
-    visits_now =
-        let children = tasks_of (assignment_at c.nodes (task_node t) (task_target t)) (met_in_form (form_of c.nodes (task_node t))) in
-        ap (λ (xs : List Spot). xs ++ visits_of c.nodes rest) (visits_left c.nodes fall (task_node t) (task_target t))
-        ∙ ap (λ (xs : List Spot). spot (task_node t) (task_target t) ∷ xs)
-        (sym (flat_map-append (λ (x : Task). visits_under c.nodes (task_node x) (task_target x)) children rest))
+    visits_now = search (rules, visits_left, flat_map-append)
 
     -- one node is visited
     visit_one : AreInRange c.nodes (t ∷ rest) → after.usages
@@ -95,17 +75,12 @@ module _ (w : Walk) where
         ≡ before.bound ++ bound_at c.nodes (task_node t) →
         new ≡ deferred → Reads w before (t ∷ rest) after new
     visit_one in_range usages bound is =
-        let found : after ≡ with_visit w before (spot (task_node t) (task_target t)) = λ i. listed (usages i) (bound i) in
-        record {
-          in_range = subst (AreInRange c.nodes) (sym is)
-              (children_in_range c.nodes fall (task_node t)
-              (assignment_at c.nodes (task_node t) (task_target t)) rest in_range.0 in_range.1);
-          finds =
-              ap (with_visits w before) visits_now
-              ∙ (ap (λ (x : FoundLists). with_visits w x (visits_of c.nodes deferred)) (sym found)
-              ∙ ap (with_tasks w after) (sym is));
-          shorter = omega (arith, ap (length {A = Spot}) visits_now, ap (λ (ts : List Task). length (visits_of c.nodes ts)) is);
-        }
+        grind (
+          arith,
+          common_steps,
+          children_in_range c.nodes fall (task_node t) (assignment_at c.nodes (task_node t) (task_target t)) rest in_range.0 in_range.1,
+          visits_now,
+        )
 
   -- an expression that asks for a name: nothing is inside it
   named_alone : (id : ℕ) (path : Path) (name : List ℕ) (rest : List Task) → local_name path ≡ Some name → rest
@@ -127,10 +102,7 @@ module _ (w : Walk) where
   wanted_here : (id : ℕ) (path : Path) (name : List ℕ) → slice_get c.nodes.exprs id ≡ Some (Expr.Path path) →
       local_name path ≡ Some name → if_wanted w.wanted (usage_of_expr w id name) name
       ≡ wanted_at w (NodeId.Expr id) None
-  wanted_here id path name is asks =
-      let u = usage_of_expr w id name in
-      let named : name_at c.nodes (ExprId id) ≡ Some name = ap name_of_expr is ∙ asks in
-      ap (λ (q : Option (List ℕ)). cond (is_wanted w.wanted q u) (u ∷ []) []) (sym named) ∙ sym (ap wanted (uses_here id path name is asks))
+  wanted_here id path name is asks = search rules
 
   pub visit_named : RankDecreases c.nodes →
       (id : ℕ) (x : Expr) (name : List ℕ) (rest : List Task) (before after : FoundLists) → slice_get c.nodes.exprs id
@@ -186,8 +158,7 @@ module _ (w : Walk) where
 pattern_uses : (c : Contents) (scopes : Scopes) (id a : ℕ) (path : Path) (o : Option (List ℕ)) →
     slice_get c.nodes.pats id ≡ Some (Pat.Path path) → local_name path ≡ o →
     usages_of_pat c scopes id (Some a) (slice_get c.nodes.pats id) ≡ usage_with (PatId id) a (target_binding_at c scopes a id) o
-pattern_uses c scopes id a path o is asks =
-    ap (usages_of_pat c scopes id (Some a)) is ∙ ap (usage_with (PatId id) a (target_binding_at c scopes a id)) asks
+pattern_uses c scopes id a path o is asks = search rules
 
 no_path_pat : (c : Contents) (scopes : Scopes) (id : ℕ) (a : Option ℕ) (x : Pat) →
     ((path : Path) → x ≡ Pat.Path path → ⊥) → usages_of_pat c scopes id a (Some x) ≡ []
@@ -202,27 +173,15 @@ module _ (w : Walk) (id : ℕ) (us : List Usage) where
   -- a path in a target that asks for a name, or for none
   pub adds_target : (a : ℕ) (path : Path) (name : List ℕ) → slice_get d.nodes.pats id ≡ Some (Pat.Path path) → local_name path ≡ Some name →
       us ++ if_wanted w.wanted (usage_of_pat w id a name) name ≡ us ++ wanted_at w (NodeId.Pat id) (Some a)
-  adds_target a path name is asks =
-      let u = usage_of_pat w id a name in
-      let named : name_at d.nodes (PatId id) ≡ Some name = ap name_of_pat is ∙ asks in
-      let resolves : target_binding_at d w.scopes.now a id ≡ u.binding =
-      ap (resolved_by_pat d w.scopes.now a id) is
-      ∙ ap (resolve_path d w.scopes.now a (hygiene_of d.side_tables (PatId id))) asks in
-      let uses = pattern_uses d w.scopes.now id a path (Some name) is asks
-      ∙ ap (λ (q : Option ℕ). usage_with (PatId id) a q (Some name)) resolves in
-      ap (λ (q : Option (List ℕ)). us ++ cond (is_wanted w.wanted q u) (u ∷ []) []) (sym named)
-      ∙ ap (λ (xs : List Usage). us ++ wanted_among w.wanted d.nodes xs) (sym uses)
+  adds_target a path name is asks = search (rules, pattern_uses)
 
   pub adds_no_name : (a : ℕ) (path : Path) → slice_get d.nodes.pats id ≡ Some (Pat.Path path) → local_name path
       ≡ None → us ++ wanted_at w (NodeId.Pat id) (Some a) ≡ us
-  adds_no_name a path is asks =
-      ap (λ (xs : List Usage). us ++ wanted_among w.wanted d.nodes xs) (pattern_uses d w.scopes.now id a path None is asks) ∙ append-nil us
+  adds_no_name a path is asks = search (rules, pattern_uses, append-nil)
 
   pub adds_no_pat : (a : Option ℕ) (x : Pat) → slice_get d.nodes.pats id ≡ Some x →
       ((path : Path) → x ≡ Pat.Path path → ⊥) → us ++ wanted_at w (NodeId.Pat id) a ≡ us
-  adds_no_pat a x is h =
-      ap (λ (o : Option Pat). us ++ wanted_among w.wanted d.nodes (usages_of_pat d w.scopes.now id a o)) is
-      ∙ (ap (λ (xs : List Usage). us ++ wanted_among w.wanted d.nodes xs) (no_path_pat d w.scopes.now id a x h) ∙ append-nil us)
+  adds_no_pat a x is h = search (rules, no_path_pat, append-nil)
 
   pub adds_in_no_target : us ++ wanted_at w (NodeId.Pat id) None ≡ us
   adds_in_no_target = append-nil us
@@ -233,8 +192,7 @@ no_bind _ h = refl
 
 pub binds_nothing : (s : Nodes) (id : ℕ) (x : Pat) (bs : List ℕ) → slice_get s.pats id ≡ Some x →
     ((b : ℕ) (subpat : Option ℕ) → x ≡ Pat.Bind b subpat → ⊥) → bs ++ bound_at s (NodeId.Pat id) ≡ bs
-binds_nothing s id x bs is h =
-    ap (λ (o : Option Pat). bs ++ all_of pat_bindings o) is ∙ (ap (λ (ys : List ℕ). bs ++ ys) (no_bind x h) ∙ append-nil bs)
+binds_nothing s id x bs is h = search (rules, no_bind, append-nil)
 
 pub ruleset reads = (
   visit_named,

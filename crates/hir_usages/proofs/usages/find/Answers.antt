@@ -1,16 +1,9 @@
-use Rattle.std.proofs.Common.{◌∙◌, ap, sym, subst, ℕ, Option}
+use Rattle.std.proofs.Common.{◌∙◌, ap, ℕ, Option}
 use Rattle.std.specs.Option.{option_to_list, option_map}
-use Rattle.hir_store_core.specs.Contents.{Contents}
 use Rattle.hir_body.specs.declared.formals.Param.{Param}
-use Rattle.hir_usages.specs.internal.{Pending.AreInRange, Reading.lists_of}
+use Rattle.hir_usages.specs.internal.{Reading.lists_of}
 use Rattle.hir_usages.proofs.FindLemmas.{all_usages, all_bound}
 use Rattle.hir_usages.proofs.usages.find.Goals as goal
-
-pub run-requires : goal.run-requires
-run-requires c = record {
-  in_range = subst (λ (x : Contents). AreInRange x.nodes c.in_ok-unread.unread.stack.items)
-      (sym c.requires) c.in_ok-unread.ensures.in_range;
-}
 
 pub returns-clause-usages : goal.returns-clause-usages
 returns-clause-usages c =

@@ -1,8 +1,5 @@
-use Rattle.hir_pretty_docs.proofs.Common.{refl, adds, adds_then, adds_more, adds_as, none_is, no_statements, without_tail, with_tail}
+use Rattle.hir_pretty_docs.proofs.Common.{refl, adds, adds_then, adds_more, adds_as, none_is, without_tail, with_tail}
 use Rattle.hir_pretty_docs.proofs.tokens.Tokens.add_braces.Goals as goal
-
-pub returns-then-is_bare : goal.returns-then-is_bare
-returns-then-is_bare c = adds c.add.ensures (λ s. no_statements c.args.statements.now c.args.tail (rw (c.is_empty.ensures, none_is c.args.tail c.is_none.result c.is_none.ensures) at c.if-is_bare.true))
 
 pub returns-in-None : goal.returns-in-None
 returns-in-None c = rw c.in-None.is (adds_as (adds_more (adds_then (adds c.add-2.ensures (λ s. refl)) c.add_each.ensures) c.add-in-None.ensures)

@@ -1,5 +1,4 @@
-use Rattle.hir_pretty_docs.proofs.Common.{◌≡◌, ◌++◌, refl, ap, ap₂, ◌∙◌, text, sp, under, label_before, unsafe_docs, inside_block, adds, adds_then, adds_more, adds_as, braces_after}
-use Rattle.hir_node.specs.Precedence.{precedence, of_operator}
+use Rattle.hir_pretty_docs.proofs.Common.{◌++◌, refl, sp, label_before, unsafe_docs, inside_block, adds, adds_then, adds_more, adds_as, braces_after}
 use Rattle.hir_pretty_docs.proofs.tokens.Tokens.add_expr.Goals as goal
 
 pub returns-in-OffsetOf : goal.returns-in-OffsetOf
@@ -14,9 +13,6 @@ returns-in-Loop c = rw c.in-Loop.is (adds_more c.add_before.ensures c.add-in-Loo
 pub returns-in-Call : goal.returns-in-Call
 returns-in-Call c = rw c.in-Call.is (adds_then (adds c.add-in-Call.ensures (λ s. refl)) (rw c.as_slice-in-Call.ensures at c.add_arguments.ensures))
 
-pub returns-in-MethodCall : goal.returns-in-MethodCall
-returns-in-MethodCall c = rw c.in-MethodCall.is (rw c.as_slice-in-MethodCall.ensures at c.add_method_call.ensures)
-
 pub returns-in-Match : goal.returns-in-Match
 returns-in-Match c = rw c.in-Match.is (rw c.as_slice-in-Match.ensures at c.add_match.ensures)
 
@@ -29,9 +25,6 @@ returns-in-Break c = rw c.in-Break.is (adds_then (adds_then (adds c.add-in-Break
 pub returns-in-Yeet : goal.returns-in-Yeet
 returns-in-Yeet c = rw c.in-Yeet.is (adds_then (adds c.add-in-Yeet.ensures (λ s. refl)) c.add_keyword-in-Yeet.ensures)
 
-pub returns-in-RecordLit : goal.returns-in-RecordLit
-returns-in-RecordLit c = rw c.in-RecordLit.is (rw (c.as_slice-in-RecordLit.ensures, c.get.ensures) at c.add_record_lit.ensures)
-
 pub returns-in-Tuple : goal.returns-in-Tuple
 returns-in-Tuple c = rw c.in-Tuple.is (adds_more (adds_then (adds c.add-in-Tuple.ensures (λ s. refl)) (rw c.as_slice-in-Tuple.ensures at c.add_exprs.ensures)) c.add-in-Tuple-2.ensures)
 
@@ -41,26 +34,6 @@ returns-in-Const c = rw c.in-Const.is (adds_more (adds_then (adds c.add-in-Const
 pub returns-in-Block : goal.returns-in-Block
 returns-in-Block c = rw c.in-Block.is (adds_as (adds_then (adds_then (adds_then (adds c.add-in-Block.ensures (λ s. refl)) c.add_before-in-Block.ensures) c.add_unsafe.ensures) (rw c.as_slice-in-Block.ensures at c.add_braces.ensures))
     (λ s. braces_after (sp ++ label_before s c.in-Block.label ++ unsafe_docs c.in-Block.unsafe_) (inside_block c.in-Block.statements c.in-Block.tail)))
-
-pub returns-in-Closure : goal.returns-in-Closure
-returns-in-Closure c = rw c.in-Closure.is (rw (c.as_slice-in-Closure.ensures, c.as_slice-in-Closure-2.ensures) at c.add_closure.ensures)
-
-pub returns-in-Field : goal.returns-in-Field
-returns-in-Field c = rw c.in-Field.is (adds (rw c.as_str.ensures at c.add-in-Field.ensures) (λ s. refl))
-
-pub returns-in-Ref : goal.returns-in-Ref
-returns-in-Ref c = rw c.in-Ref.is (adds (rw (c.raw_keyword.ensures, c.as_keyword_for_ref.ensures) at c.add-in-Ref.ensures) (λ s. refl))
-
-pub returns-in-UnaryOp : goal.returns-in-UnaryOp
-returns-in-UnaryOp c = rw c.in-UnaryOp.is (adds (rw c.as_str-in-UnaryOp.ensures at c.add-in-UnaryOp.ensures) (λ s. refl))
-
-pub returns-in-BinaryOp : goal.returns-in-BinaryOp
-returns-in-BinaryOp c =
-    let op = c.in-BinaryOp.op in
-    let first : c.precedence.result ≡ of_operator op = c.precedence.ensures ∙ ap precedence c.in-BinaryOp.is in
-    let second : c.precedence-in-BinaryOp.result ≡ of_operator op = c.precedence-in-BinaryOp.ensures ∙ ap precedence c.in-BinaryOp.is in
-    rw c.in-BinaryOp.is (adds c.add-in-BinaryOp.ensures (λ s. ap₂ (λ q r. under q c.in-BinaryOp.lhs ++ sp ++ text c.operator_text.result.now ++ sp ++ under r c.in-BinaryOp.rhs) first second
-    ∙ ap (λ is. under (of_operator op) c.in-BinaryOp.lhs ++ sp ++ is ++ sp ++ under (of_operator op) c.in-BinaryOp.rhs) c.operator_text.ensures))
 
 pub returns-in-Return : goal.returns-in-Return
 returns-in-Return c = rw c.in-Return.is c.add_keyword.ensures

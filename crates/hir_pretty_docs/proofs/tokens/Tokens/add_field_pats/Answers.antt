@@ -1,4 +1,4 @@
-use Rattle.hir_pretty_docs.proofs.Common.{◌-◌, refl, sym, ap, ◌∙◌, length, take, drop, adds, adds_then, left_begins, left_goes_on, left_ends, field_patterns, parts, field_step, no_fields}
+use Rattle.hir_pretty_docs.proofs.Common.{◌-◌, refl, sym, ap, ◌∙◌, length, take, drop, adds, adds_then, left_begins, left_goes_on, field_patterns, parts, field_step}
 use Rattle.hir_pretty_docs.proofs.tokens.Tokens.add_field_pats.Goals as goal
 
 pub loop-left-init : goal.loop-left-init
@@ -9,6 +9,3 @@ loop-left-preserved c =
     let left = c.loop-left.left.now in
     left_goes_on c.loop-left.invariant (adds_then (adds c.add.ensures (λ s. refl)) (rw c.is_empty.ensures at c.add_field_end.ensures))
     (λ s. field_step s c.args.rest c.field-item.result (take (length left - 1) (drop 1 left)) ∙ ap (field_patterns s c.args.rest) (sym (parts left c.field-item.result c.in-len1-up.len_at_least c.field-item.is)))
-
-pub returns : goal.returns
-returns c = left_ends c.loop-left.invariant (λ s. no_fields s c.args.rest c.loop-left.left.now c.in_default.len_below)

@@ -1,4 +1,4 @@
-use Rattle.hir_pretty_docs.proofs.Common.{refl, sym, append-nil, adds, adds_then, adds_more, adds_as, binding_docs, bound_to}
+use Rattle.hir_pretty_docs.proofs.Common.{refl, adds, adds_then, adds_more, adds_as, binding_docs, bound_to}
 use Rattle.hir_pretty_docs.proofs.tokens.Tokens.add_pat.Goals as goal
 
 pub returns-in-Or : goal.returns-in-Or
@@ -6,9 +6,6 @@ returns-in-Or c = rw c.in-Or.is (adds_more (adds_then (adds c.add-in-Or.ensures 
 
 pub returns-in-Range : goal.returns-in-Range
 returns-in-Range c = rw c.in-Range.is (adds_then (adds_more c.add_in_pat.ensures (rw c.as_str.ensures at c.add-in-Range.ensures)) c.add_in_pat-in-Range.ensures)
-
-pub returns-in-None : goal.returns-in-None
-returns-in-None c = rw (c.in-Bind.is, c.in-None.is) (adds_as c.add_binding.ensures (λ s. sym (append-nil (binding_docs s c.in-Bind.id))))
 
 pub returns-in-Some : goal.returns-in-Some
 returns-in-Some c = rw (c.in-Bind.is, c.in-Some.is) (adds_as (adds_more c.add_binding.ensures c.add-in-Some.ensures) (λ s. bound_to (binding_docs s c.in-Bind.id) c.in-Some.subpat))
@@ -19,14 +16,8 @@ returns-in-TupleStruct c = rw c.in-TupleStruct.is (adds_then c.add_path-in-Tuple
 pub returns-in-Tuple : goal.returns-in-Tuple
 returns-in-Tuple c = rw c.in-Tuple.is (rw c.as_slice.ensures at c.add_in_parentheses.ensures)
 
-pub returns-in-Record : goal.returns-in-Record
-returns-in-Record c = rw c.in-Record.is (rw c.as_slice-in-Record.ensures at c.add_record_pat.ensures)
-
 pub returns-in-Slice : goal.returns-in-Slice
 returns-in-Slice c = rw c.in-Slice.is (rw (c.as_slice-in-Slice.ensures, c.as_slice-in-Slice-2.ensures) at c.add_slice.ensures)
-
-pub returns-in-Ref : goal.returns-in-Ref
-returns-in-Ref c = rw c.in-Ref.is (adds (rw c.as_keyword_for_ref.ensures at c.add-in-Ref.ensures) (λ s. refl))
 
 pub returns-in-Lit : goal.returns-in-Lit
 returns-in-Lit c = rw c.in-Lit.is c.add_in_pat-in-Lit.ensures

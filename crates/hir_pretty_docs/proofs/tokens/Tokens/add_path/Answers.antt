@@ -3,6 +3,3 @@ use Rattle.hir_pretty_docs.proofs.tokens.Tokens.add_path.Goals as goal
 
 pub returns-in-BarePath : goal.returns-in-BarePath
 returns-in-BarePath c = rw c.in-BarePath.is (adds_then (rw c.kind.ensures at c.add_kind.ensures) (rw (c.colons_first.ensures, c.kind-in-BarePath.ensures, c.segments.ensures) at c.add_segments.ensures))
-
-pub returns-in-Normal : goal.returns-in-Normal
-returns-in-Normal c = rw c.in-Normal.is (rw c.get.ensures at c.add_normal_path.ensures)

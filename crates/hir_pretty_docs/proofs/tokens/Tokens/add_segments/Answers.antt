@@ -1,4 +1,4 @@
-use Rattle.hir_pretty_docs.proofs.Common.{◌-◌, refl, length, take, drop, adds_then, adds_more, left_begins, left_goes_on, left_ends, parts, segment_alone, segment_with, no_segments}
+use Rattle.hir_pretty_docs.proofs.Common.{◌-◌, refl, length, take, drop, adds_then, adds_more, left_begins, left_goes_on, parts, segment_alone, segment_with}
 use Rattle.hir_pretty_docs.proofs.tokens.Tokens.add_segments.Goals as goal
 
 pub loop-name-init : goal.loop-name-init
@@ -15,6 +15,3 @@ loop-name-preserved c =
     left_goes_on c.loop-name.invariant (adds_then (adds_more c.add_if.ensures (rw c.as_str.ensures at c.add.ensures)) c.add_turbofish.ensures)
     (λ s. segment_with s c.loop-name.after c.args.names.now c.loop-name.name-index c.name-item.result lists (take (length lists - 1) (drop 1 lists)) c.args-item.result c.loop-name-test.true c.name-item.is
     (parts lists c.args-item.result c.in-len1-up.len_at_least c.args-item.is))
-
-pub returns : goal.returns
-returns c = left_ends c.loop-name.invariant (λ s. no_segments s c.loop-name.after c.args.names.now c.loop-name.name-index c.loop-name.lists.now c.loop-name-test.false)

@@ -4,15 +4,6 @@ use Rattle.hir_pretty_docs.proofs.tokens.Tokens.add_type.Goals as goal
 pub returns-in-Tuple : goal.returns-in-Tuple
 returns-in-Tuple c = rw c.in-Tuple.is (adds_more (adds_then (adds c.add-in-Tuple.ensures (λ s. refl)) (rw c.as_slice.ensures at c.add_joined.ensures)) c.add-in-Tuple-2.ensures)
 
-pub returns-in-RawPtr : goal.returns-in-RawPtr
-returns-in-RawPtr c = rw c.in-RawPtr.is (adds (rw c.as_keyword_for_ptr.ensures at c.add-in-RawPtr.ensures) (λ s. refl))
-
-pub returns-in-Reference : goal.returns-in-Reference
-returns-in-Reference c = rw c.in-Reference.is (rw c.get.ensures at c.add_reference.ensures)
-
-pub returns-in-Fn : goal.returns-in-Fn
-returns-in-Fn c = rw c.in-Fn.is (rw c.get-in-Fn.ensures at c.add_fn.ensures)
-
 pub returns-in-ImplTrait : goal.returns-in-ImplTrait
 returns-in-ImplTrait c = rw c.in-ImplTrait.is (rw c.as_slice-in-ImplTrait.ensures at c.add_bounds.ensures)
 

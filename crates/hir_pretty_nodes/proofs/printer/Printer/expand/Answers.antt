@@ -25,12 +25,6 @@ pub returns-in-Pattern : goal.returns-in-Pattern
 returns-in-Pattern g c =
     let p = c.args.self.now in rw c.in-Pattern.is (pattern_gives c.requires.fall refl c.in-Pattern.id (c.add_pat.ensures (lookups_of p.tables.now) p.words.now p.one_line))
 
-pub returns-in-FieldPat : goal.returns-in-FieldPat
-returns-in-FieldPat g c = rw c.in-FieldPat.is c.add_field.ensures
-
 pub returns-in-Type : goal.returns-in-Type
 returns-in-Type g c =
     let p = c.args.self.now in rw c.in-Type.is (type_gives c.requires.fall refl c.in-Type.id (c.add_type.ensures (lookups_of p.tables.now) p.words.now p.one_line))
-
-pub returns-in-GenericArgs : goal.returns-in-GenericArgs
-returns-in-GenericArgs g c = rw c.in-GenericArgs.is c.add_generic_args.ensures

@@ -1,4 +1,4 @@
-use Rattle.std.proofs.Common.{◌≡◌, sym, ◌∙◌, subst, Some, Option, ℕ}
+use Rattle.std.proofs.Common.{◌≡◌, sym, ◌∙◌, subst, Some, Option, ℕ, rules}
 use Rattle.hir_usages.proofs.RenameLemmas.{found_from, found_here, passed_by}
 use Rattle.hir_usages.proofs.renaming.Renaming.resolve.Goals as goal
 
@@ -15,13 +15,4 @@ returns-in-Some-find_entry c =
     c.in-Some-find_entry.found (sym c.in-Some-find_entry.ensures)) ∙ inv
 
 pub loop-current-preserved : goal.loop-current-preserved
-loop-current-preserved c =
-    let scopes = c.args.self.now.scopes.now.scopes in
-    let b = c.args.self.now.binding in
-    let new = c.args.self.now.name.now in
-    let from = found_from scopes b new c.args.name.now c.args.hygiene in
-    let inv = subst (λ (o : Option ℕ). from o ≡ from (Some c.args.scope)) c.in-Some.is c.loop-current.invariant.1 in
-    let passed = passed_by scopes b new c.args.name.now c.args.hygiene c.in-Some.inner c.parent-outer.result
-    c.entries.result.now (c.a_chain_goes_outward.ensures.step scopes c.parent-outer.ensures.parents)
-    c.parent-outer.ensures.is c.entries.ensures (sym c.in_default-find_entry.ensures) in
-    (c.parent-outer.ensures.in_range, passed ∙ inv)
+loop-current-preserved c = search (rules, found_from, passed_by)

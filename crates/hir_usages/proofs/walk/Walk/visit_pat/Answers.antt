@@ -3,27 +3,8 @@ use Rattle.hir_node.specs.declared.node_id.NodeId.{NodeId}
 use Rattle.hir_usages.specs.Usages.{bound_at}
 use Rattle.hir_scope.specs.Order.{met_in_form}
 use Rattle.hir_usages.specs.internal.{Pending.tasks_of, Reading.lists_of}
-use Rattle.hir_usages.proofs.WalkLemmas.{visit_pat, pat_in_range}
+use Rattle.hir_usages.proofs.WalkLemmas.{visit_pat}
 use Rattle.hir_usages.proofs.walk.Walk.visit_pat.Goals as goal
-
-pub add_target-requires : goal.add_target-requires
-add_target-requires c =
-    record {
-      in_range = pat_in_range c.args.self.now.store.now.nodes c.args.assignment c.args.id
-          c.args.unread.now.stack.items c.requires.in_range;
-    }
-
-pub add_bound-requires : goal.add_bound-requires
-add_bound-requires c =
-    record {
-      in_range = pat_in_range c.args.self.now.store.now.nodes c.args.assignment c.args.id
-          c.args.unread.now.stack.items c.requires.in_range;
-    }
-
-pub index-requires : goal.index-requires
-index-requires c =
-    pat_in_range c.args.self.now.store.now.nodes c.args.assignment c.args.id c.args.unread.now.stack.items
-    c.requires.in_range
 
 pub returns : goal.returns
 returns c =
