@@ -1,5 +1,5 @@
 -- Lists with separators, and places of arguments.
-use Rattle.std.proofs.Common.{◌≡◌, ℕ, ◌+◌, ◌<◌, ◌≤◌, ◌==◌, Bool, true, false, List, [], ◌∷◌, ◌++◌, length, map, drop, get_or, Option, Some, None, refl, sym, ap, ap₂, subst, ◌∙◌, append_assoc, append-nil, arith, codes, is_some, nat_lt, Ok}
+use Rattle.std.proofs.Common.{◌≡◌, ℕ, ◌+◌, ◌<◌, ◌≤◌, ◌==◌, Bool, true, false, List, [], ◌∷◌, ◌++◌, length, map, drop, get_or, Option, Some, None, refl, sym, ap, ap₂, subst, ◌∙◌, append_assoc, append-nil, arith, codes, is_some, nat_lt, Ok, rules}
 use Rattle.std.proofs.lemmas.{Bool.lt-ltb, Bool.true≢false, List.drop_all}
 use Rattle.std.specs.List.{enumerate_from, list_any}
 use Rattle.hir_base.specs.declared.mod_path.PathKind.{PathKind, TheVariants.Plain}
@@ -8,7 +8,6 @@ use Rattle.hir_signature.specs.declared.{signatures.FunctionParts.FunctionParts}
 use Rattle.hir_body.specs.{Bodies.formals_of, declared.formals.Param.Param}
 use Rattle.hir_pretty_nodes.specs.Prelude.{PrintEnv, Doc, text, br, into, out, t, p, opt, when, join, comma_joined, binding_docs, colons_first, type_param_docs, following}
 use Rattle.hir_pretty_docs.proofs.ListLemmas.{drop_item, is_cons, following_append, following_joined}
-use Rattle.hir_pretty_docs.proofs.OrderLemmas.{cons_length}
 use Rattle.hir_pretty.specs.Signatures.{type_name, argument_docs, arguments, function_types, each_lifetime, each_type_or_const, in_angles, each_predicate, where_docs}
 use Rattle.hir_pretty.specs.{internal.AddedDocs.marked_docs, Bodies.formal_params, Variants.kind_word}
 
@@ -21,10 +20,7 @@ is_longer f (x ∷ xs) n e = lt-ltb 0 n (omega (arith, e))
 -- two lists one after the other, in `<` and `>`
 pub angles : (xs ys : List (List Doc)) (b : Bool) → b ≡ is_cons xs
     → text (codes "<") ++ following (text (codes ", ")) false xs ++ following (text (codes ", ")) b ys ++ text (codes ">") ≡ text (codes "<") ++ comma_joined (xs ++ ys) ++ text (codes ">")
-angles xs ys b e =
-    let sep = text (codes ", ") in
-    ap (λ zs. text (codes "<") ++ zs ++ text (codes ">"))
-    (ap₂ (λ zs c. zs ++ following sep c ys) (following_joined sep xs) e ∙ following_append sep xs ys)
+angles xs ys b e = search (rules, following_joined, following_append)
 
 pub some_angles : (s : PrintEnv) (lifetimes : List LifetimeParamData) (types : List TypeOrConstParamData) → (types ≡ [] → lifetimes ≡ [] → ⊥)
     → (let each = each_lifetime s lifetimes ++ each_type_or_const s (enumerate_from 0 types) in text (codes "<") ++ comma_joined each ++ text (codes ">") ≡ in_angles each)
@@ -36,10 +32,6 @@ pub some_where : (s : PrintEnv) (predicates : List WherePredicate) (b : Bool) �
     → text (codes "\nwhere\n") ++ into ++ each_predicate s predicates ++ out ++ br ≡ where_docs s predicates
 some_where s [] b e f = absurd (true≢false (sym e ∙ f))
 some_where s (x ∷ xs) b e f = refl
-
-pub no_where : (s : PrintEnv) (predicates : List WherePredicate) (b : Bool) → b ≡ (length predicates == 0) → b ≡ true → [] ≡ where_docs s predicates
-no_where s [] b e f = refl
-no_where s (x ∷ xs) b e f = absurd (true≢false (sym f ∙ e ∙ cons_length x xs))
 
 -- a path's kind, and its names
 pub kinds_first : (s : PrintEnv) (kind : PathKind) → colons_first kind ≡ is_cons (kind_word s kind)
@@ -62,9 +54,6 @@ pub formals_step : (after : Bool) (params : List (Param ℕ)) (i : ℕ) (x : Par
     → when after (text (codes ", ")) ++ p x.formal ++ following (text (codes ", ")) true (map p (formals_of (drop (i + 1) params)))
     ≡ following (text (codes ", ")) after (map p (formals_of (drop i params)))
 formals_step after params i x h e = sym (ap (λ xs. following (text (codes ", ")) after (map p (formals_of xs))) (drop_item params i x h e))
-
-pub formals_end : (after : Bool) (params : List (Param ℕ)) (i : ℕ) → length params ≤ i → [] ≡ following (text (codes ", ")) after (map p (formals_of (drop i params)))
-formals_end after params i h = sym (ap (λ xs. following (text (codes ", ")) after (map p (formals_of xs))) (drop_all i params h))
 
 -- 2. Places
 
@@ -89,12 +78,7 @@ pub marked_step : (sep : List Doc) (marks : List Bool) (at x : ℕ) (xs : List �
     → when (nat_lt 0 at) sep ++ when (get_or marks at false) (text (codes "const: ")) ++ t x
     ++ following sep (nat_lt 0 (at + 1)) (map (marked_docs marks) (enumerate_from (at + 1) (drop (at + 1) xs)))
     ≡ following sep (nat_lt 0 at) (map (marked_docs marks) (enumerate_from at (drop at xs)))
-marked_step sep marks at x xs h e =
-    let rest : List Doc = following sep true (map (marked_docs marks) (enumerate_from (at + 1) (drop (at + 1) xs))) in
-    ap (λ b. when (nat_lt 0 at) sep ++ when (get_or marks at false) (text (codes "const: ")) ++ t x ++ following sep b (map (marked_docs marks) (enumerate_from (at + 1) (drop (at + 1) xs))))
-    (lt-ltb 0 (at + 1) (omega arith))
-    ∙ ap (λ zs. zs ++ rest) (append_assoc (when (nat_lt 0 at) sep) (when (get_or marks at false) (text (codes "const: "))) (t x))
-    ∙ sym (ap (λ (r : List ℕ). following sep (nat_lt 0 at) (map (marked_docs marks) (enumerate_from at r))) (drop_item xs at x h e))
+marked_step sep marks at x xs h e = search (rules, lt-ltb, append_assoc, drop_item)
 
 pub marked_end : (sep : List Doc) (b : Bool) (marks : List Bool) (at : ℕ) (xs : List ℕ) → length xs ≤ at → [] ≡ following sep b (map (marked_docs marks) (enumerate_from at (drop at xs)))
 marked_end sep b marks at xs h = sym (ap (λ (r : List ℕ). following sep b (map (marked_docs marks) (enumerate_from at r))) (drop_all at xs h))
@@ -103,9 +87,7 @@ marked_end sep b marks at xs h = sym (ap (λ (r : List ℕ). following sep b (ma
 
 pub types_is : (f : FunctionParts) (places : Option (List ℕ)) (params : List ℕ) (ret : Option ℕ) → places ≡ f.legacy_const_indices → params ≡ f.params → ret ≡ f.ret_type
     → text (codes "(") ++ arguments places params ++ text (codes ")") ++ opt (λ id. text (codes " -> ") ++ t id) ret ≡ function_types f
-types_is f places params ret d e h =
-    ap₂ (λ ps xs. text (codes "(") ++ arguments ps xs ++ text (codes ")") ++ opt (λ id. text (codes " -> ") ++ t id) ret) d e
-    ∙ ap (λ r. text (codes "(") ++ arguments f.legacy_const_indices f.params ++ text (codes ")") ++ opt (λ id. text (codes " -> ") ++ t id) r) h
+types_is f places params ret d e h = search rules
 
 pub no_result : (f : FunctionParts) (places : Option (List ℕ)) (params : List ℕ) → places ≡ f.legacy_const_indices → params ≡ f.params → None ≡ f.ret_type
     → text (codes "(") ++ arguments places params ++ text (codes ")") ≡ function_types f
@@ -113,8 +95,7 @@ no_result f places params d e h = sym (append-nil (text (codes "(") ++ arguments
 
 pub a_result : (f : FunctionParts) (places : Option (List ℕ)) (params : List ℕ) (ret : ℕ) → places ≡ f.legacy_const_indices → params ≡ f.params → Some ret ≡ f.ret_type
     → text (codes "(") ++ arguments places params ++ text (codes ")") ++ text (codes " -> ") ++ t ret ≡ function_types f
-a_result f places params ret d e h =
-    append_assoc (text (codes "(") ++ arguments places params ++ text (codes ")")) (text (codes " -> ")) (t ret) ∙ types_is f places params (Some ret) d e h
+a_result f places params ret d e h = search (rules, append_assoc, types_is)
 
 pub type_names : (s : PrintEnv) (at : ℕ) (name : Option (List ℕ)) → type_param_docs s at (Ok name) ≡ type_name s at name
 type_names s at None = refl

@@ -1,11 +1,10 @@
 -- What printings return for definitions whose documents have no nodes.
-use Rattle.std.proofs.Common.{◌≡◌, ℕ, List, [], ◌∷◌, ◌++◌, codes, Option, Some, None, Result, Ok, Err, IfOk, refl, sym, ap, subst, String, string_bytes}
+use Rattle.std.proofs.Common.{◌≡◌, ℕ, List, [], ◌∷◌, codes, Option, Some, None, Result, Ok, Err, refl, ap, subst, String, rules}
 use Rattle.hir_base.specs.declared.defs.NamedDef.TheVariants as named
 use Rattle.hir_base.specs.declared.defs.VariantId.{VariantId}
 use Rattle.hir_base.specs.declared.defs.VariantId.TheVariants as variant
-use Rattle.hir_pretty_layout.specs.Page.{rendering}
 use Rattle.hir_pretty_nodes.specs.declared.fault.PrintFault.{PrintFault}
-use Rattle.hir_pretty_nodes.specs.Prelude.{NodeId, Missing, PrintEnv, Doc, Put, MissingDoc, ExprDoc, ExprIn, Pattern, TypeDoc, text, found_name, DocPiece, Present, Absent, AllNodes, first_missing, layout, format_of, PrintsPieces, doc_list_pieces}
+use Rattle.hir_pretty_nodes.specs.Prelude.{NodeId, Missing, PrintEnv, Doc, Put, MissingDoc, ExprDoc, ExprIn, Pattern, TypeDoc, found_name, DocPiece, Present, Absent, AllNodes, PrintsPieces, doc_list_pieces}
 use Rattle.hir_pretty_nodes.proofs.{StepLemmas.nodes_append, LoopLemmas.prints_refused}
 use Rattle.hir_pretty.specs.{Bodies.Parents, Bodies.of_enum, Variants.variant_head, Variants.without_fields}
 
@@ -23,14 +22,7 @@ found_outside default (Err missing) = tt
 
 enum_outside : (s : PrintEnv) (id : ℕ) (parent : Result ℕ Missing) → Outside (of_enum s id parent)
 enum_outside s id (Err missing) = tt
-enum_outside s id (Ok parent) =
-    let of_parent = found_name (codes "<missing>") (s.tables.name (named.EnumId parent)) in
-    let of_variant = found_name (codes "<missing>") (s.tables.name (named.EnumVariantId id)) in
-    let colons = text (codes "::") in
-    nodes_append NoNode ((text (codes "enum ") ++ of_parent) ++ colons) of_variant
-    (nodes_append NoNode (text (codes "enum ") ++ of_parent) colons
-    (found_outside (codes "<missing>") (s.tables.name (named.EnumId parent))) tt)
-    (found_outside (codes "<missing>") (s.tables.name (named.EnumVariantId id)))
+enum_outside s id (Ok parent) = search (rules, nodes_append, found_outside)
 
 head_outside : (s : PrintEnv) (parents : Parents) (owner : VariantId) → Outside (variant_head s parents owner)
 head_outside s parents (variant.StructId id) = found_outside (codes "<missing>") (s.tables.name (named.StructId id))
@@ -38,8 +30,7 @@ head_outside s parents (variant.EnumVariantId id) = enum_outside s id (parents i
 head_outside s parents (variant.UnionId id) = found_outside (codes "<missing>") (s.tables.name (named.UnionId id))
 
 pub fields_outside : (s : PrintEnv) (parents : Parents) (owner : VariantId) → Outside (without_fields s parents owner)
-fields_outside s parents owner =
-    nodes_append NoNode (variant_head s parents owner) _ (head_outside s parents owner) tt
+fields_outside s parents owner = search (rules, nodes_append, head_outside)
 
 -- their doc pieces are the same for any store
 printed_outside : (s other : PrintEnv) (is : List Doc) → Outside is → doc_list_pieces s is ≡ doc_list_pieces other is
@@ -54,11 +45,7 @@ printed_outside s other (TypeDoc id ∷ is) a = absurd a.0
 -- the same doc pieces are printed the same from any store, where lines are
 pub in_another : {Z : Type 0} {s other : PrintEnv} {ps : List DocPiece} {result : Result (String Z) PrintFault}
     → PrintsPieces s ps result → other.one_line ≡ s.one_line → PrintsPieces other ps result
-in_another {ps = ps} {result = result} a e = record {
-  text = subst (λ b. IfOk result (λ text. (first_missing ps ≡ None) × (string_bytes text ≡ rendering (format_of b) (layout ps))))
-      (sym e) a.text;
-  missing = a.missing;
-}
+in_another {ps = ps} {result = result} a e = search rules
 
 pub in_any_store : {Z : Type 0} {s : PrintEnv} {result : Result (String Z) PrintFault} (other : PrintEnv) (is : List Doc)
     → Outside is → other.one_line ≡ s.one_line → PrintsPieces s (doc_list_pieces s is) result

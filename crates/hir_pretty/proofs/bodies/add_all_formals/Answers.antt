@@ -1,5 +1,5 @@
-use Rattle.hir_pretty_docs.proofs.Common.{refl, adds_more, left_begins, left_goes_on, left_ends}
-use Rattle.hir_pretty.proofs.ListLemmas.{formals_begin, formals_step, formals_end}
+use Rattle.hir_pretty_docs.proofs.Common.{refl, adds_more, left_begins, left_goes_on}
+use Rattle.hir_pretty.proofs.ListLemmas.{formals_begin, formals_step}
 use Rattle.hir_pretty.proofs.bodies.add_all_formals.Goals as goal
 
 pub loop-param-init : goal.loop-param-init
@@ -8,6 +8,3 @@ loop-param-init c = left_goes_on (left_begins (λ s. refl)) c.add_self.ensures (
 pub loop-param-preserved : goal.loop-param-preserved
 loop-param-preserved c = left_goes_on c.loop-param.invariant (adds_more c.add_if.ensures c.add.ensures)
     (λ s. formals_step c.loop-param.after c.args.params.now c.loop-param.param-index c.param-item.result c.loop-param-test.true c.param-item.is)
-
-pub returns : goal.returns
-returns c = left_ends c.loop-param.invariant (λ s. formals_end c.loop-param.after c.args.params.now c.loop-param.param-index c.loop-param-test.false)

@@ -1,6 +1,7 @@
 use Rattle.hir_pretty_docs.proofs.Common.{ap, sym, ◌∙◌, get_or, false, arith, comma_joined, adds_as}
 use Rattle.hir_pretty.proofs.ListLemmas.{plain_arguments, marked_arguments}
 use Rattle.hir_pretty.proofs.functions.add_arguments.Goals as goal
+use Rattle.std.proofs.Common.{arith}
 
 pub returns-in-None : goal.returns-in-None
 returns-in-None c = rw c.in-None.is (adds_as c.add_joined.ensures (λ s. ap comma_joined (sym (plain_arguments 0 c.args.params.now))))

@@ -1,10 +1,7 @@
-use Rattle.hir_pretty_docs.proofs.Common.{codes, map, refl, text, adds, adds_none, adds_then, adds_more, adds_as, left_begins, left_goes_on, left_ends, following_joined, following_step, following_ends}
+use Rattle.hir_pretty_docs.proofs.Common.{codes, map, refl, text, adds, adds_then, adds_more, adds_as, left_begins, left_goes_on, left_ends, following_joined, following_step, following_ends}
 use Rattle.hir_pretty.specs.Signatures.{predicate_docs}
-use Rattle.hir_pretty.proofs.ListLemmas.{some_where, no_where}
+use Rattle.hir_pretty.proofs.ListLemmas.{some_where}
 use Rattle.hir_pretty.proofs.generics.add_where.Goals as goal
-
-pub returns-then-is_empty : goal.returns-then-is_empty
-returns-then-is_empty c = adds_none (λ s. no_where s c.args.predicates.now _ c.is_empty.ensures c.if-is_empty.true)
 
 pub loop-predicate-init : goal.loop-predicate-init
 loop-predicate-init c = left_begins (λ s. following_joined (text (codes ",\n")) (map (predicate_docs s) c.args.predicates.now))
