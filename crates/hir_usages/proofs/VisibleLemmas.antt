@@ -14,6 +14,11 @@ use Rattle.hir_scope.specs.{Frames.Chain, Resolution.matches, Resolution.find_en
 use Rattle.hir_scope.specs.declared.scope.ScopeEntry.{ScopeEntry}
 use Rattle.hir_usages.specs.Visible.{with_new_name, visible_in}
 use Rattle.hir_usages.specs.internal.Seen.{AreSeen, is_key}
+use Rattle.std.proofs.lemmas.{List.Sums.fold-append}
+use Rattle.std.specs.List.{slice_get}
+use Rattle.std.specs.Prelude.{option_map}
+use Rattle.hir_scope.specs.{Paths.chain, Scopes.Scope}
+use Rattle.hir_usages.proofs.RenameLemmas.{GoesOutward, chain_step, of_some_scope}
 
 pub asked : (n : List ℕ) (h : SyntaxContext) (e : ScopeEntry) → Decides (matches n h e) ((e.hygiene ≡ h) × (e.name ≡ n))
 asked n h e = Decides-and (hygienes.ghosts.eq e.hygiene h) (names.ghosts.eq e.name n) (hygienes_decide e.hygiene h) (names_decide e.name n)
@@ -105,6 +110,18 @@ visible_resolves frames e = (
   ),
   λ r. among r.0 r.1 (visible_in frames) e (kept r.0 r.1 [] (entries_of frames) ∙ r.2),
 )
+
+-- the entries of a scope come before those of its parent
+pub visible_step : (scopes : List Scope) (s : ℕ) (parent : Option ℕ) (es : List ScopeEntry) → GoesOutward scopes →
+    option_map (λ (y : Scope). y.parent) (slice_get scopes s) ≡ Some parent →
+    option_map (λ (y : Scope). y.entries) (slice_get scopes s) ≡ Some es → (found : List ScopeEntry) →
+    fold with_new_name found (entries_of (chain scopes (Some s))) ≡ fold with_new_name (fold with_new_name found es)
+    (entries_of (chain scopes parent))
+visible_step scopes s parent es outward p e found =
+    let x = of_some_scope (λ (y : Scope). y.entries) (slice_get scopes s) es e in
+    let outer = entries_of (chain scopes parent) in
+    ap (λ (c : Chain). fold with_new_name found (entries_of c)) (chain_step scopes s parent x.0 outward p x.1)
+    ∙ (ap (λ (xs : List ScopeEntry). fold with_new_name found (xs ++ outer)) x.2 ∙ fold-append with_new_name found es outer)
 
 -- What was seen is what the entries have.
 
