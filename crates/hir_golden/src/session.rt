@@ -131,6 +131,18 @@ impl GoldenSession {
         }
     }
 
+    /// `bad LINE`: gives the line to the session, and writes whether it is a bad line.
+    fn ask_bad(&mut self, line: &[u8]) -> Result<Option<Answer>, TextError> {
+        let is_bad = match self.session.take_line(line) {
+            Err(TextError::Syntax) => true,
+            Err(TextError::Memory) => return Err(TextError::Memory),
+            Ok(_) => false,
+        };
+        let mut answer = Answer::new(self.alloc);
+        answer.word(if is_bad { "yes" } else { "no" })?;
+        Ok(Some(answer))
+    }
+
     /// `again QUESTION`: finishes the nodes and writes the answer to the question, by a second call where an
     /// allocation for it fails.
     // The nodes are finished before, and once: where an allocation for that fails, they don't exist any more.
@@ -151,6 +163,9 @@ impl Lines for GoldenSession {
 
     fn take_line(&mut self, line: &[u8]) -> Result<Option<Answer>, TextError> {
         let mut words = Words::new(self.alloc, line);
+        if words.eat("bad ") {
+            return self.ask_bad(words.rest());
+        }
         if !words.eat("again ") {
             return self.take_once(line);
         }
