@@ -133,6 +133,7 @@ impl GoldenSession {
 
     /// `bad LINE`: gives the line to the session, and writes whether it is a bad line.
     fn ask_bad(&mut self, line: &[u8]) -> Result<Option<Answer>, TextError> {
+        self.asks_kept = self.asks_kept && is_skipped(line);
         let is_bad = match self.session.take_line(line) {
             Err(TextError::Syntax) => true,
             Err(TextError::Memory) => return Err(TextError::Memory),
