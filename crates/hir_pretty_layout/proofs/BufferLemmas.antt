@@ -1,12 +1,13 @@
 -- What a page becomes as the text grows.
-use Rattle.std.proofs.Common.{◌≡◌, ℕ, suc, false, List, [], ◌∷◌, ◌++◌, length, get_or, take, replicate, ◌-◌, ◌==◌, ◌||◌, nat_lt, refl, sym, ap, ◌∙◌, arith, ◌≤◌, subst, append_assoc, append-nil, rules}
+use Rattle.std.proofs.Common.{◌≡◌, ℕ, suc, false, List, [], ◌∷◌, ◌++◌, length, get_or, take, replicate, ◌-◌, ◌*◌, ◌≢◌, ◌==◌, ◌||◌, nat_lt, refl, sym, ap, ◌∙◌, arith, ◌≤◌, subst, append_assoc, append-nil, rules}
 use Rattle.std.proofs.lemmas.Bool.Decides.{nat_tests}
 use Rattle.hir_pretty_layout.specs.declared.line_format.LineFormat.{LineFormat}
+use Rattle.hir_pretty_layout.specs.declared.line_format.LineFormat.TheVariants.{Indentation}
 use Rattle.hir_pretty_layout.specs.Buffer.{lines_of, IsTrimmedLen, IsGrown}
 use Rattle.hir_pretty_layout.specs.internal.Buffer.{HasNoEnd}
-use Rattle.hir_pretty_layout.specs.Page.{Lines, Page, is_blank, trim, ends_in_space, is_empty_line, is_empty_text, lines_text, page_text}
-use Rattle.hir_pretty_layout.proofs.PageLemmas.{lines_of-plain, lines_of-end, text_of_lines}
-use Rattle.hir_pretty_layout.proofs.EndLemmas.{no_end_in_spaces, ending}
+use Rattle.hir_pretty_layout.specs.Page.{Lines, Page, is_blank, trim, ends_in_space, is_empty_line, is_empty_text, lines_text, page_text, line_ended, format_after_end}
+use Rattle.hir_pretty_layout.proofs.PageLemmas.{lines_of-plain, lines_of-end, text_of_lines, one_line_ended, two_lines_ended}
+use Rattle.hir_pretty_layout.proofs.EndLemmas.{no_end_in_spaces, ending, indentation_more}
 use Rattle.std.specs.Str.{IsUtf8}
 use Rattle.std.proofs.lemmas.Str.{IsCharBoundary-from_take}
 use Rattle.std.proofs.Math.Seq.{take-append_seam}
@@ -34,6 +35,23 @@ blank_by_len text len t = grind (arith, common_steps, ending text len t)
 pub page_trimmed : (text : List ℕ) (len level : ℕ) (format : LineFormat) → IsTrimmedLen text len
     → page (take len text) level format ≡ record (page text level format) { last = trim (lines_of text).1 }
 page_trimmed text len level format t = grind (arith, common_steps, ending text len t)
+
+-- a page whose last line is not blank, after a break in lines
+module _ (text : List ℕ) (len level : ℕ) (t : IsTrimmedLen text len) (some : is_blank (lines_of text).1 ≡ false) where
+  abbrev ended : Page → Page
+  ended q = record q { above = q.last ∷ q.above; last = [] }
+
+  one_end : (format : LineFormat) → page (take len text ++ (10 ∷ [])) level format ≡ ended (record (page text level format) { last = trim (lines_of text).1 })
+  one_end format = page_end (take len text) level format ∙ ap ended (page_trimmed text len level format t)
+
+  pub ended_in_line : (format : LineFormat) → format ≢ Indentation → page (take len text ++ (10 ∷ [])) level (format_after_end format) ≡ line_ended (page text level format)
+  ended_in_line format ne = one_end (format_after_end format) ∙ sym (one_line_ended (lines_of text).0 (lines_of text).1 level format ne some)
+
+  pub ended_twice : page (((take len text ++ (10 ∷ [])) ++ replicate (4 * level) 32) ++ (10 ∷ [])) level Indentation ≡ line_ended (page text level Indentation)
+  ended_twice =
+      let indented : Page → Page = λ q. ended (record q { last = q.last ++ replicate (4 * level) 32 }) in
+      page_end _ level Indentation ∙ ap ended (page_spaces _ (4 * level) level Indentation) ∙ ap indented (one_end Indentation)
+      ∙ sym (two_lines_ended (page text level Indentation) refl some)
 
 -- whether the last line ends in a space, and whether there is no text
 pub space_by_len : (text : List ℕ) (len : ℕ) → IsTrimmedLen text len → ends_in_space (lines_of text).1 ≡ nat_lt len (length text)
@@ -73,4 +91,4 @@ grown_cut bs cs n u v e le h =
     let b = IsCharBoundary-from_take cs n v le (subst IsUtf8 (sym (grown_back bs cs n e h)) u) in
     (b.0, λ some. b.1)
 
-pub ruleset grown = (grown_none, grown_then, grown_by, lines_of-plain, lines_of-end, no_end_in_spaces)
+pub ruleset grown = (grown_none, grown_then, grown_by, lines_of-plain, lines_of-end, no_end_in_spaces, indentation_more)

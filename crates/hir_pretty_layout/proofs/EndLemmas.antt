@@ -4,7 +4,7 @@ use Rattle.std.proofs.lemmas.Bool.Decides.{nat_tests}
 use Rattle.std.proofs.lemmas.Grind.{common_steps}
 use Rattle.std.proofs.lemmas.List.{drop_more, take_more, take_all, drop-append-le, length-replicate, get_or_append_left, get_or-append-add, replicate-append-replicate}
 use Rattle.hir_pretty_layout.specs.Buffer.{lines_of, IsTrimmedLen, level_of}
-use Rattle.hir_pretty_layout.specs.internal.Buffer.{HasNoEnd, EndsInLineEnd}
+use Rattle.hir_pretty_layout.specs.internal.Buffer.{HasNoEnd}
 use Rattle.hir_pretty_layout.specs.Page.{Lines, cut_lines, is_blank, trim, ends_in_space, is_empty_line}
 use Rattle.hir_pretty_layout.proofs.PageLemmas.{lines_of-plain, lines_of-end}
 use Rattle.std.proofs.Math.Seq.{drop-append-add}
@@ -146,17 +146,14 @@ ending text (suc n) t = by_end (get_or text n 0 == 10) refl
           empty = empty_is (lines.1 ++ (c ∷ [])) false e (empty_push lines.1 c);
         }
 
--- the last character and what stands before it
-module _ (text : List ℕ) (some : 0 < length text) where
-  pub push_back : text ≡ take (length text - 1) text ++ (get_or text (length text - 1) 0 ∷ [])
-  push_back = search (rules, take_all, take_more)
-
-  pub lines_at_end : get_or text (length text - 1) 0 ≡ 10 → lines_of text ≡ ((lines_of (take (length text - 1) text)).1 ∷ (lines_of (take (length text - 1) text)).0, [])
-  lines_at_end e = ap lines_of (push_back ∙ ap (λ c. take (length text - 1) text ++ (c ∷ [])) e) ∙ lines_of-end (take (length text - 1) text)
-
-  pub lines_in_line : get_or text (length text - 1) 0 ≢ 10
-      → lines_of text ≡ ((lines_of (take (length text - 1) text)).0, (lines_of (take (length text - 1) text)).1 ++ (get_or text (length text - 1) 0 ∷ []))
-  lines_in_line ne = ap lines_of push_back ∙ lines_of-plain (take (length text - 1) text) (get_or text (length text - 1) 0 ∷ []) (no_end_one _ ne)
+-- the last character and what is before it, where the text doesn't end in a line end
+lines_in_line : (text : List ℕ) → 0 < length text → ((front : List ℕ) → text ≢ front ++ (10 ∷ []))
+    → lines_of text ≡ ((lines_of (take (length text - 1) text)).0, (lines_of (take (length text - 1) text)).1 ++ (get_or text (length text - 1) 0 ∷ []))
+lines_in_line text some h =
+    let front = take (length text - 1) text in
+    let last = get_or text (length text - 1) 0 in
+    let whole : text ≡ front ++ (last ∷ []) = search (rules, take_all, take_more) in
+    ap lines_of whole ∙ lines_of-plain front (last ∷ []) (no_end_one last (λ e. h front (rw e at whole)))
 
 cut_push : (above : List (List ℕ)) (x : List ℕ) (c : ℕ) → cut_lines above (x ++ (c ∷ [])) ≡ (above, x ++ (c ∷ []))
 cut_push [] x c = refl
@@ -164,13 +161,13 @@ cut_push (line ∷ above) [] c = refl
 cut_push (line ∷ above) (d ∷ x) c = refl
 
 -- a text that does not end in a line end is cut
-pub cut_done : (text : List ℕ) → (EndsInLineEnd text → ⊥) → cut_lines (lines_of text).0 (lines_of text).1 ≡ lines_of text
+pub cut_done : (text : List ℕ) → ((front : List ℕ) → text ≢ front ++ (10 ∷ [])) → cut_lines (lines_of text).0 (lines_of text).1 ≡ lines_of text
 cut_done [] h = ap (λ l. cut_lines l.0 l.1) lines_of-nil ∙ sym lines_of-nil
 cut_done (b ∷ bs) h = search (rules, lines_in_line, cut_push)
 
 -- a text that does is cut as the text before its last character
-pub cut_more : (text : List ℕ) → EndsInLineEnd text → cut_lines (lines_of text).0 (lines_of text).1 ≡ (let l = lines_of (take (length text - 1) text) in cut_lines l.0 l.1)
-cut_more text e = ap (λ l. cut_lines l.0 l.1) (lines_at_end text e.0 e.1)
+pub cut_more : (text : List ℕ) → text ≡ take (length text - 1) text ++ (10 ∷ []) → cut_lines (lines_of text).0 (lines_of text).1 ≡ (let l = lines_of (take (length text - 1) text) in cut_lines l.0 l.1)
+cut_more text e = ap (λ l. cut_lines l.0 l.1) (ap lines_of e ∙ lines_of-end (take (length text - 1) text))
 
 -- The length of a text without its trailing spaces, as the text grows.
 

@@ -5,7 +5,7 @@ use Rattle.hir_pretty_layout.specs.declared.line_format.LineFormat.{LineFormat}
 use Rattle.hir_pretty_layout.specs.declared.line_format.LineFormat.TheVariants.{Oneline, Newline, Indentation}
 use Rattle.hir_pretty_layout.specs.Buffer.{one_more, continue_lines, lines_of}
 use Rattle.hir_pretty_layout.specs.internal.Buffer.{HasNoEnd}
-use Rattle.hir_pretty_layout.specs.Page.{Lines, Page, begin, is_blank, put, put_all, lines_text, format_in_line, trim, line_ended}
+use Rattle.hir_pretty_layout.specs.Page.{Lines, Page, begin, is_blank, put, put_all, lines_text, format_in_line, format_after_end, trim, line_ended}
 use Rattle.std.proofs.lemmas.Grind.{common_steps}
 
 pub continued-append : (l : Lines) (xs ys : List ℕ) → continue_lines l (xs ++ ys) ≡ continue_lines (continue_lines l xs) ys
@@ -90,7 +90,7 @@ text_of_lines bs = text_continued ([], []) bs
 pub begun_format : (p : Page) → (begin p).format ≡ p.format
 begun_format p = search rules
 
--- What a break makes of a line that is not blank, where the next text begins a line.
+-- What a break makes of a line that is not blank, within it and where the next text begins a line.
 
 still_not_blank : (cs : List ℕ) (b : Bool) → cond b (is_blank cs) false ≡ false → (is_blank cs ≡ false → is_blank (trim cs) ≡ false) → cond b (is_blank (trim cs)) false ≡ false
 still_not_blank cs true e h = h e
@@ -99,6 +99,12 @@ still_not_blank cs false e h = refl
 trimmed_not_blank : (cs : List ℕ) → is_blank cs ≡ false → is_blank (trim cs) ≡ false
 trimmed_not_blank [] e = e
 trimmed_not_blank (c ∷ cs) e = ap (λ b. is_blank (cond b [] (c ∷ trim cs))) e ∙ still_not_blank cs (c == 32) e (trimmed_not_blank cs)
+
+pub one_line_ended : (above : List (List ℕ)) (last : List ℕ) (level : ℕ) (format : LineFormat) → format ≢ Indentation → is_blank last ≡ false
+    → line_ended (record { above = above; last = last; level = level; format = format }) ≡ record { above = trim last ∷ above; last = []; level = level; format = format_after_end format }
+one_line_ended above last level Oneline ne h = search rules
+one_line_ended above last level Newline ne h = search rules
+one_line_ended above last level Indentation ne h = absurd (ne refl)
 
 pub two_lines_ended : (p : Page) → p.format ≡ Indentation → is_blank p.last ≡ false
     → line_ended p ≡ record p { above = replicate (4 * p.level) 32 ∷ trim p.last ∷ p.above; last = [] }

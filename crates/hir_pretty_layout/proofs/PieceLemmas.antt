@@ -1,5 +1,5 @@
 -- Lists of pieces, written one after another.
-use Rattle.std.proofs.Common.{◌≡◌, ℕ, ◌<◌, ◌≤◌, true, false, List, [], ◌∷◌, ◌++◌, length, cond, ◌==◌, ◌||◌, nat_lt, codes, refl, sym, ap, subst, ◌∙◌, append_assoc, append-nil, arith, rules}
+use Rattle.std.proofs.Common.{◌≡◌, ◌⊎◌, ℕ, ◌<◌, ◌≤◌, true, false, List, [], ◌∷◌, ◌++◌, length, cond, ◌==◌, nat_lt, codes, refl, sym, ap, subst, ◌∙◌, append_assoc, append-nil, arith, rules}
 use Rattle.std.specs.Prelude.{Result, Ok, Err, OnErr}
 use Rattle.std.specs.Char.{digit_char, encode_utf8, is_ascii_control}
 use Rattle.std.proofs.lemmas.Bool.Decides.{nat_tests}
@@ -68,21 +68,25 @@ module _ {W : Type 0} {step : Layout → W → W} {refuses : Layout → W → W 
 pub long_plain : (c : ℕ) → is_ascii_control c ≡ false → long_escape c ≡ Text (encode_utf8 c) ∷ []
 long_plain c e = ap (λ b. cond b (control_escape c) (Text (encode_utf8 c) ∷ [])) e
 
+pub long_control : (c : ℕ) → is_ascii_control c ≡ true → long_escape c ≡ control_escape c
+long_control c e = ap (λ b. cond b (control_escape c) (Text (encode_utf8 c) ∷ [])) e
+
 pub hexadecimal_one : (n : ℕ) → n < 16 → hexadecimal n ≡ Text (digit_char n ∷ []) ∷ []
 hexadecimal_one n lt = let e : nat_lt n 16 ≡ true = grind (arith, nat_tests) in ap (λ b. cond b (Text (digit_char n ∷ []) ∷ []) (two_digits n)) e
 
 pub byte_plain : (b : ℕ) → 32 ≤ b → b ≤ 126 → byte_escape b ≡ Text (b ∷ []) ∷ []
 byte_plain b low high = search (rules, nat_tests)
 
-pub byte_low : (b : ℕ) → b < 32 → byte_escape b ≡ Text (codes "\\x") ∷ two_digits b
-byte_low b low = let e : nat_lt b 32 ≡ true = grind (arith, nat_tests) in ap (λ x. cond (x || nat_lt 126 b) (Text (codes "\\x") ∷ two_digits b) (Text (b ∷ []) ∷ [])) e
-
-pub byte_high : (b : ℕ) → 126 < b → byte_escape b ≡ Text (codes "\\x") ∷ two_digits b
-byte_high b high = search (rules, nat_tests)
+pub byte_coded : (b : ℕ) → (b < 32) ⊎ ((32 ≤ b) × (126 < b)) → byte_escape b ≡ Text (codes "\\x") ∷ two_digits b
+byte_coded b e = search (rules, nat_tests)
 
 -- the piece of a text that is the escape, where there is one
 pub is_escape : (escape : List ℕ) (long : List Layout) → (length escape == 0) ≡ false → escaped_by escape long ≡ Text escape ∷ []
 is_escape [] long e = absurd (cc)
 is_escape (c ∷ cs) long e = refl
+
+pub no_escape : (escape : List ℕ) (long : List Layout) → (length escape == 0) ≡ true → escaped_by escape long ≡ long
+no_escape [] long e = refl
+no_escape (c ∷ cs) long e = absurd (grind (arith, nat_tests))
 
 pub ruleset pieces = (steps-append, all_left, stops_here, stops_next, stops_inside, stops_at_last, is_escape, long_plain, hexadecimal_one)

@@ -2,10 +2,10 @@
 //! characters.
 #![tactic(auto, using(crate::proofs::BufferLemmas::grown))]
 
-ghost use Rattle.std.specs.Prelude.{◌≡◌, ◌∷◌, [], ◌++◌, ◌+◌, ◌-◌, ◌*◌, replicate, OnOk, OnErr, IsTrue, ◌↔◌, string_bytes};
-ghost use Rattle.hir_pretty_layout.specs.internal.Buffer.{HasNoEnd, IsCutText, EndsInLineEnd};
+ghost use Rattle.std.specs.Prelude.{◌≡◌, ◌∷◌, [], ◌++◌, ◌-◌, OnOk, OnErr, IsTrue, ◌↔◌, string_bytes};
+ghost use Rattle.hir_pretty_layout.specs.internal.Buffer.{HasNoEnd};
 ghost use Rattle.hir_pretty_layout.specs.Buffer.{IsTrimmedLen, IsGrown};
-ghost use Rattle.hir_pretty_layout.specs.Page.{begin, on_new_line, indent, put, put_all, trim, ends_in_space, is_empty_text, line_ended, with_join, without_empty_lines, is_blank, empty_page, page_text, format_in_line, format_after_end};
+ghost use Rattle.hir_pretty_layout.specs.Page.{begin, put_all, ends_in_space, line_ended, is_blank, empty_page, page_text};
 
 use crate::{LineFormat, PieceWriter};
 use std::alloc::{AllocError, Global};
@@ -102,36 +102,19 @@ impl PageBuffer {
         Ok(())
     }
 
-    /// Adds four spaces for each level.
-    fn indent_line(&mut self) -> Result<(), AllocError>
-        ensures ok { OnOk result (self.new ≡ indent self.old) }
-        ensures grown { IsGrown self.old self.new }
-    {
-        self.text.push_str(self.indentation.as_str())?;
-        Ok(())
-    }
-
-    /// Begins a line, unless the last is blank, and indents it.
-    fn begin_line(&mut self) -> Result<(), AllocError>
-        ensures ok { OnOk result (self.new ≡ indent (on_new_line self.old)) }
-        ensures grown { IsGrown self.old self.new }
-    {
-        if self.ends_in_blank_line() {
-            return self.indent_line();
-        }
-        self.end_line()?;
-        self.indent_line()
-    }
-
-    /// Begins a line, and indents it, if the next text has to begin one.
+    /// Begins a line, unless the last is blank, and indents it, if the next text has to begin one.
     fn begin(&mut self) -> Result<(), AllocError>
         ensures ok { OnOk result (self.new ≡ begin self.old) }
         ensures grown { IsGrown self.old self.new }
     {
-        match self.format {
-            LineFormat::Oneline | LineFormat::Newline => Ok(()),
-            LineFormat::Indentation => self.begin_line(),
+        if self.format != LineFormat::Indentation {
+            return Ok(());
         }
+        if !self.ends_in_blank_line() {
+            self.end_line()?;
+        }
+        self.text.push_str(self.indentation.as_str())?;
+        Ok(())
     }
 
     /// Writes text without a line end.
@@ -146,16 +129,6 @@ impl PageBuffer {
             self.format = self.format.in_line();
         }
         Ok(())
-    }
-
-    /// Whether the next text goes on in the last line.
-    fn is_in_line(&self) -> bool
-        ensures { IsTrue result → self.now.format ≡ format_in_line self.now.format }
-    {
-        match self.format {
-            LineFormat::Oneline | LineFormat::Newline => true,
-            LineFormat::Indentation => false,
-        }
     }
 
     /// Writes text: all of it, or nothing where an allocation fails.
@@ -183,61 +156,16 @@ impl PageBuffer {
         let mut rest = text;
         while let Some((line, after)) = rest.split_once('\n') {
             self.line(line)?;
-            self.line_end()?;
+            self.begin()?;
+            self.end_line()?;
+            self.format = self.format.after_end();
             rest = after;
         }
         self.line(rest)
     }
 
-    /// Writes a line end.
-    fn line_end(&mut self) -> Result<(), AllocError>
-        ensures ok { OnOk result (self.new ≡ put 10 self.old) }
-        ensures grown { IsGrown self.old self.new }
-    {
-        self.begin()?;
-        self.end_line()?;
-        self.format = self.format.after_end();
-        Ok(())
-    }
-
-    /// Ends the last line without its trailing spaces. It is refused only where there were none: their room
-    /// is enough for a line end.
-    fn end_trimmed(&mut self) -> Result<(), AllocError>
-        ensures ok { OnOk result (self.new ≡ record self.old {
-          above = trim self.old.last ∷ self.old.above;
-          last = [];
-          format = format_after_end self.old.format;
-        }) }
-        ensures err { OnErr result (self.new ≡ self.old) }
-    {
-        let after = self.format.after_end();
-        self.text.truncate(self.kept);
-        self.text.push('\n')?;
-        self.kept = self.text.len();
-        self.format = after;
-        Ok(())
-    }
-
-    /// Ends the last line without its trailing spaces, and a line of indentation. Room for all is asked for
-    /// first, since spaces that were removed could not be written again.
-    fn end_two_lines(&mut self) -> Result<(), AllocError>
-        ensures ok { OnOk result (self.new ≡ record self.old {
-          above = replicate (4 * self.old.level) 32 ∷ trim self.old.last ∷ self.old.above;
-          last = [];
-        }) }
-        ensures err { OnErr result (self.new ≡ self.old) }
-    {
-        let indentation = self.indentation.as_str();
-        self.text.reserve(indentation.len() + 2)?;
-        self.text.truncate(self.kept);
-        self.text.push('\n')?;
-        self.text.push_str(indentation)?;
-        self.text.push('\n')?;
-        self.kept = self.text.len();
-        Ok(())
-    }
-
-    /// Writes a break in lines.
+    /// Writes a break in lines: ends the last line without its trailing spaces, and a line of indentation
+    /// where the next text begins a line.
     fn break_line(&mut self) -> Result<(), AllocError>
         ensures ok { OnOk result (self.new ≡ line_ended self.old) }
         ensures err { OnErr result (self.new ≡ self.old) }
@@ -245,18 +173,24 @@ impl PageBuffer {
         if self.ends_in_blank_line() {
             return Ok(());
         }
-        match self.format {
-            LineFormat::Oneline | LineFormat::Newline => self.end_trimmed(),
-            LineFormat::Indentation => self.end_two_lines(),
+        if self.format == LineFormat::Indentation {
+            let indentation = self.indentation.as_str();
+            // room for all is asked for first: spaces that were removed could not be written again
+            self.text.reserve(indentation.len() + 2)?;
+            self.text.truncate(self.kept);
+            self.text.push('\n')?;
+            self.text.push_str(indentation)?;
+            self.text.push('\n')?;
+            self.kept = self.text.len();
+            return Ok(());
         }
-    }
-
-    /// Whether the text is empty.
-    #[tactic(auto, using(crate::proofs::BufferLemmas::empty_by_len))]
-    fn is_empty(&self) -> bool
-        ensures { result ≡ is_empty_text self.now.above self.now.last }
-    {
-        self.text.is_empty()
+        let after = self.format.after_end();
+        // refused only where there were no trailing spaces: their room is enough for a line end
+        self.text.truncate(self.kept);
+        self.text.push('\n')?;
+        self.kept = self.text.len();
+        self.format = after;
+        Ok(())
     }
 
     /// Whether the last line ends in a space.
@@ -267,26 +201,6 @@ impl PageBuffer {
         self.kept < self.text.len()
     }
 
-    /// Writes a break in one line.
-    fn join(&mut self) -> Result<(), AllocError>
-        ensures ok { OnOk result (self.new ≡ with_join self.old) }
-        ensures err { OnErr result (self.new ≡ self.old) }
-    {
-        if self.is_empty() || self.ends_in_space() {
-            return Ok(());
-        }
-        self.add(" ")
-    }
-
-    /// Raises the level by one.
-    fn raise_level(&mut self) -> Result<(), AllocError>
-        ensures ok { OnOk result (self.new ≡ record self.old { level = self.old.level + 1 }) }
-        ensures err { OnErr result (self.new ≡ self.old) }
-    {
-        self.indentation.push_str("    ")?;
-        Ok(())
-    }
-
     /// Lowers the level by one, unless it is 0.
     fn lower_level(&mut self)
         ensures { self.new ≡ record self.old { level = self.old.level - 1 } }
@@ -294,16 +208,6 @@ impl PageBuffer {
         let spaces = self.indentation.as_bytes().len();
         if spaces >= 4 {
             self.indentation.truncate(spaces - 4);
-        }
-    }
-
-    /// Removes empty last lines. It looks back over what it removes, and over the spaces before it.
-    fn cut_empty_lines(&mut self)
-        ensures { self.new ≡ without_empty_lines self.old }
-    {
-        if ends_in_line_end(self.text.as_bytes()) {
-            cut_line_ends(&mut self.text);
-            self.kept = trimmed_len(self.text.as_bytes());
         }
     }
 }
@@ -319,7 +223,7 @@ impl PieceWriter for PageBuffer {
 
     #[tactic(auto, using(crate::proofs::PageLemmas::put_all_in_line))]
     fn text(&mut self, text: &str) -> Result<(), AllocError> {
-        if self.is_in_line() && has_no_end(text.as_bytes()) {
+        if self.format != LineFormat::Indentation && has_no_end(text.as_bytes()) {
             return self.add(text);
         }
         self.all_or_none(text)
@@ -333,15 +237,19 @@ impl PieceWriter for PageBuffer {
         self.add(" ")
     }
 
+    #[tactic(auto, using(crate::proofs::BufferLemmas::empty_by_len))]
     fn line_break(&mut self) -> Result<(), AllocError> {
-        match self.format {
-            LineFormat::Oneline => self.join(),
-            LineFormat::Newline | LineFormat::Indentation => self.break_line(),
+        if self.format != LineFormat::Oneline {
+            return self.break_line();
         }
+        if self.text.is_empty() || self.ends_in_space() {
+            return Ok(());
+        }
+        self.add(" ")
     }
 
     fn indent(&mut self) -> Result<(), AllocError> {
-        self.raise_level()?;
+        self.indentation.push_str("    ")?;
         let broken = self.line_break();
         if broken.is_err() {
             self.lower_level();
@@ -349,10 +257,14 @@ impl PieceWriter for PageBuffer {
         broken
     }
 
-    /// Lowers the level and removes empty last lines. It takes no memory.
+    /// Lowers the level and removes empty last lines. It takes no memory, and looks back over what it
+    /// removes and over the spaces before it.
     fn outdent(&mut self) -> Result<(), AllocError> {
         self.lower_level();
-        self.cut_empty_lines();
+        while self.text.ends_with('\n') {
+            self.text.truncate(self.text.len() - 1);
+            self.kept = trimmed_len(self.text.as_bytes());
+        }
         Ok(())
     }
 }
@@ -383,15 +295,6 @@ fn trimmed_len(text: &[u8]) -> usize
     len
 }
 
-/// Removes the line ends at the end of a text.
-fn cut_line_ends(text: &mut String)
-    ensures { IsCutText (string_bytes text.old) (string_bytes text.new) }
-{
-    while ends_in_line_end(text.as_bytes()) {
-        text.truncate(text.len() - 1);
-    }
-}
-
 /// Whether a text is without a line end.
 fn has_no_end(text: &[u8]) -> bool
     ensures { IsTrue result ↔ HasNoEnd text.now }
@@ -404,11 +307,4 @@ fn has_no_end(text: &[u8]) -> bool
         }
     }
     true
-}
-
-fn ends_in_line_end(text: &[u8]) -> bool
-    ensures { IsTrue result ↔ EndsInLineEnd text.now }
-{
-    let len = text.len();
-    len > 0 && text[len - 1] == b'\n'
 }

@@ -8,7 +8,7 @@ ghost use Rattle.std.specs.Char.{digit_char};
 ghost use Rattle.std.specs.Str.{chars};
 ghost use Rattle.hir_pretty_layout.specs.Layouts as piece;
 ghost use Rattle.hir_pretty_layout.specs.Steps.{steps, StopsIn};
-ghost use Rattle.hir_pretty_layout.specs.Literals.{short_escape, escape_in_string, escape_in_bytes, two_digits, hexadecimal, control_escape, long_escape, byte_escape, escaped_by, string_char, byte_pieces, quoted, string_literal, char_literal, bytes_literal, c_string_literal};
+ghost use Rattle.hir_pretty_layout.specs.Literals.{short_escape, two_digits, hexadecimal, long_escape, escaped_by, string_char, byte_pieces, quoted, string_literal, char_literal, bytes_literal, c_string_literal};
 
 use crate::PieceWriter;
 use itoa::Integer;
@@ -30,58 +30,19 @@ fn short_escape(c: char) -> &'static str
     }
 }
 
-/// A digit in lower-case hexadecimal.
-fn hex_digit(digit: u8) -> &'static str
-    requires { digit < 16 }
-    ensures { result.now ≡ digit_char digit ∷ [] }
-{
-    match digit {
-        0 => "0",
-        1 => "1",
-        2 => "2",
-        3 => "3",
-        4 => "4",
-        5 => "5",
-        6 => "6",
-        7 => "7",
-        8 => "8",
-        9 => "9",
-        10 => "a",
-        11 => "b",
-        12 => "c",
-        13 => "d",
-        14 => "e",
-        _ => "f",
-    }
-}
-
-/// The short escape of a character in a string.
-fn escape_in_string(c: char) -> &'static str
-    ensures { result.now ≡ escape_in_string c }
-{
-    if c == '\'' {
-        return "";
-    }
-    short_escape(c)
-}
-
-/// The short escape of a byte.
-fn escape_in_bytes(byte: u8) -> &'static str
-    ensures { result.now ≡ escape_in_bytes byte }
-{
-    if byte == 0 {
-        return "";
-    }
-    short_escape(byte as char)
-}
-
-/// Writes a digit in hexadecimal.
+/// Writes a digit in lower-case hexadecimal.
 fn write_digit<W: PieceWriter>(writer: &mut W, digit: u8) -> Result<(), AllocError>
     requires { digit < 16 }
     ensures ok { OnOk result (writer.new ≡ W.step (piece.Text (digit_char digit ∷ [])) writer.old) }
     ensures err { OnErr result (W.refuses (piece.Text (digit_char digit ∷ [])) writer.old writer.new) }
 {
-    writer.text(hex_digit(digit))
+    let code = if digit < 10 {
+        b'0' + digit
+    } else {
+        b'a' - 10 + digit
+    };
+    let mut bytes = [0u8; 4];
+    writer.text((code as char).encode_utf8(&mut bytes))
 }
 
 /// Writes two digits in hexadecimal.
@@ -104,61 +65,42 @@ fn write_hexadecimal<W: PieceWriter>(writer: &mut W, number: u8) -> Result<(), A
     write_digit(writer, number)
 }
 
-/// Writes a character that has no short escape.
-fn write_long_escape<W: PieceWriter>(writer: &mut W, c: char) -> Result<(), AllocError>
-    ensures ok { OnOk result (writer.new ≡ steps W.step (long_escape c) writer.old) }
-    ensures err { OnErr result (StopsIn W.step W.refuses (long_escape c) writer.old writer.new) }
-{
-    if c.is_ascii_control() {
-        return write_control(writer, c as u8);
-    }
-    let mut bytes = [0u8; 4];
-    writer.text(c.encode_utf8(&mut bytes))
-}
-
-fn write_control<W: PieceWriter>(writer: &mut W, control: u8) -> Result<(), AllocError>
-    ensures ok { OnOk result (writer.new ≡ steps W.step (control_escape control) writer.old) }
-    ensures err { OnErr result (StopsIn W.step W.refuses (control_escape control) writer.old writer.new) }
-{
-    writer.text("\\u{")?;
-    write_hexadecimal(writer, control)?;
-    writer.text("}")
-}
-
-/// Writes a byte that has no short escape.
-fn write_byte_escape<W: PieceWriter>(writer: &mut W, byte: u8) -> Result<(), AllocError>
-    ensures ok { OnOk result (writer.new ≡ steps W.step (byte_escape byte) writer.old) }
-    ensures err { OnErr result (StopsIn W.step W.refuses (byte_escape byte) writer.old writer.new) }
-{
-    if byte < 32 || 126 < byte {
-        writer.text("\\x")?;
-        return write_two_digits(writer, byte);
-    }
-    let mut bytes = [0u8; 4];
-    writer.text((byte as char).encode_utf8(&mut bytes))
-}
-
 /// Writes a character by its short escape, if there is one.
 fn write_escaped<W: PieceWriter>(writer: &mut W, escape: &str, c: char) -> Result<(), AllocError>
     ensures ok { OnOk result (writer.new ≡ steps W.step (escaped_by escape.now (long_escape c)) writer.old) }
     ensures err { OnErr result (StopsIn W.step W.refuses
         (escaped_by escape.now (long_escape c)) writer.old writer.new) }
 {
-    if escape.is_empty() {
-        return write_long_escape(writer, c);
+    if !escape.is_empty() {
+        return writer.text(escape);
     }
-    writer.text(escape)
+    if c.is_ascii_control() {
+        writer.text("\\u{")?;
+        write_hexadecimal(writer, c as u8)?;
+        return writer.text("}");
+    }
+    let mut bytes = [0u8; 4];
+    writer.text(c.encode_utf8(&mut bytes))
 }
 
 fn write_byte<W: PieceWriter>(writer: &mut W, byte: u8) -> Result<(), AllocError>
     ensures ok { OnOk result (writer.new ≡ steps W.step (byte_pieces byte) writer.old) }
     ensures err { OnErr result (StopsIn W.step W.refuses (byte_pieces byte) writer.old writer.new) }
 {
-    let escape = escape_in_bytes(byte);
-    if escape.is_empty() {
-        return write_byte_escape(writer, byte);
+    let escape = if byte == 0 {
+        ""
+    } else {
+        short_escape(byte as char)
+    };
+    if !escape.is_empty() {
+        return writer.text(escape);
     }
-    writer.text(escape)
+    if byte < 32 || 126 < byte {
+        writer.text("\\x")?;
+        return write_two_digits(writer, byte);
+    }
+    let mut bytes = [0u8; 4];
+    writer.text((byte as char).encode_utf8(&mut bytes))
 }
 
 fn write_string_chars<W: PieceWriter>(writer: &mut W, text: &str) -> Result<(), AllocError>
@@ -168,7 +110,8 @@ fn write_string_chars<W: PieceWriter>(writer: &mut W, text: &str) -> Result<(), 
 {
     let mut rest = text.chars();
     while let Some(c) = rest.next() {
-        write_escaped(writer, escape_in_string(c), c)?;
+        let escape = if c == '\'' { "" } else { short_escape(c) };
+        write_escaped(writer, escape, c)?;
     }
     Ok(())
 }

@@ -15,8 +15,7 @@ loop-line-preserved c =
       common_steps,
       split_parts 10 _ _ c.split_once.ensures.cases (omega arith),
       put_all-append,
-      grown_then c.loop-line.invariant.grown (grown_then c.in_ok-line.ensures.grown c.in_ok-line_end.ensures.grown),
-      grown_then c.in_ok-line.ensures.grown c.in_ok-line_end.ensures.grown,
+      grown_then c.loop-line.invariant.grown (grown_then c.in_ok-line.ensures.grown (grown_then c.in_ok-begin.ensures.grown c.in_ok-end_line.ensures.grown)),
     )
 
 pub line-requires-2 : goal.line-requires-2
