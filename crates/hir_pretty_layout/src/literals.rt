@@ -65,7 +65,7 @@ fn write_hexadecimal<W: PieceWriter>(writer: &mut W, number: u8) -> Result<(), A
     write_digit(writer, number)
 }
 
-/// Writes a character by its short escape, if there is one.
+/// Writes a character by its short escape, if there is one, and else an ASCII control as `\u{..}`.
 fn write_escaped<W: PieceWriter>(writer: &mut W, escape: &str, c: char) -> Result<(), AllocError>
     ensures ok { OnOk result (writer.new ≡ steps W.step (escaped_by escape.now (long_escape c)) writer.old) }
     ensures err { OnErr result (StopsIn W.step W.refuses
@@ -83,6 +83,7 @@ fn write_escaped<W: PieceWriter>(writer: &mut W, escape: &str, c: char) -> Resul
     writer.text(c.encode_utf8(&mut bytes))
 }
 
+/// Writes a byte by its short escape, if it has one in bytes, and else, if it is not printable, as `\x..`.
 fn write_byte<W: PieceWriter>(writer: &mut W, byte: u8) -> Result<(), AllocError>
     ensures ok { OnOk result (writer.new ≡ steps W.step (byte_pieces byte) writer.old) }
     ensures err { OnErr result (StopsIn W.step W.refuses (byte_pieces byte) writer.old writer.new) }
