@@ -1,5 +1,6 @@
 -- What a page becomes as the text grows.
-use Rattle.std.proofs.Common.{◌≡◌, ℕ, suc, false, List, [], ◌∷◌, ◌++◌, length, get_or, take, replicate, ◌-◌, ◌*◌, ◌≢◌, ◌==◌, ◌||◌, nat_lt, refl, sym, ap, ◌∙◌, arith, ◌≤◌, subst, append_assoc, append-nil, rules}
+use Rattle.std.proofs.Common.{◌≡◌, ℕ, suc, false, List, [], ◌∷◌, ◌++◌, length, get_or, take, replicate, ◌-◌, ◌*◌, ◌≢◌, ◌==◌, ◌||◌}
+use Rattle.std.proofs.Common.{nat_lt, refl, sym, ap, ◌∙◌, arith, ◌≤◌, subst, append_assoc, append-nil, rules}
 use Rattle.std.proofs.lemmas.Bool.Decides.{nat_tests}
 use Rattle.hir_pretty_layout.specs.declared.line_format.LineFormat.{LineFormat}
 use Rattle.hir_pretty_layout.specs.declared.line_format.LineFormat.TheVariants.{Indentation}
@@ -18,13 +19,16 @@ use Rattle.std.proofs.lemmas.Grind.{common_steps}
 abbrev pub page : List ℕ → ℕ → LineFormat → Page
 page bs level format = let l = lines_of bs in record { above = l.0; last = l.1; level = level; format = format }
 
-pub page_plain : (bs cs : List ℕ) (level : ℕ) (format : LineFormat) → HasNoEnd cs → page (bs ++ cs) level format ≡ record (page bs level format) { last = (lines_of bs).1 ++ cs }
+pub page_plain : (bs cs : List ℕ) (level : ℕ) (format : LineFormat) → HasNoEnd cs
+    → page (bs ++ cs) level format ≡ record (page bs level format) { last = (lines_of bs).1 ++ cs }
 page_plain bs cs level format h = let make : Lines → Page = λ l. record { above = l.0; last = l.1; level = level; format = format } in ap make (lines_of-plain bs cs h)
 
-pub page_spaces : (bs : List ℕ) (n level : ℕ) (format : LineFormat) → page (bs ++ replicate n 32) level format ≡ record (page bs level format) { last = (lines_of bs).1 ++ replicate n 32 }
+pub page_spaces : (bs : List ℕ) (n level : ℕ) (format : LineFormat)
+    → page (bs ++ replicate n 32) level format ≡ record (page bs level format) { last = (lines_of bs).1 ++ replicate n 32 }
 page_spaces bs n level format = page_plain bs (replicate n 32) level format (no_end_in_spaces n)
 
-pub page_end : (bs : List ℕ) (level : ℕ) (format : LineFormat) → page (bs ++ (10 ∷ [])) level format ≡ record { above = (lines_of bs).1 ∷ (lines_of bs).0; last = []; level = level; format = format }
+pub page_end : (bs : List ℕ) (level : ℕ) (format : LineFormat)
+    → page (bs ++ (10 ∷ [])) level format ≡ record { above = (lines_of bs).1 ∷ (lines_of bs).0; last = []; level = level; format = format }
 page_end bs level format = let make : Lines → Page = λ l. record { above = l.0; last = l.1; level = level; format = format } in ap make (lines_of-end bs)
 
 -- whether the last line is blank, by the trimmed length
@@ -44,7 +48,8 @@ module _ (text : List ℕ) (len level : ℕ) (t : IsTrimmedLen text len) (some :
   one_end : (format : LineFormat) → page (take len text ++ (10 ∷ [])) level format ≡ ended (record (page text level format) { last = trim (lines_of text).1 })
   one_end format = page_end (take len text) level format ∙ ap ended (page_trimmed text len level format t)
 
-  pub ended_in_line : (format : LineFormat) → format ≢ Indentation → page (take len text ++ (10 ∷ [])) level (format_after_end format) ≡ line_ended (page text level format)
+  pub ended_in_line : (format : LineFormat) → format ≢ Indentation
+      → page (take len text ++ (10 ∷ [])) level (format_after_end format) ≡ line_ended (page text level format)
   ended_in_line format ne = one_end (format_after_end format) ∙ sym (one_line_ended (lines_of text).0 (lines_of text).1 level format ne some)
 
   pub ended_twice : page (((take len text ++ (10 ∷ [])) ++ replicate (4 * level) 32) ++ (10 ∷ [])) level Indentation ≡ line_ended (page text level Indentation)
@@ -86,7 +91,8 @@ grown_by bs added level format = record { added = added; text = text_of_lines (b
 pub grown_back : (bs cs : List ℕ) {l m : ℕ} {f g : LineFormat} (n : ℕ) → n ≡ length bs → IsGrown (page bs l f) (page cs m g) → take n cs ≡ bs
 grown_back bs cs n e h = search (rules, text_of_lines, take-append_seam)
 
-pub grown_cut : (bs cs : List ℕ) {l m : ℕ} {f g : LineFormat} (n : ℕ) → IsUtf8 bs → IsUtf8 cs → n ≡ length bs → n ≤ length cs → IsGrown (page bs l f) (page cs m g) → IsSplitPoint cs n
+pub grown_cut : (bs cs : List ℕ) {l m : ℕ} {f g : LineFormat} (n : ℕ) → IsUtf8 bs → IsUtf8 cs → n ≡ length bs → n ≤ length cs
+    → IsGrown (page bs l f) (page cs m g) → IsSplitPoint cs n
 grown_cut bs cs n u v e le h =
     let b = IsCharBoundary-from_take cs n v le (subst IsUtf8 (sym (grown_back bs cs n e h)) u) in
     (b.0, λ some. b.1)

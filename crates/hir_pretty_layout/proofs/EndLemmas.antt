@@ -1,5 +1,7 @@
 -- The end of a text: its trailing spaces and what stands before them.
-use Rattle.std.proofs.Common.{◌≡◌, ◌≢◌, ℕ, zero, suc, ◌+◌, ◌-◌, ◌<◌, ◌≤◌, Bool, true, false, List, [], ◌∷◌, ◌++◌, length, get_or, take, drop, take-append-drop, replicate, ◌==◌, ◌||◌, cond, refl, sym, ap, ap₂, ◌∙◌, nat_lt, append-nil, arith, ◌*◌, length-append, rules}
+use Rattle.std.proofs.Common.{◌≡◌, ◌≢◌, ℕ, zero, suc, ◌+◌, ◌-◌, ◌<◌, ◌≤◌, Bool, true, false, List, [], ◌∷◌, ◌++◌, length, get_or}
+use Rattle.std.proofs.Common.{take, drop, take-append-drop, replicate, ◌==◌, ◌||◌, cond, refl, sym, ap, ap₂, ◌∙◌, nat_lt}
+use Rattle.std.proofs.Common.{append-nil, arith, ◌*◌, length-append, rules}
 use Rattle.std.proofs.lemmas.Bool.Decides.{nat_tests}
 use Rattle.std.proofs.lemmas.Grind.{common_steps}
 use Rattle.std.proofs.lemmas.List.{drop_more, take_more, take_all, drop-append-le, length-replicate, get_or_append_left, get_or-append-add, replicate-append-replicate}
@@ -166,7 +168,8 @@ cut_done [] h = ap (λ l. cut_lines l.0 l.1) lines_of-nil ∙ sym lines_of-nil
 cut_done (b ∷ bs) h = search (rules, lines_in_line, cut_push)
 
 -- a text that does is cut as the text before its last character
-pub cut_more : (text : List ℕ) → text ≡ take (length text - 1) text ++ (10 ∷ []) → cut_lines (lines_of text).0 (lines_of text).1 ≡ (let l = lines_of (take (length text - 1) text) in cut_lines l.0 l.1)
+pub cut_more : (text : List ℕ) → text ≡ take (length text - 1) text ++ (10 ∷ [])
+    → cut_lines (lines_of text).0 (lines_of text).1 ≡ (let l = lines_of (take (length text - 1) text) in cut_lines l.0 l.1)
 cut_more text e = ap (λ l. cut_lines l.0 l.1) (ap lines_of e ∙ lines_of-end (take (length text - 1) text))
 
 -- The length of a text without its trailing spaces, as the text grows.
@@ -192,6 +195,7 @@ pub indentation_more : (spaces : List ℕ) → spaces ≡ replicate (4 * level_o
 indentation_more spaces e =
     let level = level_of spaces in
     let sum : 4 * level + 4 ≡ 4 * (level + 1) = omega arith in
-    let more : spaces ++ replicate 4 32 ≡ replicate (4 * (level + 1)) 32 = ap (λ s. s ++ replicate 4 32) e ∙ replicate-append-replicate (4 * level) 4 32 ∙ ap (λ k. replicate k 32) sum in
+    let more : spaces ++ replicate 4 32 ≡ replicate (4 * (level + 1)) 32 = ap (λ s. s ++ replicate 4 32) e
+    ∙ replicate-append-replicate (4 * level) 4 32 ∙ ap (λ k. replicate k 32) sum in
     let is = level_is (spaces ++ replicate 4 32) (level + 1) more in
     (more ∙ ap (λ l. replicate (4 * l) 32) (sym is), is)

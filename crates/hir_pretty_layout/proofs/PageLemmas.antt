@@ -1,5 +1,6 @@
 -- How lines grow.
-use Rattle.std.proofs.Common.{◌≡◌, ◌≢◌, ℕ, suc, ◌<◌, Bool, true, false, List, [], ◌∷◌, ◌++◌, length, ◌==◌, cond, refl, sym, ap, ◌∙◌, append_assoc, append-nil, arith, ◌*◌, replicate, rules}
+use Rattle.std.proofs.Common.{◌≡◌, ◌≢◌, ℕ, suc, ◌<◌, Bool, true, false, List, [], ◌∷◌, ◌++◌, length, ◌==◌, cond, refl, sym, ap}
+use Rattle.std.proofs.Common.{◌∙◌, append_assoc, append-nil, arith, ◌*◌, replicate, rules}
 use Rattle.std.proofs.lemmas.Bool.Decides.{nat_tests}
 use Rattle.hir_pretty_layout.specs.declared.line_format.LineFormat.{LineFormat}
 use Rattle.hir_pretty_layout.specs.declared.line_format.LineFormat.TheVariants.{Oneline, Newline, Indentation}
@@ -38,14 +39,16 @@ put_plain c p ne = search (rules, not_end)
 
 -- a character that is no line end, within a line
 put_in_line : (c : ℕ) (above : List (List ℕ)) (last : List ℕ) (level : ℕ) (format : LineFormat) → c ≢ 10
-    → put c (record { above = above; last = last; level = level; format = format_in_line format }) ≡ record { above = above; last = last ++ (c ∷ []); level = level; format = format_in_line format }
+    → put c (record { above = above; last = last; level = level; format = format_in_line format })
+    ≡ record { above = above; last = last ++ (c ∷ []); level = level; format = format_in_line format }
 put_in_line c above last level Oneline ne = put_plain c (record { above = above; last = last; level = level; format = Oneline }) ne
 put_in_line c above last level Newline ne = put_plain c (record { above = above; last = last; level = level; format = Newline }) ne
 put_in_line c above last level Indentation ne = put_plain c (record { above = above; last = last; level = level; format = Newline }) ne
 
 -- a text without a line end, within a line
 put_all-plain : (above : List (List ℕ)) (last : List ℕ) (level : ℕ) (format : LineFormat) (cs : List ℕ) → HasNoEnd cs
-    → put_all cs (record { above = above; last = last; level = level; format = format_in_line format }) ≡ record { above = above; last = last ++ cs; level = level; format = format_in_line format }
+    → put_all cs (record { above = above; last = last; level = level; format = format_in_line format })
+    ≡ record { above = above; last = last ++ cs; level = level; format = format_in_line format }
 put_all-plain above last level format [] h = search (rules, append-nil)
 put_all-plain above last level format (c ∷ cs) h =
     let page : List ℕ → Page = λ l. record { above = above; last = l; level = level; format = format_in_line format } in
@@ -57,7 +60,8 @@ pub put_all_in_line : (p : Page) (cs : List ℕ) → p.format ≡ format_in_line
 put_all_in_line p cs e h = grind (arith, common_steps, put_all-plain p.above p.last p.level p.format cs h)
 
 -- a text that is not empty and has no line end
-pub put_line : (p : Page) (cs : List ℕ) → 0 < length cs → HasNoEnd cs → put_all cs p ≡ (let q = begin p in record q { last = q.last ++ cs; format = format_in_line p.format })
+pub put_line : (p : Page) (cs : List ℕ) → 0 < length cs → HasNoEnd cs
+    → put_all cs p ≡ (let q = begin p in record q { last = q.last ++ cs; format = format_in_line p.format })
 put_line p [] lt h = absurd (omega arith)
 put_line p (c ∷ cs) lt h =
     let q = begin p in
@@ -92,7 +96,8 @@ begun_format p = search rules
 
 -- What a break makes of a line that is not blank, within it and where the next text begins a line.
 
-still_not_blank : (cs : List ℕ) (b : Bool) → cond b (is_blank cs) false ≡ false → (is_blank cs ≡ false → is_blank (trim cs) ≡ false) → cond b (is_blank (trim cs)) false ≡ false
+still_not_blank : (cs : List ℕ) (b : Bool) → cond b (is_blank cs) false ≡ false
+    → (is_blank cs ≡ false → is_blank (trim cs) ≡ false) → cond b (is_blank (trim cs)) false ≡ false
 still_not_blank cs true e h = h e
 still_not_blank cs false e h = refl
 
@@ -101,7 +106,8 @@ trimmed_not_blank [] e = e
 trimmed_not_blank (c ∷ cs) e = ap (λ b. is_blank (cond b [] (c ∷ trim cs))) e ∙ still_not_blank cs (c == 32) e (trimmed_not_blank cs)
 
 pub one_line_ended : (above : List (List ℕ)) (last : List ℕ) (level : ℕ) (format : LineFormat) → format ≢ Indentation → is_blank last ≡ false
-    → line_ended (record { above = above; last = last; level = level; format = format }) ≡ record { above = trim last ∷ above; last = []; level = level; format = format_after_end format }
+    → line_ended (record { above = above; last = last; level = level; format = format })
+    ≡ record { above = trim last ∷ above; last = []; level = level; format = format_after_end format }
 one_line_ended above last level Oneline ne h = search rules
 one_line_ended above last level Newline ne h = search rules
 one_line_ended above last level Indentation ne h = absurd (ne refl)

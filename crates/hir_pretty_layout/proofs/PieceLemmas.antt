@@ -1,5 +1,6 @@
 -- Lists of pieces, written one after another.
-use Rattle.std.proofs.Common.{◌≡◌, ◌⊎◌, ℕ, ◌<◌, ◌≤◌, true, false, List, [], ◌∷◌, ◌++◌, length, cond, ◌==◌, nat_lt, codes, refl, sym, ap, subst, ◌∙◌, append_assoc, append-nil, arith, rules}
+use Rattle.std.proofs.Common.{◌≡◌, ◌⊎◌, ℕ, ◌<◌, ◌≤◌, true, false, List, [], ◌∷◌, ◌++◌, length, cond, ◌==◌, nat_lt, codes, refl}
+use Rattle.std.proofs.Common.{sym, ap, subst, ◌∙◌, append_assoc, append-nil, arith, rules}
 use Rattle.std.specs.Prelude.{Result, Ok, Err, OnErr}
 use Rattle.std.specs.Char.{digit_char, encode_utf8, is_ascii_control}
 use Rattle.std.proofs.lemmas.Bool.Decides.{nat_tests}
@@ -28,14 +29,16 @@ module _ {W : Type 0} {step : Layout → W → W} where
   pub all_left : {ps : List Layout} {value : W} → LeftOf step ps ps value value
   all_left = record { done = []; parts = refl; value = refl }
 
-  pub some_written : {whole : List Layout} (ps : List Layout) {rest : List Layout} {old between new : W} → LeftOf step whole (ps ++ rest) old between → new ≡ steps step ps between → LeftOf step whole rest old new
+  pub some_written : {whole : List Layout} (ps : List Layout) {rest : List Layout} {old between new : W}
+      → LeftOf step whole (ps ++ rest) old between → new ≡ steps step ps between → LeftOf step whole rest old new
   some_written ps {rest} {old} l e = grind (arith, common_steps, append_assoc l.done ps rest, steps-append step l.done ps old)
 
   pub none_left : {whole : List Layout} {old new : W} → LeftOf step whole [] old new → new ≡ steps step whole old
   none_left {old = old} l = l.value ∙ ap (λ ps. steps step ps old) (sym (l.parts ∙ append-nil l.done))
 
 module _ {W : Type 0} {step : Layout → W → W} {refuses : Layout → W → W → Type 0} where
-  pub stops_in_rest : {whole ps : List Layout} (rest : List Layout) {old between new : W} → LeftOf step whole (ps ++ rest) old between → StopsIn step refuses ps between new → StopsIn step refuses whole old new
+  pub stops_in_rest : {whole ps : List Layout} (rest : List Layout) {old between new : W}
+      → LeftOf step whole (ps ++ rest) old between → StopsIn step refuses ps between new → StopsIn step refuses whole old new
   stops_in_rest rest {old} {new = new} l s =
       grind (
         arith,
@@ -49,7 +52,8 @@ module _ {W : Type 0} {step : Layout → W → W} {refuses : Layout → W → W 
   pub stops_here : {p : Layout} {ps : List Layout} {old new : W} → refuses p old new → StopsIn step refuses (p ∷ ps) old new
   stops_here {p} {ps} r = record { before = []; refused = p; after = ps; parts = refl; value = r }
 
-  pub stops_next : {p : Layout} {ps : List Layout} {old between new : W} → between ≡ step p old → StopsIn step refuses ps between new → StopsIn step refuses (p ∷ ps) old new
+  pub stops_next : {p : Layout} {ps : List Layout} {old between new : W} → between ≡ step p old
+      → StopsIn step refuses ps between new → StopsIn step refuses (p ∷ ps) old new
   stops_next {p} {new = new} e s = record {
     before = p ∷ s.before;
     refused = s.refused;
@@ -59,10 +63,12 @@ module _ {W : Type 0} {step : Layout → W → W} {refuses : Layout → W → W 
   }
 
   -- pieces between two others
-  pub stops_inside : {first : Layout} (last : Layout) {ps : List Layout} {old one new : W} → one ≡ step first old → StopsIn step refuses ps one new → StopsIn step refuses (first ∷ (ps ++ (last ∷ []))) old new
+  pub stops_inside : {first : Layout} (last : Layout) {ps : List Layout} {old one new : W} → one ≡ step first old
+      → StopsIn step refuses ps one new → StopsIn step refuses (first ∷ (ps ++ (last ∷ []))) old new
   stops_inside last e s = stops_next e (stops_in_rest (last ∷ []) all_left s)
 
-  pub stops_at_last : {first : Layout} (last : Layout) (ps : List Layout) {old one two new : W} → one ≡ step first old → two ≡ steps step ps one → refuses last two new → StopsIn step refuses (first ∷ (ps ++ (last ∷ []))) old new
+  pub stops_at_last : {first : Layout} (last : Layout) (ps : List Layout) {old one two new : W} → one ≡ step first old
+      → two ≡ steps step ps one → refuses last two new → StopsIn step refuses (first ∷ (ps ++ (last ∷ []))) old new
   stops_at_last last ps e f r = stops_next e (stops_in_rest [] (some_written ps all_left f) (stops_here {p = last} {ps = []} r))
 
 pub long_plain : (c : ℕ) → is_ascii_control c ≡ false → long_escape c ≡ Text (encode_utf8 c) ∷ []

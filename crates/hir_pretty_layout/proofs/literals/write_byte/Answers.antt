@@ -11,7 +11,11 @@ unescaped b escape e empty = no_escape (escape_in_bytes b) (byte_escape b) (sym 
 
 pub returns-in_err-text-clause-err : goal.returns-in_err-text-clause-err
 returns-in_err-text-clause-err g c =
-    rw (unescaped c.args.byte c.if-byte-eq0.escape.now (search (rules, nat_tests)) c.if-not-is_empty.ensures, byte_coded c.args.byte c.then-byte-lt32.either) (on_err _ (stops_here c.in_err-text.ensures.err))
+    rw (
+      unescaped c.args.byte c.if-byte-eq0.escape.now (search (rules, nat_tests))
+          c.if-not-is_empty.ensures,
+      byte_coded c.args.byte c.then-byte-lt32.either,
+    ) (on_err _ (stops_here c.in_err-text.ensures.err))
 
 pub returns-then-byte-lt32-clause-err : goal.returns-then-byte-lt32-clause-err
 returns-then-byte-lt32-clause-err g c =

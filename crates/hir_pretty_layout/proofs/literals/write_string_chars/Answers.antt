@@ -28,7 +28,8 @@ returns-in_err-write_escaped-clause-err g c =
     let rest = c.next.new.self.rest.now in
     let escape : c.if-c-eq39.escape.now ≡ escape_in_string c.in-Some.c = search (rules, nat_tests) in
     let is = c.in-Some.ensures.steps.0 in
-    on_err _ (stops_in_rest _ (rw (chars_past_char text rest c.in-Some.c c.loop-c.invariant.utf8 is) at c.loop-c.invariant.left) (rw escape at c.in_err-write_escaped.ensures.err))
+    on_err _ (stops_in_rest _ (rw (chars_past_char text rest c.in-Some.c c.loop-c.invariant.utf8 is) at c.loop-c.invariant.left)
+    (rw escape at c.in_err-write_escaped.ensures.err))
 
 pub returns-clause-ok : goal.returns-clause-ok
 returns-clause-ok g c =

@@ -12,7 +12,8 @@ truncate-requires c =
     let new = c.self-2.inside in
     let grown : IsGrown (page_of old) (page_of new) = rw (c.self.view_is, c.self-2.view_is) c.lines-written.ensures.grown in
     let len : c.len-len.result ≡ length (string_bytes old.text) = omega (arith, c.len-len.ensures, old.text.bytes.ok.0) in
-    λ within. grown_cut (string_bytes old.text) (string_bytes new.text) c.len-len.result (IsUtf8-string_bytes old.text) (IsUtf8-string_bytes new.text) len (omega (arith, within, new.text.bytes.ok.0)) grown
+    λ within. grown_cut (string_bytes old.text) (string_bytes new.text) c.len-len.result (IsUtf8-string_bytes old.text)
+    (IsUtf8-string_bytes new.text) len (omega (arith, within, new.text.bytes.ok.0)) grown
 
 pub invariant_of-self : goal.invariant_of-self
 invariant_of-self c =
@@ -20,7 +21,8 @@ invariant_of-self c =
     let new = c.self-2.inside in
     let grown : IsGrown (page_of old) (page_of new) = rw (c.self.view_is, c.self-2.view_is) c.lines-written.ensures.grown in
     let len : c.len-len.result ≡ length (string_bytes old.text) = omega (arith, c.len-len.ensures, old.text.bytes.ok.0) in
-    let bytes : string_bytes c.truncate.new.self ≡ string_bytes old.text = c.truncate.ensures.bytes ∙ grown_back (string_bytes old.text) (string_bytes new.text) c.len-len.result len grown in
+    let bytes : string_bytes c.truncate.new.self ≡ string_bytes old.text = c.truncate.ensures.bytes
+    ∙ grown_back (string_bytes old.text) (string_bytes new.text) c.len-len.result len grown in
     record { kept = rw bytes c.self.invariant.kept; spaces = c.self-2.invariant.spaces }
 
 pub returns-then-is_err-clause-err : goal.returns-then-is_err-clause-err
@@ -29,5 +31,6 @@ returns-then-is_err-clause-err c =
     let new = c.self-2.inside in
     let grown : IsGrown (page_of old) (page_of new) = rw (c.self.view_is, c.self-2.view_is) c.lines-written.ensures.grown in
     let len : c.len-len.result ≡ length (string_bytes old.text) = omega (arith, c.len-len.ensures, old.text.bytes.ok.0) in
-    let bytes : string_bytes c.truncate.new.self ≡ string_bytes old.text = c.truncate.ensures.bytes ∙ grown_back (string_bytes old.text) (string_bytes new.text) c.len-len.result len grown in
+    let bytes : string_bytes c.truncate.new.self ≡ string_bytes old.text = c.truncate.ensures.bytes
+    ∙ grown_back (string_bytes old.text) (string_bytes new.text) c.len-len.result len grown in
     on_err _ (ap₂ (λ bs l. page bs l old.format) bytes grown.level ∙ c.self.view_is)

@@ -22,4 +22,5 @@ returns-clause-ok c =
     let some = rw (← c.self.view_is) at (sym c.ends_in_blank_line.ensures ∙ c.if-ends_in_blank_line.false) in
     let not : old.format ≢ Indentation = λ e. search rules in
     let bytes = c.in_ok-push-3.ensures.bytes ∙ ap₂ ◌++◌ c.truncate-2.ensures.bytes (c.in_ok-push-3.ensures.ascii (omega arith)) in
-    rw (← c.self.view_is, bytes, c.after_end-after.ensures) (ended_in_line (string_bytes old.text) old.kept (level_of (string_bytes old.indentation)) c.self.invariant.kept some old.format not)
+    rw (← c.self.view_is, bytes, c.after_end-after.ensures)
+    (ended_in_line (string_bytes old.text) old.kept (level_of (string_bytes old.indentation)) c.self.invariant.kept some old.format not)
