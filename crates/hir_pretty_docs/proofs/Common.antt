@@ -1,9 +1,9 @@
 -- The names that proofs of documents and tokens cite, passed on from one place. Declares nothing.
-pub use Rattle.std.proofs.Common.{refl, sym, subst, ◌≡◌, ◌∙◌, arith, map, drop, flat_map, ap, ap₂, ◌-◌, ◌<◌, ◌&&◌, ◌==◌, ◌++◌, ◌∷◌, [], ℕ, false, length, take, get_or, nat_lt, codes, Ok, append-nil, append_assoc}
+pub use Rattle.std.proofs.Common.{option_copied, refl, sym, subst, ◌≡◌, ◌∙◌, arith, map, drop, flat_map, ap, ap₂, ◌-◌, ◌<◌, ◌&&◌, ◌||◌, not, ◌==◌, ◌++◌, ◌∷◌, [], ℕ, false, length, take, get_or, nat_lt, codes, Ok, append-nil, append_assoc}
 pub use Rattle.std.specs.List.{enumerate_from, list_any}
 pub use Rattle.std.proofs.lemmas.Result.{on_ok_weaker}
 pub use Rattle.hir_collections.proofs.DeferredLemmas.{defers_none}
-pub use Rattle.hir_pretty_docs.specs.Prelude.{MissingDoc, t, p, opt, type_param_docs, stood_after, field_patterns, text, params, comma_joined, following, sp, under, label_before, unsafe_docs, inside_block, segments_from, supers, when, join, arg_docs, assoc_docs, name_docs, target_docs, binding_docs, exprs_docs}
+pub use Rattle.hir_pretty_docs.specs.Prelude.{PrintEnv, field_pattern, MissingDoc, t, p, opt, type_param_docs, stood_after, field_patterns, text, params, comma_joined, following, sp, under, label_before, unsafe_docs, inside_block, segments_from, supers, when, join, arg_docs, assoc_docs, name_docs, target_docs, binding_docs, exprs_docs, Adds, after_last, ending_docs, spread_docs, closure_head, capture_keyword, start_docs, extern_docs, with_rest, header}
 pub use Rattle.hir_pretty_docs.proofs.AddLemmas.{checked, deferred_more, adds, adds_none, adds_then, adds_more, adds_as, left_begins, left_goes_on, left_ends, AddsRest}
 pub use Rattle.hir_pretty_docs.proofs.ArgsDocs.{assoc_docs_is}
 pub use Rattle.hir_pretty_docs.proofs.FieldLemmas.{field_step, no_fields, param_step, no_args, no_types, record_rest, record_plain}

@@ -71,9 +71,10 @@ with_tail (x ∷ xs) tail = refl
 
 -- 3. Bounds and generic arguments
 
-pub bounds_is : (s : PrintEnv) (bs : List TypeBound) → when (not (length bs == 0)) (text (codes ": ")) ++ bounds_docs s bs ≡ bounds_after s bs
-bounds_is s [] = refl
-bounds_is s (b ∷ bs) = ap (λ c. when c (text (codes ": ")) ++ bounds_docs s (b ∷ bs)) (not_empty (b ∷ bs))
+pub bounds_is : (s : PrintEnv) (bs : List TypeBound) (b : Bool) → (IsTrue b → bs ≡ []) × (bs ≡ [] → IsTrue b)
+    → when (not b) (text (codes ": ")) ++ bounds_docs s bs ≡ bounds_after s bs
+bounds_is s [] b k = ap (λ c. when c (text (codes ": ")) ++ bounds_docs s []) (filled [] b k)
+bounds_is s (x ∷ bs) b k = ap (λ c. when c (text (codes ": ")) ++ bounds_docs s (x ∷ bs)) (filled (x ∷ bs) b k)
 
 each_is : (s : PrintEnv) (self : Bool) (args : List GenericArg) (bs : List (List Doc))
     → when (is_cons args && self) (text (codes "Self=")) ++ join (text (codes ", ")) (map (arg_docs s) args) ++ following (text (codes ", ")) (is_cons args) bs ≡ comma_joined (each_arg s self args ++ bs)

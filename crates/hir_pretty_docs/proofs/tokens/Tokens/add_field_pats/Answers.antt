@@ -1,11 +1,24 @@
-use Rattle.hir_pretty_docs.proofs.Common.{◌-◌, refl, sym, ap, ◌∙◌, length, take, drop, adds, adds_then, left_begins, left_goes_on, field_patterns, parts, field_step}
+use Rattle.hir_pretty_docs.proofs.Common.{◌≡◌, ◌++◌, ◌||◌, not, ◌-◌, PrintEnv, field_pattern, refl, sym, ap, ◌∙◌, length, take, drop, adds, adds_then, left_begins, left_goes_on, field_patterns, after_last, parts, field_step}
 use Rattle.hir_pretty_docs.proofs.tokens.Tokens.add_field_pats.Goals as goal
+use Rattle.hir_pretty_docs.proofs.tokens.Tokens.add_field_pats.Goals.{After-is_empty}
 
 pub loop-left-init : goal.loop-left-init
 loop-left-init c = left_begins (λ s. refl)
 
+field_added : (c : After-is_empty) (s : PrintEnv) →
+    field_pattern s c.field-item.result ++ after_last s (c.args.rest || not c.is_empty.result) ++ field_patterns s c.args.rest (take (length c.loop-left.left.now - 1) (drop 1 c.loop-left.left.now))
+    ≡ field_patterns s c.args.rest c.loop-left.left.now
+field_added c s =
+    let left = c.loop-left.left.now in
+    rw c.is_empty.ensures (field_step s c.args.rest c.field-item.result (take (length left - 1) (drop 1 left))
+    ∙ ap (field_patterns s c.args.rest) (sym (parts left c.field-item.result c.in-len1-up.len_at_least c.field-item.is)))
+
+pub loop-left-preserved-then-rest-is_empty : goal.loop-left-preserved-then-rest-is_empty
+loop-left-preserved-then-rest-is_empty c =
+    left_goes_on c.loop-left.invariant (adds_then (adds c.add.ensures (λ s. refl)) (adds c.add-then-rest-is_empty.ensures (λ s. ap (after_last s) (sym c.if-rest-is_empty.true))))
+    (field_added (goal.at.loop-left-preserved-then-rest-is_empty c).After-is_empty)
+
 pub loop-left-preserved : goal.loop-left-preserved
 loop-left-preserved c =
-    let left = c.loop-left.left.now in
-    left_goes_on c.loop-left.invariant (adds_then (adds c.add.ensures (λ s. refl)) (rw c.is_empty.ensures at c.add_field_end.ensures))
-    (λ s. field_step s c.args.rest c.field-item.result (take (length left - 1) (drop 1 left)) ∙ ap (field_patterns s c.args.rest) (sym (parts left c.field-item.result c.in-len1-up.len_at_least c.field-item.is)))
+    left_goes_on c.loop-left.invariant (adds_then (adds c.add.ensures (λ s. refl)) (adds c.add-else-rest-is_empty.ensures (λ s. ap (after_last s) (sym c.if-rest-is_empty.false))))
+    (field_added (goal.at.loop-left-preserved c).After-is_empty)
