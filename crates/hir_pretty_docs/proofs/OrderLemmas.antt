@@ -1,5 +1,5 @@
 -- Items by what a list has: none, one, or more.
-use Rattle.std.proofs.Common.{◌≡◌, ℕ, zero, suc, ◌+◌, ◌-◌, ◌<◌, ◌≤◌, Bool, true, false, List, [], ◌∷◌, ◌++◌, codes, map, take, drop, length, get_or, Option, Some, None, refl, sym, ap, ap₂, ◌∙◌, arith, append_assoc, append-nil, ◌==◌, ◌&&◌, not, IsTrue, is_none, is_some, flat_map, option_to_list, rules}
+use Rattle.std.proofs.Common.{◌≡◌, ℕ, zero, suc, ◌+◌, ◌-◌, ◌<◌, ◌≤◌, Bool, true, false, List, [], ◌∷◌, ◌++◌, codes, map, take, drop, length, get_or, Option, Some, None, refl, sym, ap, ap₂, ◌∙◌, arith, append_assoc, ◌==◌, ◌&&◌, not, IsTrue, is_none, is_some, flat_map, option_to_list, rules}
 use Rattle.std.proofs.lemmas.{Bool.cases_lt, Bool.Decides.nat_tests, List.take-map, List.drop-map, List.take_all, List.drop_all}
 use Rattle.std.proofs.lemmas.List.{length-map, Concat.flat_map-append}
 use Rattle.hir_node.specs.declared.{expr_types.Array.TheVariants.ElementList, expr_types.Statement.Statement}
@@ -59,15 +59,11 @@ no_statements [] None h = refl
 no_statements [] (Some t) h = absurd (cc)
 no_statements (x ∷ xs) tail h = absurd (let k = ap (λ b. b && is_none tail) (cons_length x xs) in cc)
 
-pub without_tail : (xs : List Statement) → ((length xs == 0) && true) ≡ false
-    → text (codes "{") ++ into ++ flat_map statement_docs xs ++ br ++ out ++ text (codes "}") ≡ text (codes "{") ++ inside_block xs None ++ text (codes "}")
-without_tail [] h = absurd (cc)
-without_tail (x ∷ xs) h = ap (λ is. text (codes "{") ++ (is ++ br ++ out) ++ text (codes "}")) (sym (append-nil (into ++ flat_map statement_docs (x ∷ xs))))
-
-pub with_tail : (xs : List Statement) (tail : ℕ)
-    → text (codes "{") ++ into ++ flat_map statement_docs xs ++ e tail ++ br ++ out ++ text (codes "}") ≡ text (codes "{") ++ inside_block xs (Some tail) ++ text (codes "}")
-with_tail [] tail = refl
-with_tail (x ∷ xs) tail = refl
+pub some_statements : (xs : List Statement) (tail : Option ℕ) → ((length xs == 0) && is_none tail) ≡ false
+    → text (codes "{") ++ into ++ flat_map statement_docs xs ++ opt e tail ++ br ++ out ++ text (codes "}") ≡ text (codes "{") ++ inside_block xs tail ++ text (codes "}")
+some_statements [] None h = absurd (cc)
+some_statements [] (Some t) h = refl
+some_statements (x ∷ xs) tail h = refl
 
 -- 3. Bounds and generic arguments
 

@@ -139,13 +139,12 @@ impl<'a> Tokens<'a> {
                 self.add(&[Token::Text("builtin#lang(")]);
                 self.add_target(*target);
                 match name {
-                    None => self.add(&[Token::Text(")")]),
-                    Some(name) => self.add(&[
-                        Token::Text("::"),
-                        Token::Name(name.get().as_str()),
-                        Token::Text(")"),
-                    ]),
+                    None => {}
+                    Some(name) => {
+                        self.add(&[Token::Text("::"), Token::Name(name.get().as_str())])
+                    }
                 }
+                self.add(&[Token::Text(")")])
             }
         }
     }

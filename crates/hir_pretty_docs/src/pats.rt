@@ -34,12 +34,7 @@ impl<'a> Tokens<'a> {
         self.add(&[Token::Text(" {"), Token::Indent]);
         self.add_field_pats(fields, rest);
         if rest {
-            return self.add(&[
-                Token::Text(".."),
-                Token::Break,
-                Token::Outdent,
-                Token::Text("}"),
-            ]);
+            self.add(&[Token::Text(".."), Token::Break]);
         }
         self.add(&[Token::Outdent, Token::Text("}")])
     }
@@ -114,8 +109,7 @@ impl<'a> Tokens<'a> {
                 self.add(&[Token::Text("]")])
             }
             Pat::Path(path) => self.add_path(path),
-            Pat::Lit(expr) => self.add_in_pat(Some(*expr)),
-            Pat::Expr(expr) => self.add_in_pat(Some(*expr)),
+            Pat::Lit(expr) | Pat::Expr(expr) => self.add_in_pat(Some(*expr)),
             Pat::Bind { id, subpat } => {
                 self.add_binding(*id);
                 match subpat {

@@ -1,16 +1,12 @@
-use Rattle.hir_pretty_docs.proofs.Common.{◌≡◌, ◌++◌, arith, refl, text, adds, adds_none, adds_then, adds_more, adds_as, Adds, params, header, closure_head, capture_keyword, barred_header}
+use Rattle.hir_pretty_docs.proofs.Common.{◌≡◌, ◌++◌, arith, rules, refl, text, adds, adds_none, adds_then, adds_more, adds_as, Adds, params, header, closure_head, capture_keyword, barred_header}
 use Rattle.hir_pretty_docs.proofs.tokens.Tokens.add_closure.Goals as goal
-use Rattle.hir_pretty_docs.proofs.tokens.Tokens.add_closure.Goals.{Joined-kind, in-Value, in-Ref, in-Closure, in-Coroutine}
-use Rattle.std.proofs.Common.{arith}
+use Rattle.hir_pretty_docs.proofs.tokens.Tokens.add_closure.Goals.{Joined-kind, in-Closure, in-Coroutine}
 
 -- what is before the body
 before_body : (c : Joined-kind) → Adds c.args.self.now.stack
     (λ s. text (closure_head c.args.kind) ++ text (capture_keyword c.args.capture) ++ header c.args.kind (params c.args.args.now c.args.arg_types.now) c.args.ret_type.now) c.match-kind.self.stack
 before_body c =
-    let keyword : c.match-capture.capture_keyword.now ≡ capture_keyword c.args.capture = elim c.match-capture.branch [
-      | in-Value w ↦ rw (w.capture_keyword-is, w.in-Value.is)
-      | in-Ref w ↦ rw (w.capture_keyword-is, w.in-Ref.is)
-    ] in
+    let keyword : c.match-capture.capture_keyword.now ≡ capture_keyword c.args.capture = search rules in
     let header_added : Adds c.add.new.self.stack (λ s. header c.args.kind (params c.args.args.now c.args.arg_types.now) c.args.ret_type.now) c.match-kind.self.stack = elim c.match-kind.branch [
       | in-Closure w ↦
           rw w.self-is (adds_as (adds_more (adds_then (adds_more (adds_then (adds w.add-in-Closure.ensures (λ s. refl)) w.add_params.ensures) w.add-in-Closure-2.ensures) w.add_after.ensures) w.add-in-Closure-3.ensures)

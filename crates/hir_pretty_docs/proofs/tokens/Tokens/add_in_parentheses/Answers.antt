@@ -1,7 +1,6 @@
 use Rattle.hir_pretty_docs.proofs.Common.{arith, map, refl, p, comma_joined, with_rest, adds, adds_then, adds_more, adds_as, Adds, rest_is}
 use Rattle.hir_pretty_docs.proofs.tokens.Tokens.add_in_parentheses.Goals as goal
 use Rattle.hir_pretty_docs.proofs.tokens.Tokens.add_in_parentheses.Goals.{in-None, in-Some}
-use Rattle.std.proofs.Common.{arith}
 
 pub returns : goal.returns
 returns c =

@@ -1,4 +1,4 @@
-use Rattle.hir_pretty_docs.proofs.Common.{refl, adds, adds_then, adds_more, adds_as, binding_docs, bound_to, slice_is}
+use Rattle.hir_pretty_docs.proofs.Common.{arith, refl, adds, adds_then, adds_more, adds_as, binding_docs, bound_to, slice_is}
 use Rattle.hir_pretty_docs.proofs.tokens.Tokens.add_pat.Goals as goal
 
 pub returns-in-Or : goal.returns-in-Or
@@ -21,7 +21,4 @@ returns-in-Slice c = rw c.in-Slice.is (adds_as (adds_more (adds_then (adds_then 
     (λ s. slice_is c.in-Slice.prefix c.in-Slice.suffix c.in-Slice.slice))
 
 pub returns-in-Lit : goal.returns-in-Lit
-returns-in-Lit c = rw c.in-Lit.is c.add_in_pat-in-Lit.ensures
-
-pub returns-in-Expr : goal.returns-in-Expr
-returns-in-Expr c = rw c.in-Expr.is c.add_in_pat-in-Expr.ensures
+returns-in-Lit c = adds_as c.add_in_pat-in-Lit.ensures (λ s. let h = c.in-Lit.is in grind arith)
