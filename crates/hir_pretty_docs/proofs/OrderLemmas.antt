@@ -31,17 +31,10 @@ filled (x ∷ xs) false k = refl
 
 -- 2. Arguments, elements and statements
 
-pub no_arguments : (xs : List ℕ) → (length xs == 0) ≡ true → text (codes "(") ++ text (codes ")") ≡ arguments xs
-no_arguments [] h = refl
-no_arguments (x ∷ xs) h = absurd (let k = cons_length x xs in cc)
-
 pub some_arguments : (xs : List ℕ) → (length xs == 0) ≡ false
     → text (codes "(") ++ into ++ flat_map (λ id. e id ++ text (codes ",") ++ br) xs ++ out ++ text (codes ")") ≡ arguments xs
 some_arguments [] h = absurd (cc)
 some_arguments (x ∷ xs) h = refl
-
-pub no_elements : (xs : List ℕ) → xs ≡ [] → text (codes "[]") ≡ array_docs (ElementList xs)
-no_elements xs h = sym (ap (λ ys. array_docs (ElementList ys)) h)
 
 pub some_elements : (xs : List ℕ) → (xs ≡ [] → ⊥)
     → text (codes "[") ++ into ++ flat_map (λ id. e id ++ text (codes ", ")) xs ++ out ++ br ++ text (codes "]") ≡ array_docs (ElementList xs)
@@ -53,11 +46,6 @@ none_is None true h = refl
 none_is None false h = absurd (cc)
 none_is (Some x) true h = absurd (cc)
 none_is (Some x) false h = refl
-
-pub no_statements : (xs : List Statement) (tail : Option ℕ) → ((length xs == 0) && is_none tail) ≡ true → text (codes "{") ++ text (codes "}") ≡ text (codes "{") ++ inside_block xs tail ++ text (codes "}")
-no_statements [] None h = refl
-no_statements [] (Some t) h = absurd (cc)
-no_statements (x ∷ xs) tail h = absurd (let k = ap (λ b. b && is_none tail) (cons_length x xs) in cc)
 
 pub some_statements : (xs : List Statement) (tail : Option ℕ) → ((length xs == 0) && is_none tail) ≡ false
     → text (codes "{") ++ into ++ flat_map statement_docs xs ++ opt e tail ++ br ++ out ++ text (codes "}") ≡ text (codes "{") ++ inside_block xs tail ++ text (codes "}")
@@ -142,9 +130,6 @@ pub segment_with : (s : PrintEnv) (after : Bool) (names : List (List ℕ)) (i : 
     → when after (text (codes "::")) ++ name_docs s name ++ opt (λ a. turbofish (args_docs s a)) args ++ segments_from s true (drop (i + 1) names) rest
     ≡ segments_from s after (drop i names) lists
 segment_with s after names i name lists rest args h e k = sym (ap₂ (λ ns xs. segments_from s after ns xs) (drop_item names i name h e) k)
-
-pub no_segments : (s : PrintEnv) (after : Bool) (names : List (List ℕ)) (i : ℕ) (lists : List (Option GenericArgs)) → length names ≤ i → [] ≡ segments_from s after (drop i names) lists
-no_segments s after names i lists h = sym (ap (λ ns. segments_from s after ns lists) (drop_all i names h))
 
 -- 7. A block after what comes before it
 
