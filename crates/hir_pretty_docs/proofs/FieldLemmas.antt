@@ -20,6 +20,10 @@ pub field_step : (s : PrintEnv) (b : Bool) (f : RecordFieldPat) (fs : List Recor
     → field_pattern s f ++ after_last s (b || not (length fs == 0)) ++ field_patterns s b fs ≡ field_patterns s b (f ∷ fs)
 field_step s b f fs = ap (λ m. field_pattern s f ++ after_last s (b || m) ++ field_patterns s b fs) (not_empty fs) ∙ step s b f fs
 
+pub no_fields : (s : PrintEnv) (b : Bool) (fs : List RecordFieldPat) → length fs < 1 → [] ≡ field_patterns s b fs
+no_fields s b [] h = refl
+no_fields s b (f ∷ fs) h = absurd (omega arith)
+
 pub param_step : (after : Bool) (args : List ℕ) (i : ℕ) (arg : ℕ) (types others : List (Option ℕ)) (type : Option ℕ) → i < length args → arg ≡ get_or args i arg → types ≡ type ∷ others
     → when after (text (codes ", ")) ++ p arg ++ opt (λ id. text (codes ": ") ++ t id) type ++ following (text (codes ", ")) true (params (drop (i + 1) args) others)
     ≡ following (text (codes ", ")) after (params (drop i args) types)

@@ -3,20 +3,10 @@
 
 ghost use Rattle.std.specs.Prelude.{◌≡◌};
 ghost use Rattle.hir_node.specs.declared.expr.Expr.TheVariants as of_expr;
-ghost use Rattle.hir_pretty_docs.specs.Prelude.{comma_joined, coroutine_keyword, closure_head, params, expr_docs, Adds};
+ghost use Rattle.hir_pretty_docs.specs.Prelude.{comma_joined, closure_head, params, expr_docs, Adds};
 
 use crate::{Token, Tokens};
 use hir_node::{CaptureBy, ClosureKind, CoroutineKind, ExprId, Movability, PatId, TypeRefId};
-
-fn coroutine_keyword(kind: CoroutineKind) -> &'static str
-    ensures { result.now ≡ coroutine_keyword kind }
-{
-    match kind {
-        CoroutineKind::Async => "async ",
-        CoroutineKind::Gen => "gen ",
-        CoroutineKind::AsyncGen => "async gen ",
-    }
-}
 
 fn closure_head(kind: ClosureKind) -> &'static str
     ensures { result.now ≡ closure_head kind }
@@ -25,8 +15,13 @@ fn closure_head(kind: ClosureKind) -> &'static str
         ClosureKind::Closure => "",
         ClosureKind::OldCoroutine(Movability::Static) => "static ",
         ClosureKind::OldCoroutine(Movability::Movable) => "",
-        ClosureKind::Coroutine { kind, source: _ } => coroutine_keyword(kind),
-        ClosureKind::CoroutineClosure(kind) => coroutine_keyword(kind),
+        ClosureKind::Coroutine { kind, source: _ } | ClosureKind::CoroutineClosure(kind) => {
+            match kind {
+                CoroutineKind::Async => "async ",
+                CoroutineKind::Gen => "gen ",
+                CoroutineKind::AsyncGen => "async gen ",
+            }
+        }
     }
 }
 

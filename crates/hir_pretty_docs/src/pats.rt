@@ -3,17 +3,19 @@
 
 ghost use Rattle.hir_node.specs.declared.pat.Pat.TheVariants as of_pat;
 ghost use Rattle.hir_base.specs.declared.prec.ExprPrecedence.TheVariants.{Shift};
-ghost use Rattle.hir_pretty_docs.specs.Prelude.{opt, under, in_parentheses, field_patterns, pat_docs, Adds};
+ghost use Rattle.hir_pretty_docs.specs.Prelude.{opt, under, in_parentheses, pat_docs, Adds};
 
 use crate::{Token, Tokens};
 use hir_base::ExprPrecedence;
 use hir_node::{ExprId, Pat, PatId, Path, RecordFieldPat};
 
 impl<'a> Tokens<'a> {
-    /// Adds the fields of a record, which a rest may follow.
-    fn add_field_pats(&mut self, fields: &'a [RecordFieldPat], rest: bool)
-        ensures { Adds self.old.stack (λ s. field_patterns s rest fields.now) self.new.stack }
+    fn add_record_pat(&mut self, path: &'a Path, fields: &'a [RecordFieldPat], rest: bool)
+        ensures { Adds self.old.stack (λ s. pat_docs s (of_pat.Record rest path.now fields.now))
+            self.new.stack }
     {
+        self.add_path(path);
+        self.add(&[Token::Text(" {"), Token::Indent]);
         let mut left = fields;
         while let [field, others @ ..] = left {
             self.add(&[Token::FieldPat(field)]);
@@ -24,15 +26,6 @@ impl<'a> Tokens<'a> {
             }
             left = others;
         }
-    }
-
-    fn add_record_pat(&mut self, path: &'a Path, fields: &'a [RecordFieldPat], rest: bool)
-        ensures { Adds self.old.stack (λ s. pat_docs s (of_pat.Record rest path.now fields.now))
-            self.new.stack }
-    {
-        self.add_path(path);
-        self.add(&[Token::Text(" {"), Token::Indent]);
-        self.add_field_pats(fields, rest);
         if rest {
             self.add(&[Token::Text(".."), Token::Break]);
         }
