@@ -1,7 +1,7 @@
 -- Documents that were added to a stack of tokens, one after another.
-use Rattle.std.proofs.Common.{◌≡◌, ◌+◌, ◌<◌, ℕ, Bool, true, false, arith, List, [], ◌∷◌, ◌++◌, refl, sym, ap, ◌∙◌, append_assoc, append-nil, length, take, get_or, rules}
+use Rattle.std.proofs.Common.{◌≡◌, Bool, true, false, arith, List, [], ◌∷◌, ◌++◌, refl, sym, ap, ◌∙◌, append_assoc, append-nil, length, rules}
 use Rattle.std.specs.Prelude.{reverse}
-use Rattle.std.proofs.lemmas.List.{take_more, length-append, reverse-reverse, Concat.flat_map-append}
+use Rattle.std.proofs.lemmas.List.{length-append, reverse-reverse, Concat.flat_map-append}
 use Rattle.std.proofs.Math.Seq.{take-append_seam}
 use Rattle.hir_collections.specs.Stacks.{StackItems, Defers}
 use Rattle.hir_collections.proofs.DeferredLemmas.{defers_none, defers_two}
@@ -21,11 +21,6 @@ stood_is s (w ∷ ws) = stood_is-after s (stands_for s w) ws
 pub meant-append : (s : PrintEnv) (xs ys : List Token)
     → docs_of_tokens s (xs ++ ys) ≡ docs_of_tokens s xs ++ docs_of_tokens s ys
 meant-append s xs ys = flat_map-append (stands_for s) xs ys
-
--- one more token of a list
-pub deferred_more : (u v w : StackItems Token) (ws : List Token) (i : ℕ) (x : Token) → i < length ws → x ≡ get_or ws i x
-    → Defers u (take i ws) v → Defers v (x ∷ []) w → Defers u (take (i + 1) ws) w
-deferred_more u v w ws i x h e a b = grind (arith, common_steps, take_more, defers_two)
 
 -- a stack that returned no refusal when it turned nothing over
 pub is_false : (b : Bool) → (b ≡ true → ⊥) → b ≡ false

@@ -1,10 +1,8 @@
 -- Fields of patterns, and parameters of closures, one after another.
 use Rattle.std.proofs.Common.{◌≡◌, ℕ, ◌+◌, ◌<◌, ◌≤◌, Bool, true, false, List, [], ◌∷◌, ◌++◌, codes, length, drop, get_or, Option, refl, sym, ap, ◌∙◌, arith, append_assoc, append-nil, ◌||◌, ◌==◌, not, rules}
 use Rattle.std.proofs.lemmas.List.{drop_all}
-use Rattle.hir_path.specs.declared.path.Path.{Path}
-use Rattle.hir_node.specs.declared.pat.Pat.TheVariants as pat
 use Rattle.hir_node.specs.declared.pat.RecordFieldPat.{RecordFieldPat}
-use Rattle.hir_pretty_docs.specs.Prelude.{PrintEnv, text, br, into, out, p, t, opt, when, field_pattern, after_last, field_patterns, pat_docs, path_docs, params, following}
+use Rattle.hir_pretty_docs.specs.Prelude.{PrintEnv, text, br, p, t, opt, when, field_pattern, after_last, field_patterns, params, following}
 use Rattle.hir_pretty_docs.proofs.{ListLemmas.drop_item, ListLemmas.is_cons, OrderLemmas.not_empty}
 
 field_more : (s : PrintEnv) (b : Bool) (f g : RecordFieldPat) (fs : List RecordFieldPat)
@@ -25,16 +23,6 @@ field_step s b f fs = ap (λ m. field_pattern s f ++ after_last s (b || m) ++ fi
 pub no_fields : (s : PrintEnv) (b : Bool) (fs : List RecordFieldPat) → length fs < 1 → [] ≡ field_patterns s b fs
 no_fields s b [] h = refl
 no_fields s b (f ∷ fs) h = absurd (omega arith)
-
--- a record with and without a rest
-pub record_rest : (s : PrintEnv) (path : Path) (fs : List RecordFieldPat)
-    → path_docs s path ++ text (codes " {") ++ into ++ field_patterns s true fs ++ text (codes "..") ++ br ++ out ++ text (codes "}") ≡ pat_docs s (pat.Record true path fs)
-record_rest s path fs =
-    ap (λ is. is ++ out ++ text (codes "}")) (append_assoc (path_docs s path ++ text (codes " {") ++ into ++ field_patterns s true fs) (text (codes "..")) br)
-
-pub record_plain : (s : PrintEnv) (path : Path) (fs : List RecordFieldPat)
-    → path_docs s path ++ text (codes " {") ++ into ++ field_patterns s false fs ++ out ++ text (codes "}") ≡ pat_docs s (pat.Record false path fs)
-record_plain s path fs = ap (λ is. is ++ out ++ text (codes "}")) (sym (append-nil (path_docs s path ++ text (codes " {") ++ into ++ field_patterns s false fs)))
 
 pub param_step : (after : Bool) (args : List ℕ) (i : ℕ) (arg : ℕ) (types others : List (Option ℕ)) (type : Option ℕ) → i < length args → arg ≡ get_or args i arg → types ≡ type ∷ others
     → when after (text (codes ", ")) ++ p arg ++ opt (λ id. text (codes ": ") ++ t id) type ++ following (text (codes ", ")) true (params (drop (i + 1) args) others)

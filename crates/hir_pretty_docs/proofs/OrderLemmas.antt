@@ -1,5 +1,5 @@
 -- Items by what a list has: none, one, or more.
-use Rattle.std.proofs.Common.{◌≡◌, ℕ, zero, suc, ◌+◌, ◌-◌, ◌<◌, ◌≤◌, Bool, true, false, List, [], ◌∷◌, ◌++◌, codes, map, take, drop, length, get_or, Option, Some, None, refl, sym, ap, ap₂, ◌∙◌, arith, append_assoc, append-nil, ◌==◌, ◌&&◌, not, IsTrue, is_none, is_some, flat_map, option_to_list, rules}
+use Rattle.std.proofs.Common.{◌≡◌, ℕ, zero, suc, ◌+◌, ◌-◌, ◌<◌, ◌≤◌, Bool, true, false, List, [], ◌∷◌, ◌++◌, codes, map, take, drop, length, get_or, Option, Some, None, refl, sym, ap, ap₂, ◌∙◌, arith, append_assoc, ◌==◌, ◌&&◌, not, IsTrue, is_none, is_some, flat_map, option_to_list, rules}
 use Rattle.std.proofs.lemmas.{Bool.cases_lt, Bool.Decides.nat_tests, List.take-map, List.drop-map, List.take_all, List.drop_all}
 use Rattle.std.proofs.lemmas.List.{length-map, Concat.flat_map-append}
 use Rattle.hir_node.specs.declared.{expr_types.Array.TheVariants.ElementList, expr_types.Statement.Statement}
@@ -31,17 +31,10 @@ filled (x ∷ xs) false k = refl
 
 -- 2. Arguments, elements and statements
 
-pub no_arguments : (xs : List ℕ) → (length xs == 0) ≡ true → text (codes "(") ++ text (codes ")") ≡ arguments xs
-no_arguments [] h = refl
-no_arguments (x ∷ xs) h = absurd (let k = cons_length x xs in cc)
-
 pub some_arguments : (xs : List ℕ) → (length xs == 0) ≡ false
     → text (codes "(") ++ into ++ flat_map (λ id. e id ++ text (codes ",") ++ br) xs ++ out ++ text (codes ")") ≡ arguments xs
 some_arguments [] h = absurd (cc)
 some_arguments (x ∷ xs) h = refl
-
-pub no_elements : (xs : List ℕ) → xs ≡ [] → text (codes "[]") ≡ array_docs (ElementList xs)
-no_elements xs h = sym (ap (λ ys. array_docs (ElementList ys)) h)
 
 pub some_elements : (xs : List ℕ) → (xs ≡ [] → ⊥)
     → text (codes "[") ++ into ++ flat_map (λ id. e id ++ text (codes ", ")) xs ++ out ++ br ++ text (codes "]") ≡ array_docs (ElementList xs)
@@ -54,26 +47,18 @@ none_is None false h = absurd (cc)
 none_is (Some x) true h = absurd (cc)
 none_is (Some x) false h = refl
 
-pub no_statements : (xs : List Statement) (tail : Option ℕ) → ((length xs == 0) && is_none tail) ≡ true → text (codes "{") ++ text (codes "}") ≡ text (codes "{") ++ inside_block xs tail ++ text (codes "}")
-no_statements [] None h = refl
-no_statements [] (Some t) h = absurd (cc)
-no_statements (x ∷ xs) tail h = absurd (let k = ap (λ b. b && is_none tail) (cons_length x xs) in cc)
-
-pub without_tail : (xs : List Statement) → ((length xs == 0) && true) ≡ false
-    → text (codes "{") ++ into ++ flat_map statement_docs xs ++ br ++ out ++ text (codes "}") ≡ text (codes "{") ++ inside_block xs None ++ text (codes "}")
-without_tail [] h = absurd (cc)
-without_tail (x ∷ xs) h = ap (λ is. text (codes "{") ++ (is ++ br ++ out) ++ text (codes "}")) (sym (append-nil (into ++ flat_map statement_docs (x ∷ xs))))
-
-pub with_tail : (xs : List Statement) (tail : ℕ)
-    → text (codes "{") ++ into ++ flat_map statement_docs xs ++ e tail ++ br ++ out ++ text (codes "}") ≡ text (codes "{") ++ inside_block xs (Some tail) ++ text (codes "}")
-with_tail [] tail = refl
-with_tail (x ∷ xs) tail = refl
+pub some_statements : (xs : List Statement) (tail : Option ℕ) → ((length xs == 0) && is_none tail) ≡ false
+    → text (codes "{") ++ into ++ flat_map statement_docs xs ++ opt e tail ++ br ++ out ++ text (codes "}") ≡ text (codes "{") ++ inside_block xs tail ++ text (codes "}")
+some_statements [] None h = absurd (cc)
+some_statements [] (Some t) h = refl
+some_statements (x ∷ xs) tail h = refl
 
 -- 3. Bounds and generic arguments
 
-pub bounds_is : (s : PrintEnv) (bs : List TypeBound) → when (not (length bs == 0)) (text (codes ": ")) ++ bounds_docs s bs ≡ bounds_after s bs
-bounds_is s [] = refl
-bounds_is s (b ∷ bs) = ap (λ c. when c (text (codes ": ")) ++ bounds_docs s (b ∷ bs)) (not_empty (b ∷ bs))
+pub bounds_is : (s : PrintEnv) (bs : List TypeBound) (b : Bool) → (IsTrue b → bs ≡ []) × (bs ≡ [] → IsTrue b)
+    → when (not b) (text (codes ": ")) ++ bounds_docs s bs ≡ bounds_after s bs
+bounds_is s [] b k = ap (λ c. when c (text (codes ": ")) ++ bounds_docs s []) (filled [] b k)
+bounds_is s (x ∷ bs) b k = ap (λ c. when c (text (codes ": ")) ++ bounds_docs s (x ∷ bs)) (filled (x ∷ bs) b k)
 
 each_is : (s : PrintEnv) (self : Bool) (args : List GenericArg) (bs : List (List Doc))
     → when (is_cons args && self) (text (codes "Self=")) ++ join (text (codes ", ")) (map (arg_docs s) args) ++ following (text (codes ", ")) (is_cons args) bs ≡ comma_joined (each_arg s self args ++ bs)
@@ -145,9 +130,6 @@ pub segment_with : (s : PrintEnv) (after : Bool) (names : List (List ℕ)) (i : 
     → when after (text (codes "::")) ++ name_docs s name ++ opt (λ a. turbofish (args_docs s a)) args ++ segments_from s true (drop (i + 1) names) rest
     ≡ segments_from s after (drop i names) lists
 segment_with s after names i name lists rest args h e k = sym (ap₂ (λ ns xs. segments_from s after ns xs) (drop_item names i name h e) k)
-
-pub no_segments : (s : PrintEnv) (after : Bool) (names : List (List ℕ)) (i : ℕ) (lists : List (Option GenericArgs)) → length names ≤ i → [] ≡ segments_from s after (drop i names) lists
-no_segments s after names i lists h = sym (ap (λ ns. segments_from s after ns lists) (drop_all i names h))
 
 -- 7. A block after what comes before it
 

@@ -76,13 +76,9 @@ impl<'a> Tokens<'a> {
         self.add(&[Token::Text("{"), Token::Indent]);
         self.add_each(statements, &[]);
         match tail {
-            None => self.add(&[Token::Break, Token::Outdent, Token::Text("}")]),
-            Some(tail) => self.add(&[
-                Token::Expr(tail),
-                Token::Break,
-                Token::Outdent,
-                Token::Text("}"),
-            ]),
+            None => {}
+            Some(tail) => self.add(&[Token::Expr(tail)]),
         }
+        self.add(&[Token::Break, Token::Outdent, Token::Text("}")])
     }
 }

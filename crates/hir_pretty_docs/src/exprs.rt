@@ -1,36 +1,14 @@
 //! What an expression is printed as.
 #![tactic(auto, using(crate::proofs::AddLemmas::adding))]
 
-ghost use Rattle.std.specs.Prelude.{◌≡◌, ◌++◌};
+ghost use Rattle.std.specs.Prelude.{◌++◌};
 ghost use Rattle.hir_node.specs.declared.expr.Expr.TheVariants as of_expr;
-ghost use Rattle.hir_pretty_docs.specs.Prelude.{text, opt, args_docs, turbofish, operand, arguments, raw_keyword, ending_docs, exprs_docs, operator_docs, spread_docs, array_docs, unsafe_docs, expr_docs, Adds};
+ghost use Rattle.hir_pretty_docs.specs.Prelude.{text, operand, arguments, ending_docs, exprs_docs, array_docs, expr_docs, Adds};
 
 use crate::{Ending, Part, Token, Tokens};
-use hir_base::{BinaryOp, ExprPrecedence, Name};
+use hir_base::ExprPrecedence;
 use hir_collections::Boxed;
-use hir_node::{
-    Array, Expr, ExprId, GenericArgs, LabelId, MatchArm, Path, Rawness, RecordLitField,
-    RecordSpread, Unsafe,
-};
-
-fn raw_keyword(rawness: Rawness) -> &'static str
-    ensures { result.now ≡ raw_keyword rawness }
-{
-    match rawness {
-        Rawness::RawPtr => "raw ",
-        Rawness::Ref => "",
-    }
-}
-
-/// The text of an operator, or U+FFFD where it is missing.
-fn operator_text(op: Option<BinaryOp>) -> &'static str
-    ensures { text result.now ≡ operator_docs op }
-{
-    match op {
-        None => "\u{fffd}",
-        Some(op) => op.as_str(),
-    }
-}
+use hir_node::{Array, Expr, ExprId, Path, Rawness, RecordLitField, RecordSpread, Unsafe};
 
 impl<'a> Tokens<'a> {
     /// Adds what comes after a keyword such as `return`.
@@ -50,15 +28,6 @@ impl<'a> Tokens<'a> {
         self.add_operand(expr)
     }
 
-    fn add_ending(&mut self, ending: Ending)
-        ensures { Adds self.old.stack (λ s. ending_docs ending) self.new.stack }
-    {
-        match ending {
-            Ending::Comma => self.add(&[Token::Text(", ")]),
-            Ending::Line => self.add(&[Token::Text(","), Token::Break]),
-        }
-    }
-
     /// Adds expressions, each with its ending. They wait together, so that a list takes no more memory than
     /// one expression.
     fn add_exprs(&mut self, ending: Ending, exprs: &'a [ExprId])
@@ -75,7 +44,10 @@ impl<'a> Tokens<'a> {
         ensures { Adds self.old.stack
             (λ s. ending_docs ending ++ exprs_docs ending others.now) self.new.stack }
     {
-        self.add_ending(ending);
+        match ending {
+            Ending::Comma => self.add(&[Token::Text(", ")]),
+            Ending::Line => self.add(&[Token::Text(","), Token::Break]),
+        }
         self.add_exprs(ending, others)
     }
 
@@ -91,62 +63,6 @@ impl<'a> Tokens<'a> {
         self.add(&[Token::Outdent, Token::Text(")")])
     }
 
-    fn add_method_args(&mut self, args: &'a Option<Boxed<GenericArgs>>)
-        ensures { Adds self.old.stack
-            (λ s. opt (λ a. turbofish (args_docs s a)) args.now) self.new.stack }
-    {
-        match args {
-            None => {}
-            Some(args) => self.add(&[Token::GenericArgs(args.get())]),
-        }
-    }
-
-    fn add_method_call(
-        &mut self,
-        receiver: ExprId,
-        name: &'a Name,
-        args: &'a [ExprId],
-        generic_args: &'a Option<Boxed<GenericArgs>>,
-    )
-        ensures { Adds self.old.stack
-            (λ s. expr_docs s (of_expr.MethodCall receiver name.now args.now generic_args.now))
-            self.new.stack }
-    {
-        self.add(&[
-            Token::ExprIn(receiver, ExprPrecedence::Postfix),
-            Token::Text("."),
-            Token::Name(name.as_str()),
-        ]);
-        self.add_method_args(generic_args);
-        self.add_arguments(args)
-    }
-
-    fn add_match(&mut self, expr: ExprId, arms: &'a [MatchArm])
-        ensures { Adds self.old.stack
-            (λ s. expr_docs s (of_expr.Match expr arms.now)) self.new.stack }
-    {
-        self.add(&[
-            Token::Text("match "),
-            Token::Expr(expr),
-            Token::Text(" {"),
-            Token::Indent,
-        ]);
-        self.add_each(arms, &[]);
-        self.add(&[Token::Outdent, Token::Text("}"), Token::Break])
-    }
-
-    fn add_spread(&mut self, spread: RecordSpread)
-        ensures { Adds self.old.stack (λ s. spread_docs spread) self.new.stack }
-    {
-        match spread {
-            RecordSpread::None => {}
-            RecordSpread::FieldDefaults => self.add(&[Token::Text(".."), Token::Break]),
-            RecordSpread::Expr(expr) => {
-                self.add(&[Token::Text(".."), Token::Expr(expr), Token::Break])
-            }
-        }
-    }
-
     fn add_record_lit(&mut self, path: &'a Path, fields: &'a [RecordLitField], spread: RecordSpread)
         ensures { Adds self.old.stack
             (λ s. expr_docs s (of_expr.RecordLit path.now fields.now spread)) self.new.stack }
@@ -154,7 +70,13 @@ impl<'a> Tokens<'a> {
         self.add_path(path);
         self.add(&[Token::Text("{"), Token::Indent]);
         self.add_each(fields, &[]);
-        self.add_spread(spread);
+        match spread {
+            RecordSpread::None => {}
+            RecordSpread::FieldDefaults => self.add(&[Token::Text(".."), Token::Break]),
+            RecordSpread::Expr(expr) => {
+                self.add(&[Token::Text(".."), Token::Expr(expr), Token::Break])
+            }
+        }
         self.add(&[Token::Outdent, Token::Text("}")])
     }
 
@@ -183,15 +105,6 @@ impl<'a> Tokens<'a> {
                 Token::Break,
                 Token::Text("]"),
             ]),
-        }
-    }
-
-    fn add_unsafe(&mut self, unsafe_: Unsafe)
-        ensures { Adds self.old.stack (λ s. unsafe_docs unsafe_) self.new.stack }
-    {
-        match unsafe_ {
-            Unsafe::Yes => self.add(&[Token::Text("unsafe ")]),
-            Unsafe::No => {}
         }
     }
 
@@ -248,8 +161,25 @@ impl<'a> Tokens<'a> {
                 method_name,
                 args,
                 generic_args,
-            } => self.add_method_call(*receiver, method_name, args.as_slice(), generic_args),
-            Expr::Match { expr, arms } => self.add_match(*expr, arms.as_slice()),
+            } => {
+                self.add(&[
+                    Token::ExprIn(*receiver, ExprPrecedence::Postfix),
+                    Token::Text("."),
+                    Token::Name(method_name.as_str()),
+                ]);
+                self.add_turbofish(generic_args.as_ref().map(Boxed::get));
+                self.add_arguments(args.as_slice())
+            }
+            Expr::Match { expr, arms } => {
+                self.add(&[
+                    Token::Text("match "),
+                    Token::Expr(*expr),
+                    Token::Text(" {"),
+                    Token::Indent,
+                ]);
+                self.add_each(arms.as_slice(), &[]);
+                self.add(&[Token::Outdent, Token::Text("}"), Token::Break])
+            }
             Expr::Continue { label } => {
                 self.add(&[Token::Text("continue")]);
                 self.add_after(" ", label)
@@ -289,12 +219,18 @@ impl<'a> Tokens<'a> {
                 expr,
                 rawness,
                 mutability,
-            } => self.add(&[
-                Token::Text("&"),
-                Token::Text(raw_keyword(*rawness)),
-                Token::Text(mutability.as_keyword_for_ref()),
-                Token::ExprIn(*expr, ExprPrecedence::Prefix),
-            ]),
+            } => {
+                let raw_keyword = match rawness {
+                    Rawness::RawPtr => "raw ",
+                    Rawness::Ref => "",
+                };
+                self.add(&[
+                    Token::Text("&"),
+                    Token::Text(raw_keyword),
+                    Token::Text(mutability.as_keyword_for_ref()),
+                    Token::ExprIn(*expr, ExprPrecedence::Prefix),
+                ])
+            }
             Expr::UnaryOp { expr, op } => self.add(&[
                 Token::Text(op.as_str()),
                 Token::ExprIn(*expr, ExprPrecedence::Prefix),
@@ -302,7 +238,7 @@ impl<'a> Tokens<'a> {
             Expr::BinaryOp { lhs, rhs, op } => self.add(&[
                 Token::ExprIn(*lhs, expr.precedence()),
                 Token::Space,
-                Token::Text(operator_text(*op)),
+                Token::Text(op.map_or("\u{fffd}", |op| op.as_str())),
                 Token::Space,
                 Token::ExprIn(*rhs, expr.precedence()),
             ]),
@@ -337,7 +273,7 @@ impl<'a> Tokens<'a> {
             } => {
                 self.add(&[Token::Space]);
                 self.add_before(label, ": ");
-                self.add_unsafe(*unsafe_);
+                self.add_if(*unsafe_ == Unsafe::Yes, "unsafe ");
                 self.add_braces(statements.as_slice(), *tail)
             }
             Expr::Closure {

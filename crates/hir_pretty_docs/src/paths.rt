@@ -1,16 +1,12 @@
 //! What paths and generic arguments are printed as.
 #![tactic(auto, using(crate::proofs::AddLemmas::adding))]
 
-ghost use Rattle.std.specs.Prelude.{◌≡◌};
-ghost use Rattle.hir_path.specs.declared.path.Path.TheVariants as of_path;
-ghost use Rattle.hir_pretty_docs.specs.Prelude.{opt, bounds_after, arg_docs, args_docs, assoc_docs, turbofish, path_docs, kind_docs, supers, target_docs, start_docs, segments_from, colons_first, Adds};
+ghost use Rattle.std.specs.Prelude.{◌≡◌, option_copied};
+ghost use Rattle.hir_pretty_docs.specs.Prelude.{opt, arg_docs, args_docs, assoc_docs, turbofish, path_docs, kind_docs, supers, target_docs, segments_from, colons_first, Adds};
 
 use crate::{Lookup, Part, Token, Tokens};
 use hir_base::{ExprPrecedence, LangItemTarget, Name, NamedDef, PathKind};
-use hir_collections::Boxed;
-use hir_node::{
-    AssociatedTypeBinding, GenericArg, GenericArgs, NormalPath, Path, TypeBound, TypeRefId,
-};
+use hir_node::{AssociatedTypeBinding, GenericArg, GenericArgs, Path};
 
 /// Whether `::` is before the first segment of a path of this kind.
 pub fn colons_first(kind: PathKind) -> bool
@@ -42,8 +38,9 @@ impl Part for AssociatedTypeBinding {
 
     fn add_to<'a>(&'a self, tokens: &mut Tokens<'a>) {
         tokens.add(&[Token::Name(self.name.as_str())]);
-        tokens.add_turbofish(&self.args);
-        tokens.add_bounds_after(self.bounds.as_slice());
+        tokens.add_turbofish(self.args.as_ref());
+        tokens.add_if(!self.bounds.is_empty(), ": ");
+        tokens.add_joined(" + ", self.bounds.as_slice());
         tokens.add_after(" = ", &self.type_ref)
     }
 }
@@ -91,30 +88,9 @@ impl<'a> Tokens<'a> {
             let [args, others @ ..] = lists else {
                 continue;
             };
-            self.add_turbofish(args);
+            self.add_turbofish(args.as_ref());
             lists = others;
         }
-    }
-
-    /// Adds the type that a path begins at, or else its kind.
-    fn add_start(&mut self, anchor: Option<TypeRefId>, kind: PathKind)
-        ensures { Adds self.old.stack (λ s. start_docs s anchor kind) self.new.stack }
-    {
-        match anchor {
-            None => self.add_kind(kind),
-            Some(anchor) => self.add(&[Token::Text("<"), Token::Type(anchor), Token::Text(">::")]),
-        }
-    }
-
-    fn add_normal_path(&mut self, path: &'a NormalPath)
-        ensures { Adds self.old.stack (λ s. path_docs s (of_path.Normal path.now)) self.new.stack }
-    {
-        self.add_start(path.type_anchor, path.mod_path.kind());
-        self.add_segments(
-            colons_first(path.mod_path.kind()),
-            path.mod_path.segments(),
-            path.generic_args.as_slice(),
-        )
     }
 
     /// Adds the name of a lang item, or the number of one that has no name.
@@ -136,22 +112,6 @@ impl<'a> Tokens<'a> {
         }
     }
 
-    fn add_lang_item(&mut self, target: LangItemTarget, name: &'a Option<Boxed<Name>>)
-        ensures { Adds self.old.stack (λ s. path_docs s (of_path.LangItem target name.now))
-            self.new.stack }
-    {
-        self.add(&[Token::Text("builtin#lang(")]);
-        self.add_target(target);
-        match name {
-            None => self.add(&[Token::Text(")")]),
-            Some(name) => self.add(&[
-                Token::Text("::"),
-                Token::Name(name.get().as_str()),
-                Token::Text(")"),
-            ]),
-        }
-    }
-
     /// Adds what a path is printed as.
     pub fn add_path(&mut self, path: &'a Path)
         ensures { Adds self.old.stack (λ s. path_docs s path.now) self.new.stack }
@@ -161,15 +121,38 @@ impl<'a> Tokens<'a> {
                 self.add_kind(path.kind());
                 self.add_segments(colons_first(path.kind()), path.segments(), &[])
             }
-            Path::Normal(path) => self.add_normal_path(path.get()),
-            Path::LangItem(target, name) => self.add_lang_item(*target, name),
+            Path::Normal(path) => {
+                let path = path.get();
+                match path.type_anchor {
+                    None => self.add_kind(path.mod_path.kind()),
+                    Some(anchor) => {
+                        self.add(&[Token::Text("<"), Token::Type(anchor), Token::Text(">::")])
+                    }
+                }
+                self.add_segments(
+                    colons_first(path.mod_path.kind()),
+                    path.mod_path.segments(),
+                    path.generic_args.as_slice(),
+                )
+            }
+            Path::LangItem(target, name) => {
+                self.add(&[Token::Text("builtin#lang(")]);
+                self.add_target(*target);
+                match name {
+                    None => {}
+                    Some(name) => {
+                        self.add(&[Token::Text("::"), Token::Name(name.get().as_str())])
+                    }
+                }
+                self.add(&[Token::Text(")")])
+            }
         }
     }
 
     /// Adds arguments in `::<` and `>`, where there are any.
-    fn add_turbofish(&mut self, args: &'a Option<GenericArgs>)
+    pub(crate) fn add_turbofish(&mut self, args: Option<&'a GenericArgs>)
         ensures { Adds self.old.stack
-            (λ s. opt (λ a. turbofish (args_docs s a)) args.now) self.new.stack }
+            (λ s. opt (λ a. turbofish (args_docs s a)) (option_copied args.entry)) self.new.stack }
     {
         match args {
             None => {}
@@ -185,13 +168,5 @@ impl<'a> Tokens<'a> {
         self.add_if(has_args & args.has_self_type, "Self=");
         self.add_joined(", ", args.args.as_slice());
         self.add_list(has_args, ", ", args.bindings.as_slice())
-    }
-
-    /// Adds bounds after `: `, where there are any.
-    fn add_bounds_after(&mut self, bounds: &'a [TypeBound])
-        ensures { Adds self.old.stack (λ s. bounds_after s bounds.now) self.new.stack }
-    {
-        self.add_if(!bounds.is_empty(), ": ");
-        self.add_joined(" + ", bounds)
     }
 }

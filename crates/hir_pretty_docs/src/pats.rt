@@ -1,90 +1,54 @@
 //! What a pattern is printed as.
 #![tactic(auto, using(crate::proofs::AddLemmas::adding))]
 
-ghost use Rattle.std.specs.Prelude.{map};
 ghost use Rattle.hir_node.specs.declared.pat.Pat.TheVariants as of_pat;
 ghost use Rattle.hir_base.specs.declared.prec.ExprPrecedence.TheVariants.{Shift};
-ghost use Rattle.hir_pretty_docs.specs.Prelude.{p, opt, under, comma_joined, with_rest, in_parentheses, after_last, field_patterns, pat_docs, Adds};
+ghost use Rattle.hir_pretty_docs.specs.Prelude.{opt, under, in_parentheses, pat_docs, Adds};
 
 use crate::{Token, Tokens};
 use hir_base::ExprPrecedence;
 use hir_node::{ExprId, Pat, PatId, Path, RecordFieldPat};
 
 impl<'a> Tokens<'a> {
-    /// Adds what comes after a field: where nothing follows in one line, a space.
-    fn add_field_end(&mut self, has_more: bool)
-        ensures { Adds self.old.stack (λ s. after_last s has_more) self.new.stack }
-    {
-        if has_more {
-            return self.add(&[Token::Text(","), Token::Break]);
-        }
-        self.add(&[Token::LastFieldEnd])
-    }
-
-    /// Adds the fields of a record, which a rest may follow.
-    fn add_field_pats(&mut self, fields: &'a [RecordFieldPat], rest: bool)
-        ensures { Adds self.old.stack (λ s. field_patterns s rest fields.now) self.new.stack }
-    {
-        let mut left = fields;
-        while let [field, others @ ..] = left {
-            self.add(&[Token::FieldPat(field)]);
-            self.add_field_end(rest | !others.is_empty());
-            left = others;
-        }
-    }
-
     fn add_record_pat(&mut self, path: &'a Path, fields: &'a [RecordFieldPat], rest: bool)
         ensures { Adds self.old.stack (λ s. pat_docs s (of_pat.Record rest path.now fields.now))
             self.new.stack }
     {
         self.add_path(path);
         self.add(&[Token::Text(" {"), Token::Indent]);
-        self.add_field_pats(fields, rest);
+        let mut left = fields;
+        while let [field, others @ ..] = left {
+            self.add(&[Token::FieldPat(field)]);
+            if rest | !others.is_empty() {
+                self.add(&[Token::Text(","), Token::Break]);
+            } else {
+                self.add(&[Token::LastFieldEnd]);
+            }
+            left = others;
+        }
         if rest {
-            return self.add(&[
-                Token::Text(".."),
-                Token::Break,
-                Token::Outdent,
-                Token::Text("}"),
-            ]);
+            self.add(&[Token::Text(".."), Token::Break]);
         }
         self.add(&[Token::Outdent, Token::Text("}")])
     }
 
-    /// Adds patterns, with `..` before the one in this place, or after all.
-    fn add_with_rest(&mut self, pats: &'a [PatId], rest: Option<u32>)
-        ensures { Adds self.old.stack
-            (λ s. comma_joined (with_rest rest (map p pats.now))) self.new.stack }
-    {
-        let Some(at) = rest else {
-            return self.add_joined(", ", pats);
-        };
-        let left = pats.len().saturating_sub(at as usize);
-        let (before, trailer) = pats.split_at(pats.len() - left);
-        self.add_joined(", ", before);
-        self.add_if(!before.is_empty(), ", ");
-        self.add(&[Token::Text("..")]);
-        self.add_list(true, ", ", trailer)
-    }
-
+    /// Adds patterns in parentheses, with `..` before the one in this place, or after all.
     fn add_in_parentheses(&mut self, pats: &'a [PatId], rest: Option<u32>)
         ensures { Adds self.old.stack (λ s. in_parentheses rest pats.now) self.new.stack }
     {
         self.add(&[Token::Text("(")]);
-        self.add_with_rest(pats, rest);
+        match rest {
+            None => self.add_joined(", ", pats),
+            Some(at) => {
+                let left = pats.len().saturating_sub(at as usize);
+                let (before, trailer) = pats.split_at(pats.len() - left);
+                self.add_joined(", ", before);
+                self.add_if(!before.is_empty(), ", ");
+                self.add(&[Token::Text("..")]);
+                self.add_list(true, ", ", trailer)
+            }
+        }
         self.add(&[Token::Text(")")])
-    }
-
-    fn add_slice(&mut self, prefix: &'a [PatId], slice: &'a Option<PatId>, suffix: &'a [PatId])
-        ensures { Adds self.old.stack
-            (λ s. pat_docs s (of_pat.Slice prefix.now slice.now suffix.now))
-            self.new.stack }
-    {
-        self.add(&[Token::Text("[")]);
-        self.add_each(prefix, &[Token::Text(", ")]);
-        self.add_before(slice, ", ");
-        self.add_each(suffix, &[Token::Text(", ")]);
-        self.add(&[Token::Text("]")])
     }
 
     /// Adds an expression in a pattern, where there is one.
@@ -130,10 +94,15 @@ impl<'a> Tokens<'a> {
                 prefix,
                 slice,
                 suffix,
-            } => self.add_slice(prefix.as_slice(), slice, suffix.as_slice()),
+            } => {
+                self.add(&[Token::Text("[")]);
+                self.add_each(prefix.as_slice(), &[Token::Text(", ")]);
+                self.add_before(slice, ", ");
+                self.add_each(suffix.as_slice(), &[Token::Text(", ")]);
+                self.add(&[Token::Text("]")])
+            }
             Pat::Path(path) => self.add_path(path),
-            Pat::Lit(expr) => self.add_in_pat(Some(*expr)),
-            Pat::Expr(expr) => self.add_in_pat(Some(*expr)),
+            Pat::Lit(expr) | Pat::Expr(expr) => self.add_in_pat(Some(*expr)),
             Pat::Bind { id, subpat } => {
                 self.add_binding(*id);
                 match subpat {

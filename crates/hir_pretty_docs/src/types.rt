@@ -1,14 +1,13 @@
 //! What types and bounds are printed as.
 #![tactic(auto, using(crate::proofs::AddLemmas::adding))]
 
-ghost use Rattle.std.specs.Prelude.{◌++◌, List, ℕ, Option, map};
-ghost use Rattle.hir_node.specs.declared.type_ref.TypeRef.TheVariants as of_type;
-ghost use Rattle.hir_pretty_docs.specs.Prelude.{text, t, opt, for_names, use_docs, bound_docs, bounds_docs, extern_docs, signature_docs, fn_docs, type_docs, Adds};
+ghost use Rattle.std.specs.Prelude.{◌++◌};
+ghost use Rattle.hir_pretty_docs.specs.Prelude.{text, t, opt, for_names, use_docs, bound_docs, bounds_docs, fn_docs, type_docs, Adds};
 
 use crate::{Lookup, Part, Token, Tokens};
 use hir_base::{ExprPrecedence, ExternAbi, Name};
 use hir_collections::Seq;
-use hir_node::{FnType, RefType, TraitBoundModifier, TypeBound, TypeRef, TypeRefId, UseArgRef};
+use hir_node::{FnType, TraitBoundModifier, TypeBound, TypeRef, TypeRefId, UseArgRef};
 
 /// A parameter of a function's type, whose name isn't printed.
 impl Part for (Option<Name>, TypeRefId) {
@@ -76,11 +75,13 @@ impl<'a> Tokens<'a> {
         }
     }
 
-    /// Adds `extern` and a calling convention, unless it is that of Rust.
-    fn add_extern(&mut self, abi: &'a ExternAbi)
-        ensures { Adds self.old.stack (λ s. extern_docs abi.now) self.new.stack }
+    /// Adds a function's type.
+    fn add_fn(&mut self, function: &'a FnType)
+        ensures { Adds self.old.stack (λ s. fn_docs s function.now) self.new.stack }
     {
-        match abi {
+        self.add_binder(&function.binder);
+        self.add_if(function.is_unsafe, "unsafe ");
+        match &function.abi {
             ExternAbi::Rust => {}
             ExternAbi::C
             | ExternAbi::CUnwind
@@ -88,45 +89,19 @@ impl<'a> Tokens<'a> {
             | ExternAbi::SystemUnwind
             | ExternAbi::Named(_) => self.add(&[
                 Token::Text("extern "),
-                Token::Text(abi.as_str()),
+                Token::Text(function.abi.as_str()),
                 Token::Text(" "),
             ]),
         }
-    }
-
-    /// Adds a function's type by its parameters and, last, its result.
-    fn add_signature(&mut self, params: &'a [(Option<Name>, TypeRefId)], is_varargs: bool)
-        ensures { Adds self.old.stack (λ s. signature_docs is_varargs
-            (map (λ (entry : Option (List ℕ) × ℕ). entry.1) params.now)) self.new.stack }
-    {
+        // The last is the type of the result.
+        let params = function.params.as_slice();
         let (all_but_last, ret) = params.split_at(params.len().saturating_sub(1));
         self.add(&[Token::Text("fn(")]);
         self.add_joined(", ", all_but_last);
-        self.add_if(is_varargs & !all_but_last.is_empty(), ", ");
-        self.add_if(is_varargs, "...");
+        self.add_if(function.is_varargs & !all_but_last.is_empty(), ", ");
+        self.add_if(function.is_varargs, "...");
         self.add(&[Token::Text(") -> ")]);
         self.add_each(ret, &[])
-    }
-
-    fn add_fn(&mut self, function: &'a FnType)
-        ensures { Adds self.old.stack (λ s. fn_docs s function.now) self.new.stack }
-    {
-        self.add_binder(&function.binder);
-        self.add_if(function.is_unsafe, "unsafe ");
-        self.add_extern(&function.abi);
-        self.add_signature(function.params.as_slice(), function.is_varargs)
-    }
-
-    fn add_reference(&mut self, reference: &'a RefType)
-        ensures { Adds self.old.stack
-            (λ s. type_docs s (of_type.Reference reference.now)) self.new.stack }
-    {
-        self.add(&[Token::Text("&")]);
-        self.add_before(&reference.lifetime, " ");
-        self.add(&[
-            Token::Text(reference.mutability.as_keyword_for_ref()),
-            Token::Type(reference.ty),
-        ])
     }
 
     fn add_bounds(&mut self, keyword: &'a str, bounds: &'a [TypeBound])
@@ -159,7 +134,15 @@ impl<'a> Tokens<'a> {
                 Token::Text(mutability.as_keyword_for_ptr()),
                 Token::Type(*id),
             ]),
-            TypeRef::Reference(reference) => self.add_reference(reference.get()),
+            TypeRef::Reference(reference) => {
+                let reference = reference.get();
+                self.add(&[Token::Text("&")]);
+                self.add_before(&reference.lifetime, " ");
+                self.add(&[
+                    Token::Text(reference.mutability.as_keyword_for_ref()),
+                    Token::Type(reference.ty),
+                ])
+            }
             TypeRef::Array(array) => self.add(&[
                 Token::Text("["),
                 Token::Type(array.ty),

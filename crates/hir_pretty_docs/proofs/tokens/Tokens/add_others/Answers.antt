@@ -1,5 +1,7 @@
-use Rattle.hir_pretty_docs.proofs.Common.{adds_then}
+use Rattle.hir_pretty_docs.proofs.Common.{arith, adds_then, adding, Adds, ending_docs}
 use Rattle.hir_pretty_docs.proofs.tokens.Tokens.add_others.Goals as goal
 
 pub returns : goal.returns
-returns c = adds_then c.add_ending.ensures c.add_exprs.ensures
+returns c =
+    let ending : Adds c.args.self.now.stack (λ s. ending_docs c.args.ending) c.match-ending.self.stack = grind (arith, adding) in
+    adds_then ending c.add_exprs.ensures

@@ -1,4 +1,4 @@
-use Rattle.hir_pretty_docs.proofs.Common.{refl, adds, adds_then, adds_more, adds_as, binding_docs, bound_to}
+use Rattle.hir_pretty_docs.proofs.Common.{arith, refl, adds, adds_then, adds_more, adds_as, binding_docs, bound_to, slice_is}
 use Rattle.hir_pretty_docs.proofs.tokens.Tokens.add_pat.Goals as goal
 
 pub returns-in-Or : goal.returns-in-Or
@@ -17,10 +17,8 @@ pub returns-in-Tuple : goal.returns-in-Tuple
 returns-in-Tuple c = rw c.in-Tuple.is (rw c.as_slice.ensures at c.add_in_parentheses.ensures)
 
 pub returns-in-Slice : goal.returns-in-Slice
-returns-in-Slice c = rw c.in-Slice.is (rw (c.as_slice-in-Slice.ensures, c.as_slice-in-Slice-2.ensures) at c.add_slice.ensures)
+returns-in-Slice c = rw c.in-Slice.is (adds_as (adds_more (adds_then (adds_then (adds_then (adds c.add-in-Slice.ensures (λ s. refl)) (rw c.as_slice-in-Slice.ensures at c.add_each.ensures)) c.add_before.ensures) (rw c.as_slice-in-Slice-2.ensures at c.add_each-in-Slice.ensures)) c.add-in-Slice-2.ensures)
+    (λ s. slice_is c.in-Slice.prefix c.in-Slice.suffix c.in-Slice.slice))
 
 pub returns-in-Lit : goal.returns-in-Lit
-returns-in-Lit c = rw c.in-Lit.is c.add_in_pat-in-Lit.ensures
-
-pub returns-in-Expr : goal.returns-in-Expr
-returns-in-Expr c = rw c.in-Expr.is c.add_in_pat-in-Expr.ensures
+returns-in-Lit c = adds_as c.add_in_pat-in-Lit.ensures (λ s. let h = c.in-Lit.is in grind arith)

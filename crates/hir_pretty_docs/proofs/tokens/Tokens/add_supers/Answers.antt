@@ -1,6 +1,5 @@
 use Rattle.hir_pretty_docs.proofs.Common.{refl, arith, adds, left_begins, left_goes_on, left_ends, supers_more, supers_last}
 use Rattle.hir_pretty_docs.proofs.tokens.Tokens.add_supers.Goals as goal
-use Rattle.std.proofs.Common.{arith}
 
 pub loop-left-init : goal.loop-left-init
 loop-left-init c = record { some = omega arith; left = left_begins (λ s. refl) }

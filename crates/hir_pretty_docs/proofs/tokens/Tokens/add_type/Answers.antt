@@ -9,3 +9,6 @@ returns-in-ImplTrait c = rw c.in-ImplTrait.is (rw c.as_slice-in-ImplTrait.ensure
 
 pub returns-in-DynTrait : goal.returns-in-DynTrait
 returns-in-DynTrait c = rw c.in-DynTrait.is (rw c.as_slice-in-DynTrait.ensures at c.add_bounds-in-DynTrait.ensures)
+
+pub returns-in-Reference : goal.returns-in-Reference
+returns-in-Reference c = rw (c.in-Reference.is, ← c.get-reference.ensures) (adds_more (adds_then (adds c.add-in-Reference.ensures (λ s. refl)) c.add_before.ensures) (rw c.as_keyword_for_ref.ensures at c.add-in-Reference-2.ensures))
