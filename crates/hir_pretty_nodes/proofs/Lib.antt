@@ -7,4 +7,3 @@ pub mod DocsDecrease
 pub mod PieceLemmas
 pub mod SizeLemmas
 pub mod LoopLemmas
-pub mod NameLemmas

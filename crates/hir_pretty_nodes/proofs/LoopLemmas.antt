@@ -1,17 +1,17 @@
 -- Steps of the printer's loop, and what is printed of all that was added.
-use Rattle.std.proofs.Common.{◌≡◌, ℕ, ◌<◌, ◌≤◌, Bool, true, false, List, [], ◌∷◌, ◌++◌, map, length, Option, Some, None, refl, sym, ap, ap₂, subst, ◌∙◌, arith, append_assoc, append-nil, Result, Ok, Err, IsTrue, String, string_bytes, slice_get, rules}
+use Rattle.std.proofs.Common.{◌≡◌, ℕ, ◌<◌, ◌≤◌, Bool, true, false, List, [], ◌∷◌, ◌++◌, map, length, Option, Some, None, refl, sym, ap, ap₂, subst, ◌∙◌, arith, append_assoc, append-nil, Result, Ok, Err, IsTrue, String, slice_get, rules}
 use Rattle.std.proofs.lemmas.{Bool.cases_lt, List.reverse-append, List.reverse-reverse, Option.slice_get_past}
 use Rattle.std.specs.Prelude.{reverse}
 use Rattle.hir_collections.specs.Stacks.{StackItems, Defers}
 use Rattle.hir_collections.proofs.DeferredLemmas.{defers_none, defers_two}
 use Rattle.hir_base.specs.declared.prec.ExprPrecedence.{ExprPrecedence}
 use Rattle.hir_node.specs.declared.node_id.NodeId.TheVariants as node
-use Rattle.hir_pretty_layout.specs.{Page.Page, Page.empty_page, Page.page_text, Page.render, Layouts.Layout, Steps.steps}
+use Rattle.hir_pretty_layout.specs.{Page.Page, Page.empty_page, Layouts.Layout, Steps.steps}
 use Rattle.hir_pretty_docs.proofs.AddLemmas.{meant-append, is_false}
 use Rattle.hir_pretty_docs.specs.declared.token.Token.{Token}
 use Rattle.hir_pretty_docs.specs.declared.token.Token.TheVariants as token
-use Rattle.hir_pretty_nodes.specs.Prelude.{NodeId, Missing, PrintEnv, Doc, MissingDoc, ExprDoc, ExprIn, DocPiece, Present, PrintsPieces, WritesPieces, opt, format_of, layout, docs_of, pieces, doc_list_pieces, stands_in_parentheses, precedence_found, DocsDecrease, size, stands_for, docs_of_tokens, above, Adds, Printing, env_of, printing_of, on_page, AddsTo, printing, Stacked, all_printed, enclose, AddsAt, PrintsAlike, FindsAt, WritesToken, ExpandsToken, ComesTo}
-use Rattle.hir_pretty_nodes.specs.declared.{printer.Printer.Printer, lookups.Found.Found, fault.PrintFault.PrintFault}
+use Rattle.hir_pretty_nodes.specs.Prelude.{NodeId, Missing, PrintEnv, Doc, MissingDoc, ExprDoc, ExprIn, DocPiece, Present, PrintsPieces, WritesPieces, opt, format_of, docs_of, pieces, doc_list_pieces, stands_in_parentheses, precedence_found, DocsDecrease, size, stands_for, docs_of_tokens, above, Adds, Printing, env_of, printing_of, on_page, AddsTo, printing, Stacked, all_printed, enclose, AddsAt, PrintsAlike, WritesToken, ExpandsToken, ComesTo}
+use Rattle.hir_pretty_nodes.specs.declared.{printer.Printer.Printer, fault.PrintFault.PrintFault}
 use Rattle.hir_pretty_nodes.specs.declared.fault.PrintFault.TheVariants as fault
 use Rattle.hir_pretty_nodes.proofs.PieceLemmas.{printed-append, enclosed_printed, pieces_alike, missing_is, value_of_pieces, nothing_left, is_missing}
 use Rattle.hir_pretty_nodes.proofs.{StepLemmas.pieces_at, SizeLemmas.size-append, SizeLemmas.node_size_at, SizeLemmas.enclosed_size}
@@ -19,10 +19,6 @@ use Rattle.hir_pretty_nodes.proofs.{StepLemmas.pieces_at, SizeLemmas.size-append
 -- what is out of range isn't found
 pub not_there : {X : Type 0} (xs : List X) (id : ℕ) (b : Bool) → (IsTrue b → id < length xs) × (id < length xs → IsTrue b) → b ≡ false → slice_get xs id ≡ None
 not_there xs id b k e = search (rules, cases_lt, slice_get_past)
-
--- what was found, by other words for its documents
-pub finds_as : {s : PrintEnv} {is js : List Doc} {result : Result Found Missing} → is ≡ js → FindsAt s is result → FindsAt s js result
-finds_as {s} {result = result} e a = subst (λ ds. FindsAt s ds result) e a
 
 -- 1. Tokens that were added for one store
 
@@ -117,9 +113,6 @@ module _ {W : Type 0} {step : Layout → W → W} {old new : Stacked W} (fall : 
 module _ {W : Type 0} {step : Layout → W → W} where
   -- 4. What waits comes to the same
 
-  pub comes_same : (old : Stacked W) → ComesTo step old old.tokens.items old
-  comes_same old = record { from = refl; same = refl; most = omega arith }
-
   -- these tokens are left once the next was taken from the stack
   pub comes_taken : {old now taken : Stacked W} {left : List Token} → ComesTo step old now.tokens.items now → now.tokens.items ≡ left → taken.from ≡ now.from → taken.value ≡ now.value
       → ComesTo step old left taken
@@ -163,10 +156,6 @@ module _ {W : Type 0} (step : Layout → W → W) (s : PrintEnv) (value : W) (ol
       ≡ printing step value (doc_list_pieces s (docs_of_tokens s new.items))
   turned_over = ap (λ ws. printing step value (doc_list_pieces s (docs_of_tokens s ws))) (sym (turned_items old turn))
 
-  pub turned_missing : {m : Missing} → (printing step value (doc_list_pieces s (docs_of_tokens s new.items))).1 ≡ Some m
-      → (printing step value (doc_list_pieces s (docs_of_tokens s (reverse old.items)))).1 ≡ Some m
-  turned_missing e = ap (λ (r : W × Option Missing). r.1) turned_over ∙ e
-
 -- a stack that refused isn't turned over
 turned_whole : (before old : StackItems Token) {new : StackItems Token} → TurnsOver (length before.items) old new → old.refused ≡ false
 turned_whole before old {new} turn = is_false old.refused (λ e.
@@ -207,6 +196,10 @@ module _ {W : Type 0} {step : Layout → W → W} {s : PrintEnv} {whole : W × O
         let m = ap (size s) docs_now in
         let n = size-append s (docs_of_tokens s a.expansion) (docs_of_tokens s taken.tokens.items) in omega arith
 
+  -- what is missing among what waits
+  pub comes_missed : {now : Stacked W} {m : Missing} → Comes step s whole now → (all_printed step now).1 ≡ Some m → whole.1 ≡ Some m
+  comes_missed {now} {m} c missing = search rules
+
   -- nothing waits
   pub comes_over : {now last : Stacked W} → Comes step s whole now → ComesTo step now [] last → whole ≡ (last.value, None)
   comes_over {now} {last} c next = search (rules, nothing_left)
@@ -220,14 +213,7 @@ module _ {W : Type 0} {step : Layout → W → W} {value : W} {ps : List DocPiec
   pub writes_fault : (found : PrintFault) → ((m : Missing) → found ≡ fault.Missing m → (printing step value ps).1 ≡ Some m) → WritesPieces step ps value (Err found)
   writes_fault found h = record { exit = tt; missing = λ m e. sym (missing_is step value ps) ∙ h m (cc) }
 
--- the text of a page that was written, and a fault
-pub prints_text : {A : Type 0} {s : PrintEnv} {ps : List DocPiece} {entry page : Page} (result : String A) → WritesPieces render ps entry (Ok page) → string_bytes result ≡ page_text page
-    → entry ≡ empty_page (format_of s.one_line) → PrintsPieces s ps (Ok result)
-prints_text {ps = ps} result a t e = record { text = (a.exit.0, t ∙ ap page_text a.exit.1 ∙ ap (λ p. page_text (steps render (layout ps) p)) e); missing = λ m f. absurd (cc) }
-
-pub prints_fault : {A : Type 0} {s : PrintEnv} {ps : List DocPiece} {entry : Page} (found : PrintFault) → WritesPieces {W = Page} render ps entry (Err found) → PrintsPieces {A = A} s ps (Err found)
-prints_fault found a = record { text = tt; missing = λ m e. a.missing m (cc) }
-
+-- that an allocation failed
 pub prints_refused : {Z : Type 0} {s : PrintEnv} {ps : List DocPiece} → PrintsPieces {A = Z} s ps (Err fault.Memory)
 prints_refused = record { text = tt; missing = λ n e. absurd (cc) }
 
@@ -260,13 +246,6 @@ added_to old {new} {between} {docs} a h same =
     let whole : new.tokens.stack.refused ≡ false = ap (λ (v : StackItems Token). v.refused) stack ∙ h.0 in
     record { same = ap printing_of same ∙ ap₂ (λ ds b. record (printing_of old) { added = ds; refused = b }) is whole }
 
--- by its own calls
-pub prints_added : {Z : Type 0} {s : PrintEnv} {first added : Printing Page} {docs : PrintEnv → List Doc} {result : Result (String Z) PrintFault} → first ≡ on_page s → AddsTo first docs added
-    → (added.value ≡ empty_page (format_of added.from.one_line) → PrintsPieces added.from (doc_list_pieces added.from added.added) result)
-    → (added.refused ≡ true → result ≡ Err fault.Memory) → PrintsPieces s (doc_list_pieces s (docs s)) result
-prints_added {added = added} {docs} b a pieces memory = search (rules, prints_docs)
-
--- by those of its tokens
 pub prints : {Z : Type 0} {s : PrintEnv} (first : Printer Page) {added : Printer Page} {docs : PrintEnv → List Doc} {result : Result (String Z) PrintFault} → printing_of first ≡ on_page s
     → added ≡ record first { tokens = added.tokens } → Adds first.tokens.stack docs added.tokens.stack
     → ((printing_of added).value ≡ empty_page (format_of (env_of added).one_line) → PrintsPieces (env_of added) (doc_list_pieces (env_of added) (printing_of added).added) result)

@@ -136,11 +136,6 @@ module _ {W : Type 0} (step : Layout → W → W) where
   unfolding printing
   nothing_left value = refl
 
-  -- layouts one after another
-  pub steps_then : (ps qs : List Layout) (value : W) → steps step qs (steps step ps value) ≡ steps step (ps ++ qs) value
-  steps_then [] qs value = refl
-  steps_then (p ∷ ps) qs value = steps_then ps qs (step p value)
-
   pub is_missing : (value : W) (missing : Missing) (ps : List DocPiece) → (printing step value (Absent missing ∷ ps)).1 ≡ Some missing
   unfolding printing
   is_missing value missing ps = refl

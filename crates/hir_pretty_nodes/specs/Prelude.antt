@@ -19,6 +19,6 @@ pub use Rattle.hir_pretty_nodes.specs.TableLookups.{found_or, lookups_of}
 pub use Rattle.hir_pretty_nodes.specs.Printing.{Printing, env_of, printing_of, begun, on_page, AddsTo}
 pub use Rattle.hir_pretty_nodes.specs.internal.Found.{found_docs, FindsAt, Finds}
 pub use Rattle.hir_pretty_nodes.specs.internal.Names.{first_if, texts_of}
-pub use Rattle.hir_pretty_nodes.specs.internal.Pieces.{put_pieces, last_field_end, plain_pieces, param_pieces, binding_pieces, found_pieces}
+pub use Rattle.hir_pretty_nodes.specs.internal.Pieces.{put_pieces, last_field_end, plain_pieces, found_pieces}
 pub use Rattle.hir_pretty_nodes.specs.internal.Steps.{Stacked, stacked, all_printed, enclose, AddsAt, AddsIn, PrintsAlike, WritesToken, ExpandsToken, ComesTo, NextNode}
 unfoldable pub use Rattle.hir_pretty_nodes.specs.internal.Steps.{printing}

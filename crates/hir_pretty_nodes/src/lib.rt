@@ -3,7 +3,6 @@
 
 mod expand;
 mod fault;
-mod fields;
 pub mod laws;
 mod literals;
 mod lookups;

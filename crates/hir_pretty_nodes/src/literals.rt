@@ -32,11 +32,10 @@ pub(crate) fn write_literal<W: PieceWriter>(
         Literal::Uint(number, None) => write_number(writer, *number),
         Literal::Uint(number, Some(suffix)) => write_suffixed(writer, *number, suffix.as_str()),
         Literal::Float(number, None) => writer.text(number.as_str()),
-        Literal::Float(number, Some(suffix)) => write_both(
-            writer,
-            number.as_str(),
-            suffix.as_str(),
-        ),
+        Literal::Float(number, Some(suffix)) => {
+            writer.text(number.as_str())?;
+            writer.text(suffix.as_str())
+        }
     }
 }
 
@@ -49,13 +48,5 @@ fn write_suffixed<W: PieceWriter, I: Integer>(
         ≡ steps W.step (piece.Text (I.text number) ∷ piece.Text suffix.now ∷ []) writer.old) }
 {
     write_number(writer, number)?;
-    writer.text(suffix)
-}
-
-fn write_both<W: PieceWriter>(writer: &mut W, number: &str, suffix: &str) -> Result<(), AllocError>
-    ensures { OnOk result (writer.new
-        ≡ steps W.step (piece.Text number.now ∷ piece.Text suffix.now ∷ []) writer.old) }
-{
-    writer.text(number)?;
     writer.text(suffix)
 }

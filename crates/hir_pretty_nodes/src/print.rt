@@ -1,6 +1,6 @@
 //! The printer's loop, and the text that it gives.
 
-ghost use Rattle.std.specs.Prelude.{◌≡◌, true, None, Some, Err, OnOk, IfOk};
+ghost use Rattle.std.specs.Prelude.{◌≡◌, true, Some, Err, IfOk};
 ghost use Rattle.hir_pretty_layout.specs.Page.{empty_page};
 ghost use Rattle.hir_pretty_nodes.specs.Prelude.{Missing, doc_list_pieces, PrintsPieces, WritesPieces, format_of, printing_of, stacked, all_printed, NextNode};
 ghost use Rattle.hir_pretty_nodes.specs.declared.fault.PrintFault.TheVariants as fault;
@@ -24,42 +24,6 @@ impl<'a, W: PieceWriter> Printer<'a, W> {
         }
         Ok(None)
     }
-
-    /// Writes what waits, up to the first fault.
-    fn write(&mut self) -> Result<(), PrintFault>
-        ensures ok { OnOk result (all_printed W.step (stacked self.old) ≡ (self.new.writer, None)) }
-        ensures missing { (m : Missing) → result ≡ Err (fault.Missing m)
-            → (all_printed W.step (stacked self.old)).1 ≡ Some m }
-    {
-        self.store.has_no_fault();
-        docs_decrease();
-        'nodes: loop {
-            match self.next_node() {
-                Err(fault) => return Err(fault),
-                Ok(None) => return Ok(()),
-                Ok(Some(node)) => {
-                    let below = self.tokens.stack.len();
-                    self.expand(&node)?;
-                    self.tokens.stack.push_deferred(below)?;
-                }
-            }
-        }
-    }
-
-    /// What was written to.
-    fn into_writer(self) -> W
-        ensures { result ≡ self.entry.writer }
-    {
-        let Printer {
-            store: _,
-            tables: _,
-            words: _,
-            one_line: _,
-            writer,
-            tokens: _,
-        } = self;
-        writer
-    }
 }
 
 impl<'a, W: PieceWriter + Drop> Printer<'a, W> {
@@ -72,9 +36,22 @@ impl<'a, W: PieceWriter + Drop> Printer<'a, W> {
             WritesPieces W.step (doc_list_pieces p.from p.added) p.value result }
         ensures memory { (printing_of self.entry).refused ≡ true → result ≡ Err fault.Memory }
     {
+        self.store.has_no_fault();
+        docs_decrease();
         self.tokens.stack.push_deferred(0)?;
-        self.write()?;
-        Ok(self.into_writer())
+        'nodes: loop {
+            match self.next_node() {
+                Err(fault) => return Err(fault),
+                Ok(None) => break,
+                Ok(Some(node)) => {
+                    let below = self.tokens.stack.len();
+                    self.expand(&node)?;
+                    self.tokens.stack.push_deferred(below)?;
+                }
+            }
+        }
+        let Printer { writer, .. } = self;
+        Ok(writer)
     }
 }
 

@@ -2,7 +2,7 @@
 
 ghost use Rattle.std.specs.Prelude.{◌≡◌, ◌++◌, true, OnErr, OnOk, map};
 ghost use Rattle.hir_pretty_layout.specs.Page.{render};
-ghost use Rattle.hir_pretty_nodes.specs.Prelude.{words_of, text, join, path_docs, docs_one_by_one, print_env, lookups_of, format_of, begun, on_page, printing_of, AddsTo};
+ghost use Rattle.hir_pretty_nodes.specs.Prelude.{words_of, text, join, path_docs, docs_one_by_one, print_env, lookups_of, begun, on_page, printing_of, AddsTo};
 
 use hir_base::Edition;
 use hir_collections::Text;
@@ -27,16 +27,6 @@ pub struct Printer<'a, W> {
     pub tokens: Tokens<'a>,
 }
 
-fn line_format(one_line: bool) -> LineFormat
-    ensures { result ≡ format_of one_line }
-{
-    if one_line {
-        LineFormat::Oneline
-    } else {
-        LineFormat::Newline
-    }
-}
-
 impl<'a> Printer<'a, PageBuffer> {
     /// A printer onto an empty page. It allocates from `alloc`, and nothing now.
     pub fn new(
@@ -49,7 +39,12 @@ impl<'a> Printer<'a, PageBuffer> {
         ensures { printing_of result ≡ on_page
             (print_env store.now (lookups_of tables.now) (words_of tables.now.words edition) one_line) }
     {
-        let page = PageBuffer::new(alloc, line_format(one_line));
+        let format = if one_line {
+            LineFormat::Oneline
+        } else {
+            LineFormat::Newline
+        };
+        let page = PageBuffer::new(alloc, format);
         Printer::over(alloc, page, store, tables, edition, one_line)
     }
 }

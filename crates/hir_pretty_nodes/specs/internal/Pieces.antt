@@ -1,6 +1,5 @@
 -- The layouts that are written of a token, and of what was found.
 use Rattle.std.specs.Prelude.{ℕ, Bool, true, false, List, [], ◌∷◌, ◌++◌, map, codes, decimal}
-use Rattle.hir_node.specs.declared.binding.Binding.{Binding}
 use Rattle.hir_pretty_layout.specs.Layouts.{Layout, Text, SoftSpace, Break, Indent, Outdent}
 use Rattle.hir_pretty_docs.specs.{Docs.Doc, Docs.Put, Names.name_parts, Names.annotation_docs, Literals.literal_docs}
 use Rattle.hir_pretty_docs.specs.declared.token.Token.{Token}
@@ -31,15 +30,9 @@ plain_pieces words one_line (token.Name name) = map Text (name_parts words name.
 plain_pieces words one_line token.LastFieldEnd = last_field_end one_line
 plain_pieces words one_line w = []
 
-abbrev pub param_pieces : ℕ → List Layout
-param_pieces n = Text (codes "Param[") ∷ Text (decimal n) ∷ Text (codes "]") ∷ []
-
-abbrev pub binding_pieces : List (List ℕ) → Binding → List Layout
-binding_pieces words b = put_pieces (annotation_docs b.mode) ++ map Text (name_parts words b.name)
-
 abbrev pub found_pieces : List (List ℕ) → Found → List Layout
 found_pieces words found.Nothing = []
 found_pieces words (found.Text x) = Text x.now ∷ []
 found_pieces words (found.Name name) = map Text (name_parts words name.now)
-found_pieces words (found.Param n) = param_pieces n
-found_pieces words (found.Binding binding) = binding_pieces words binding.now
+found_pieces words (found.Param n) = Text (codes "Param[") ∷ Text (decimal n) ∷ Text (codes "]") ∷ []
+found_pieces words (found.Binding b) = put_pieces (annotation_docs b.now.mode) ++ map Text (name_parts words b.now.name)
