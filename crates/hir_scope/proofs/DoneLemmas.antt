@@ -1,5 +1,5 @@
 -- How each task moves a walk on.
-use Rattle.std.proofs.Common.{◌≡◌, ℕ, suc, ◌<◌, List, [], ◌∷◌, ◌++◌, Option, Some, None, length, map, refl, subst, arith, Contains, rules}
+use Rattle.std.proofs.Common.{◌≡◌, ℕ, suc, ◌<◌, List, [], ◌∷◌, ◌++◌, Option, Some, None, length, map, refl, sym, subst, arith, Contains, rules}
 use Rattle.std.proofs.Common.{ap, ◌∙◌, ◌+◌}
 use Rattle.std.proofs.lemmas.List.{Concat.flat_map-append, Elements.All-nil, Elements.All-cons}
 use Rattle.std.proofs.lemmas.List.Sorted.{IsPermutation-sym, Contains-permutation}
@@ -233,23 +233,27 @@ module _ (s : Nodes) where
     pat_opens w None = refl
     pat_opens w (Some x) = refl
 
-    pub pat_moves : {us : List Task} → us ≡ form_tasks a (form_of s (NodeId.Pat id)) ++ ts →
+    pat_met : {x : Pat} {us : List Task} → slice_get s.pats id ≡ Some x → us ≡ form_tasks a (pat_form x) ++ ts →
+        us ≡ form_tasks a (form_of s (NodeId.Pat id)) ++ ts
+    pat_met is e = e ∙ ap (λ (x : Option Pat). form_tasks a (form_at pat_form x) ++ ts) (sym is)
+
+    pub pat_moves : {x : Pat} {us : List Task} → slice_get s.pats id ≡ Some x → us ≡ form_tasks a (pat_form x) ++ ts →
         IsReady s (with_next m (Task.Pat id)) → Step s (with_next m (Task.Pat id)) (walk_state m us) []
-    pat_moves e r =
+    pat_moves is e r =
         let n = NodeId.Pat id in
-        moves_still s e r.scope r.const_scope (leaves_met count a (form_of s n) ts r.scope r.const_scope r.leaves)
+        moves_still s (pat_met is e) r.scope r.const_scope (leaves_met count a (form_of s n) ts r.scope r.const_scope r.leaves)
         (known_met s fall a n ts r.known.0 r.known.1) (future_pat s fall chain a h k id ts r.known.0)
         (λ w. omega (arith, weight_met s fall w a n ts r.known.0, weight_cons w (Task.Pat id) ts, pat_opens w (slice_get s.pats id)))
         (omega (arith, turns_met s fall a n ts r.known.0, turns_cons (Task.Pat id) ts))
 
     -- a pattern in a scope of its own: the scope is opened, and what is inside the pattern comes next
-    pub bound_moves : {us : List Task} {new : WalkState} → us ≡ form_tasks a (form_of s (NodeId.Pat id)) ++ ts →
-        OpensScopes (walk_state m us) new (frame s (id ∷ []) ∷ []) [] → IsReady s (with_next m (Task.Bound id)) →
-        Step s (with_next m (Task.Bound id)) new []
+    pub bound_moves : {x : Pat} {us : List Task} {new : WalkState} → slice_get s.pats id ≡ Some x →
+        us ≡ form_tasks a (pat_form x) ++ ts → OpensScopes (walk_state m us) new (frame s (id ∷ []) ∷ []) [] →
+        IsReady s (with_next m (Task.Bound id)) → Step s (with_next m (Task.Bound id)) new []
     unfolding future
-    bound_moves e o r =
+    bound_moves is e o r =
         let n = NodeId.Pat id in
-        moves_opened s e o (leaves_met count a (form_of s n) ts r.scope r.const_scope r.leaves)
+        moves_opened s (pat_met is e) o (leaves_met count a (form_of s n) ts r.scope r.const_scope r.leaves)
         (known_met s fall a n ts r.known.0 r.known.1) (future_pat s fall chain a (frame s (id ∷ []) ∷ h) k id ts r.known.0)
         (λ w. omega (arith, weight_met s fall w a n ts r.known.0, weight_cons w (Task.Bound id) ts, pat_opens w (slice_get s.pats id)))
         (omega (arith, turns_met s fall a n ts r.known.0, turns_cons (Task.Bound id) ts))
@@ -268,13 +272,13 @@ module _ (s : Nodes) where
     type_opens w (Some (TypeRef.PatternType inner pat)) = refl
     type_opens w (Some _) = refl
 
-    pub type_moves : {us : List Task} → us ≡ form_tasks (both a.const_scope) (form_of s (NodeId.TypeRef id)) ++ (leave a ∷ ts) →
-        IsReady s (with_next m (Task.TypeRef id)) → Step s (with_next m (Task.TypeRef id)) (at m.scopes (both a.const_scope) us) []
-    type_moves e r =
+    pub type_moves : {x : TypeRef} {us : List Task} → slice_get s.types id ≡ Some x →
+        us ≡ form_tasks (both a.const_scope) (type_form x) ++ (leave a ∷ ts) → IsReady s (with_next m (Task.TypeRef id)) → Step s (with_next m (Task.TypeRef id)) (at m.scopes (both a.const_scope) us) []
+    type_moves is e r =
         let n = NodeId.TypeRef id in
         let b = both a.const_scope in
         let vs = leave a ∷ ts in
-        moves_still s e r.const_scope r.const_scope
+        moves_still s (e ∙ ap (λ (x : Option TypeRef). form_tasks b (form_at type_form x) ++ vs) (sym is)) r.const_scope r.const_scope
         (leaves_met count b (form_of s n) vs r.const_scope r.const_scope (r.scope, r.const_scope, r.leaves))
         (known_met s fall b n vs r.known.0 r.known.1) (future_type s fall chain a id ts r.known.0 ∙ type_future b vs (slice_get s.types id))
         (λ w.

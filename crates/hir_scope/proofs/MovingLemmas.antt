@@ -265,6 +265,14 @@ module _ (s : Nodes) where
       OnOk r (Step s (with_next w u) new []) → OnOk r (CountedStep s (with_next w t) new n n)
   goes_task w t u n r new e moves = search (rules, on_ok_weaker, gone_moved)
 
+  -- one that calls nothing at its end
+  pub goes_when : (w : Walk) (t u : Task) (n : ℕ) (new : WalkState) → t ≡ u → IsReady s (with_next w t) →
+      (IsReady s (with_next w u) → Step s (with_next w u) new []) → CountedStep s (with_next w t) new n n
+  goes_when w t u n new e r moves =
+      let m = moves (subst (λ (x : Task). IsReady s (with_next w x)) e r) in
+      let goes : CountedStep s (with_next w u) new n n = record { gone = gone_moved (with_next w u) new n m; shorter = m.shorter } in
+      subst (λ (x : Task). CountedStep s (with_next w x) new n n) (sym e) goes
+
   pub goes_given : (S : Scopes) (a : CurrentScopes) (t : Task) (ts : List Task) (mid : WalkState) (last : Scopes)
       (current : CurrentScopes) (tasks : List Task) (id scope : ℕ) (n m : ℕ) → t ≡ Task.Expr id →
       Step s (at S a (Task.Expr id ∷ ts)) mid

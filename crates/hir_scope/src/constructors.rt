@@ -1,24 +1,20 @@
 //! The scopes of a body or a signature, made by a walk over what it reaches; and where the walk begins.
-ghost use Rattle.std.specs.Prelude.{◌≡◌, ◌+◌, ◌<◌, ◌≤◌, ◌∷◌, ◌++◌, [], length, option_map, Err, IfOk, OnErr, OnOk};
-ghost use Rattle.std.specs.List.{All, flat_map};
-ghost use Rattle.hir_validate.specs.TestedParts.{all_of};
-ghost use Rattle.hir_body.specs.Bodies.{AreBelow, body_nodes, formals_of};
+ghost use Rattle.std.specs.Prelude.{◌≡◌, ◌+◌, ◌<◌, ◌≤◌, [], length, Err, IfOk, OnErr, OnOk};
+ghost use Rattle.hir_body.specs.Bodies.{body_nodes};
 ghost use Rattle.hir_scope.specs.BodyScopes.{AreBodyScopes, AreSignatureScopes, BodyIsTooLarge, SignatureIsTooLarge, expr_count};
-ghost use Rattle.hir_scope.specs.Frames.{entry_at, binds};
-ghost use Rattle.hir_scope.specs.internal.Begins.{IsSoundBody, IsSoundStore, at_first, for_none, root_entries, body_root, body_begins, formal_tasks, signature_begins};
+ghost use Rattle.hir_scope.specs.internal.Begins.{IsSoundBody, IsSoundStore, at_first, for_none, root_entries, body_begins};
 ghost use Rattle.hir_scope.specs.internal.WalkState.{state};
 
 use crate::entries::{add_entry, add_pat};
 use crate::expr_scopes::ExprScopes;
 use crate::fault::ScopesFault;
-use crate::scope::{ScopeEntry, ScopeId, ScopeKind};
+use crate::scope::{ScopeId, ScopeKind};
 use crate::tasks::{CurrentScopes, Task, Tasks};
 use crate::walk::Walk;
 use hir_base::Steps;
+use hir_body::Body;
 use hir_body::laws::entry_nodes_are_in_range;
-use hir_body::{Body, Param};
 use hir_collections::{MOST_ITEMS, Stack};
-use hir_node::{BindingId, PatId};
 use hir_store_core::ExpressionStore;
 use hir_store_core::laws::{
     bindings_in_unfold, nodes_are_sound, nodes_under_unfold, rank_decreases, roots_stand_apart,
@@ -54,53 +50,6 @@ fn is_sound_body(body: &Body)
     let _ = body.self_param();
 }
 
-/// Appends the entry of `self`, where the body has one.
-fn add_self(
-    entries: &mut Vec<ScopeEntry>,
-    store: &ExpressionStore,
-    self_param: Option<Param<BindingId>>,
-) -> Result<(), ScopesFault>
-    ensures ok { OnOk result (entries.new.items ≡ entries.old.items
-        ++ all_of (entry_at store.now.nodes) (option_map (λ p. p.formal) self_param)) }
-    ensures memory { OnErr result (result ≡ Err ScopesFault.Memory) }
-{
-    match self_param {
-        None => Ok(()),
-        Some(param) => add_entry(entries, store, param.formal),
-    }
-}
-
-/// Appends the entries of what the formals bind.
-fn add_formals(
-    entries: &mut Vec<ScopeEntry>,
-    store: &ExpressionStore,
-    params: &[Param<PatId>],
-) -> Result<(), ScopesFault>
-    requires { All (AreBelow (length store.now.nodes.pats)) params.now }
-    ensures ok { OnOk result (entries.new.items ≡ entries.old.items
-        ++ flat_map (binds store.now.nodes) (formals_of params.now)) }
-    ensures memory { OnErr result (result ≡ Err ScopesFault.Memory) }
-{
-    for param in params {
-        add_pat(entries, store, param.formal)?;
-    }
-    Ok(())
-}
-
-/// Pushes the formals, the first on top.
-fn push_formals(tasks: &mut Tasks, params: &[Param<PatId>]) -> Result<(), ScopesFault>
-    ensures ok { OnOk result (tasks.new.stack.items
-        ≡ formal_tasks (formals_of params.now) ++ tasks.old.stack.items) }
-    ensures memory { OnErr result (result ≡ Err ScopesFault.Memory) }
-{
-    let mut rest = params.len();
-    while rest > 0 {
-        rest -= 1;
-        tasks.push(Task::Pat(params[rest].formal))?;
-    }
-    Ok(())
-}
-
 impl Walk {
     /// Returns a walk without scopes and without tasks. It has room for the scopes of the store's
     /// expressions, and for an entry of each binding.
@@ -121,49 +70,29 @@ impl Walk {
         })
     }
 
-    /// Opens the root scope of a body: what `self` and the formals bind.
-    fn open_root(&mut self, body: &Body) -> Result<(), ScopesFault>
-        requires scopes { self.old.scopes ≡ for_none [] }
-        requires entries { self.old.entries.items ≡ [] }
-        ensures ok { OnOk result (self.new.scopes ≡ for_none (body_root body.now ∷ [])) }
-        ensures current { self.new.current ≡ self.old.current }
-        ensures tasks { self.new.tasks ≡ self.old.tasks }
-        ensures full { result ≡ Err ScopesFault.Full → MOST_ITEMS < length (root_entries body.now) }
-        ensures missing { result ≡ Err ScopesFault.Missing → ⊥ }
-    {
-        let store = body.store();
-        let entries = &mut self.entries;
-        add_self(entries, store, body.self_param())?;
-        add_formals(entries, store, body.params())?;
-        self.scopes.new_scope(None, ScopeKind::None, entries)?;
-        Ok(())
-    }
-
-    /// Returns the walk over a body, before its first step.
+    /// Returns the walk over a body, before its first step: it has the root scope, of what `self` and the
+    /// formals bind.
     fn over_body(alloc: Global, body: &Body) -> Result<Walk, ScopesFault>
         ensures ok { IfOk result (λ walk. state walk ≡ body_begins body.now) }
         ensures full { result ≡ Err ScopesFault.Full → MOST_ITEMS < length (root_entries body.now) }
         ensures missing { result ≡ Err ScopesFault.Missing → ⊥ }
     {
-        let mut walk = Walk::new(alloc, body.store())?;
-        walk.open_root(body)?;
-        walk.tasks.push(Task::Expr(body.root_expr()))?;
-        push_formals(&mut walk.tasks, body.params())?;
-        Ok(walk)
-    }
-
-    /// Returns the walk over a signature, before its first step: it has the root scope, which is empty.
-    fn over_roots(alloc: Global, store: &ExpressionStore) -> Result<Walk, ScopesFault>
-        ensures ok { IfOk result (λ walk. state walk ≡ signature_begins store.now) }
-        ensures full { result ≡ Err ScopesFault.Full → MOST_ITEMS < 1 + length store.now.roots }
-        ensures missing { result ≡ Err ScopesFault.Missing → ⊥ }
-    {
+        let store = body.store();
+        let params = body.params();
         let mut walk = Walk::new(alloc, store)?;
-        let mut none = Vec::new(alloc);
-        walk.scopes.new_scope(None, ScopeKind::None, &mut none)?;
-        let mut roots = store.expr_roots();
-        while let Some(root) = roots.next_back() {
-            walk.tasks.push(Task::Root(root))?;
+        let entries = &mut walk.entries;
+        if let Some(param) = body.self_param() {
+            add_entry(entries, store, param.formal)?;
+        }
+        for param in params {
+            add_pat(entries, store, param.formal)?;
+        }
+        walk.scopes.new_scope(None, ScopeKind::None, entries)?;
+        walk.tasks.push(Task::Expr(body.root_expr()))?;
+        let mut rest = params.len();
+        while rest > 0 {
+            rest -= 1;
+            walk.tasks.push(Task::Pat(params[rest].formal))?;
         }
         Ok(walk)
     }
@@ -215,8 +144,14 @@ impl ExprScopes {
         ensures missing { result ≡ Err ScopesFault.Missing → ⊥ }
     {
         is_sound_store(store);
+        let mut walk = Walk::new(alloc, store)?;
+        walk.scopes
+            .new_scope(None, ScopeKind::None, &mut walk.entries)?;
+        let mut roots = store.expr_roots();
+        while let Some(root) = roots.next_back() {
+            walk.tasks.push(Task::Root(root))?;
+        }
         let mut steps = Steps::new();
-        let mut walk = Walk::over_roots(alloc, store)?;
         walk.run(store, &mut steps)?;
         Ok(walk.scopes)
     }

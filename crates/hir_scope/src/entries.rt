@@ -1,7 +1,6 @@
 //! The entries of what patterns bind, until a scope takes them.
 
 ghost use Rattle.std.specs.Prelude.{◌≡◌, ◌<◌, ◌++◌, length, Err, OnErr, OnOk};
-ghost use Rattle.std.specs.List.{All, flat_map};
 ghost use Rattle.hir_scope.specs.Frames.{entry_at, binds};
 
 use crate::fault::ScopesFault;
@@ -51,21 +50,4 @@ pub(crate) fn add_pat(
             ensures memory { OnErr result (result ≡ Err ScopesFault.Memory) }
         { add_entry(entries, store, id) },
     )
-}
-
-/// Appends the entries of what patterns bind, in the order of the patterns.
-pub(crate) fn add_pats(
-    entries: &mut Vec<ScopeEntry>,
-    store: &ExpressionStore,
-    pats: &[PatId],
-) -> Result<(), ScopesFault>
-    requires { All (λ pat. pat < length store.now.nodes.pats) pats.now }
-    ensures ok { OnOk result (entries.new.items
-        ≡ entries.old.items ++ flat_map (binds store.now.nodes) pats.now) }
-    ensures memory { OnErr result (result ≡ Err ScopesFault.Memory) }
-{
-    for pat in pats {
-        add_pat(entries, store, *pat)?;
-    }
-    Ok(())
 }

@@ -127,9 +127,7 @@ impl ExprScopes {
     {
         match self.scopes[scope.into_raw() as usize].kind {
             ScopeKind::Block { id, label: _ } => Some(id),
-            ScopeKind::None => None,
-            ScopeKind::Label(_) => None,
-            ScopeKind::MacroDef(_) => None,
+            ScopeKind::None | ScopeKind::Label(_) | ScopeKind::MacroDef(_) => None,
         }
     }
 
@@ -141,9 +139,7 @@ impl ExprScopes {
     {
         match self.scopes[scope.into_raw() as usize].kind {
             ScopeKind::MacroDef(id) => Some(id),
-            ScopeKind::None => None,
-            ScopeKind::Label(_) => None,
-            ScopeKind::Block { id: _, label: _ } => None,
+            ScopeKind::None | ScopeKind::Label(_) | ScopeKind::Block { .. } => None,
         }
     }
 
@@ -156,8 +152,7 @@ impl ExprScopes {
         match self.scopes[scope.into_raw() as usize].kind {
             ScopeKind::Block { id: _, label } => label,
             ScopeKind::Label(label) => Some(label),
-            ScopeKind::None => None,
-            ScopeKind::MacroDef(_) => None,
+            ScopeKind::None | ScopeKind::MacroDef(_) => None,
         }
     }
 
@@ -188,10 +183,7 @@ impl ExprScopes {
         ensures scope { result ≡ map.get self.now.scope_by_expr expr }
         ensures in_range { ScopeIsInRange self.now.scopes result }
     {
-        match self.scope_by_expr.get(expr) {
-            Some(scope) => Some(*scope),
-            None => None,
-        }
+        self.scope_by_expr.get(expr).copied()
     }
 
     /// Returns the scope of each expression that has one.

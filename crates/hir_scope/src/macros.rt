@@ -29,20 +29,6 @@ impl TryClone for Expansion {
     ghost clone_is_same = { Prim.search exact };
 }
 
-/// Returns the expansion that names of this hygiene come from, where it is known. Source text comes from
-/// none.
-fn expansion_of(
-    expansions: &HashMap<HygieneId, Expansion>,
-    hygiene: HygieneId,
-) -> Option<&Expansion>
-    ensures { option_copied result ≡ expansion_of expansions.now hygiene }
-{
-    if hygiene.is_root() {
-        return None;
-    }
-    expansions.get(&hygiene)
-}
-
 /// Returns the hygiene that a name has outward of a scope, which may be that of a macro's definition.
 fn outward(
     macro_def: Option<MacroDefId>,
@@ -52,7 +38,8 @@ fn outward(
     ensures { result ≡ outward macro_def (expansion_of expansions.now hygiene) hygiene }
 {
     if let Some(id) = macro_def
-        && let Some(expansion) = expansion_of(expansions, hygiene)
+        && !hygiene.is_root()
+        && let Some(expansion) = expansions.get(&hygiene)
         && expansion.macro_def == id
     {
         return expansion.parent;

@@ -6,28 +6,17 @@ ghost use Rattle.hir_node.specs.ChildCalls.{children};
 ghost use Rattle.hir_scope.specs.ScopingForms.{form_model};
 ghost use Rattle.hir_scope.specs.Order.{met_in_form};
 ghost use Rattle.hir_scope.specs.Frames.{frame_with, of_kind};
-ghost use Rattle.hir_scope.specs.ChildContexts.{block_const_frames, loop_kind, own_frame};
 ghost use Rattle.hir_scope.specs.Scopes.{frame_of};
 ghost use Rattle.hir_scope.specs.internal.WalkState.{state, AreInRange, OpensScopes, Over};
 ghost use Rattle.hir_scope.specs.internal.Pending.{opened_frames, opened_const_frames};
 
-use crate::entries::add_pats;
+use crate::entries::add_pat;
 use crate::fault::ScopesFault;
 use crate::form::Form;
 use crate::scope::ScopeKind;
 use crate::walk::Walk;
-use hir_base::BlockId;
-use hir_node::{LabelId, PatId};
+use hir_node::PatId;
 use hir_store_core::ExpressionStore;
-
-fn loop_kind(label: Option<LabelId>) -> ScopeKind
-    ensures { result ≡ loop_kind label }
-{
-    match label {
-        Some(label) => ScopeKind::Label(label),
-        None => ScopeKind::None,
-    }
-}
 
 impl Walk {
     /// Opens a scope of this kind over the current one, with what patterns bind.
@@ -48,9 +37,12 @@ impl Walk {
         ensures taken { OnOk result (self.new.entries.items ≡ []) }
     {
         let parent = Some(self.current.scope);
-        self.entries.clear();
-        add_pats(&mut self.entries, store, pats)?;
-        self.current.scope = self.scopes.new_scope(parent, kind, &mut self.entries)?;
+        let entries = &mut self.entries;
+        entries.clear();
+        for pat in pats {
+            add_pat(entries, store, *pat)?;
+        }
+        self.current.scope = self.scopes.new_scope(parent, kind, entries)?;
         Ok(())
     }
 
@@ -77,31 +69,6 @@ impl Walk {
         Ok(())
     }
 
-    /// Opens the scopes of a block: where it has an id, one around its constants too.
-    fn open_block(
-        &mut self,
-        store: &ExpressionStore,
-        id: Option<BlockId>,
-        label: Option<LabelId>,
-    ) -> Result<(), ScopesFault>
-        requires scope { self.old.current.scope < length self.old.scopes.scopes }
-        requires const_scope { self.old.current.const_scope < length self.old.scopes.scopes }
-        ensures opened { IfOk result (λ _. OpensScopes (state self.old) (state self.new)
-            (own_frame id label ∷ []) (block_const_frames id)) }
-        ensures full { result ≡ Err ScopesFault.Full → Over (map frame_of self.old.scopes.scopes
-            ++ own_frame id label ∷ block_const_frames id) }
-        ensures missing { result ≡ Err ScopesFault.Missing → ⊥ }
-    {
-        match id {
-            None => self.open(store, loop_kind(label), &[]),
-            Some(id) => self.open_both(
-                store,
-                ScopeKind::Block { id, label },
-                ScopeKind::Block { id, label: None },
-            ),
-        }
-    }
-
     /// Opens the scopes that a node of this form has around what is inside it. Its children have to exist.
     pub(crate) fn open_inside(
         &mut self,
@@ -119,12 +86,20 @@ impl Walk {
             ++ opened_const_frames (form_model form.now))) }
         ensures missing { result ≡ Err ScopesFault.Missing → ⊥ }
     {
-        match form {
-            Form::If(_, _, _) => self.open(store, ScopeKind::None, &[]),
-            Form::Block(id, label, _, _) => self.open_block(store, *id, *label),
-            Form::Loop(label, _) => self.open(store, loop_kind(*label), &[]),
-            Form::Closure(_, _, args, _) => self.open(store, ScopeKind::None, *args),
-            Form::Assignment(target, _) => self.open(store, ScopeKind::None, &[*target]),
+        match *form {
+            Form::Block(Some(id), label, _, _) => self.open_both(
+                store,
+                ScopeKind::Block { id, label },
+                ScopeKind::Block { id, label: None },
+            ),
+            Form::Block(None, Some(label), _, _) | Form::Loop(Some(label), _) => {
+                self.open(store, ScopeKind::Label(label), &[])
+            }
+            Form::Block(None, None, _, _) | Form::Loop(None, _) | Form::If(_, _, _) => {
+                self.open(store, ScopeKind::None, &[])
+            }
+            Form::Closure(_, _, args, _) => self.open(store, ScopeKind::None, args),
+            Form::Assignment(target, _) => self.open(store, ScopeKind::None, &[target]),
             Form::Let(_, _) | Form::Match(_, _) | Form::PatternType(_, _) => Ok(()),
             Form::Leaf | Form::Expr(_) | Form::Pat(_) | Form::TypeRef(_) => Ok(()),
         }

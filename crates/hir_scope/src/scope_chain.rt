@@ -33,13 +33,9 @@ impl<'a> Iterator for ScopeChain<'a> {
     ghost remaining = { item_count (λ rest. rest) };
 
     fn next(&mut self) -> Option<ScopeId> {
-        match self.next {
-            Some(scope) => {
-                self.next = self.scopes.parent(scope);
-                Some(scope)
-            }
-            None => None,
-        }
+        let scope = self.next?;
+        self.next = self.scopes.parent(scope);
+        Some(scope)
     }
 }
 

@@ -3,21 +3,20 @@
 
 ghost use Rattle.std.specs.Prelude.{◌≡◌, List, [], ◌∷◌, ◌++◌, false, Err, None, OnErr, OnOk, IfSome};
 ghost use Rattle.std.specs.List.{flat_map};
-ghost use Rattle.hir_node.specs.ChildCalls.{e, opt};
 ghost use Rattle.hir_node.specs.Runs.{Runs};
 ghost use Rattle.hir_scope.specs.declared.tasks.Task.{Task};
-ghost use Rattle.hir_scope.specs.ScopingForms.{form_model};
-ghost use Rattle.hir_scope.specs.internal.Pending.{DefersTask, both, task_of, tasks_of, form_tasks, leave};
+ghost use Rattle.hir_scope.specs.ScopingForms.{form_model, pat_form, type_form};
+ghost use Rattle.hir_scope.specs.internal.Pending.{DefersTask, both, task_of, form_tasks, leave};
 
 use crate::fault::ScopesFault;
-use crate::form::Form;
+use crate::form::{BorrowedByForm, Form};
 use crate::order::visit_form;
 use crate::scope::ScopeId;
 use hir_base::MacroDefId;
 use hir_collections::Stack;
 use hir_node::{
-    ExprId, Item, LifetimeRefId, MatchArm, PatId, Statement, StoreVisitor, StoreVisitorExt,
-    TypeRefId,
+    ExprId, Item, LifetimeRefId, MatchArm, Pat, PatId, Statement, StoreVisitor, StoreVisitorExt,
+    TypeRef, TypeRefId,
 };
 
 /// The scope around what is visited next, and that around the constants in it.
@@ -164,17 +163,6 @@ impl Tasks {
         Ok(())
     }
 
-    /// Pushes an expression, where there is one.
-    pub(crate) fn push_expr_opt(&mut self, expr: Option<ExprId>) -> Result<(), ScopesFault>
-        ensures ok { OnOk result (self.new.stack.items ≡ tasks_of (opt e expr) ++ self.old.stack.items) }
-        ensures memory { OnErr result (result ≡ Err ScopesFault.Memory) }
-    {
-        match expr {
-            None => Ok(()),
-            Some(expr) => self.push(Task::Expr(expr)),
-        }
-    }
-
     /// Puts a task that restores these scopes.
     fn defer_leave(&mut self, current: CurrentScopes)
         ensures { Runs DefersTask self.old.stack (leave current ∷ []) self.new.stack }
@@ -251,5 +239,29 @@ impl Tasks {
         self.defer_in(form, current);
         self.stack.push_deferred(below)?;
         Ok(())
+    }
+
+    /// Pushes the tasks of what is inside a pattern.
+    pub(crate) fn push_pat(&mut self, pat: &Pat, current: CurrentScopes) -> Result<(), ScopesFault>
+        ensures ok { OnOk result (self.new.stack.items
+            ≡ form_tasks current (pat_form pat.now) ++ self.old.stack.items) }
+        ensures memory { OnErr result (result ≡ Err ScopesFault.Memory) }
+    {
+        let _borrowed: BorrowedByForm<'_> = None;
+        self.push_in(&Form::of_pat(pat), current)
+    }
+
+    /// Pushes the tasks of what is inside a type.
+    pub(crate) fn push_type(
+        &mut self,
+        type_ref: &TypeRef,
+        current: CurrentScopes,
+    ) -> Result<(), ScopesFault>
+        ensures ok { OnOk result (self.new.stack.items
+            ≡ form_tasks current (type_form type_ref.now) ++ self.old.stack.items) }
+        ensures memory { OnErr result (result ≡ Err ScopesFault.Memory) }
+    {
+        let _borrowed: BorrowedByForm<'_> = None;
+        self.push_in(&Form::of_type(type_ref), current)
     }
 }

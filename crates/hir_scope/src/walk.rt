@@ -1,6 +1,5 @@
 //! The walk that gives each expression its scope: one loop over what is still to do.
 ghost use Rattle.std.specs.Prelude.{◌≡◌, ◌≤◌, ◌+◌, [], length, Err, IfOk, OnErr};
-ghost use Rattle.hir_validate.specs.declared.node_arenas.Nodes.{Nodes};
 ghost use Rattle.hir_scope.specs.ScopingForms.{form_model};
 ghost use Rattle.hir_scope.specs.internal.Pending.{guarded_task};
 ghost use Rattle.hir_scope.specs.internal.WalkState.{with_next, walk_state, state, future_of, scope_within, IsReady, Exceeds, EntersExpr, Step, CountedStep, WalkSteps};
@@ -11,7 +10,7 @@ use crate::form::{BorrowedByForm, Form};
 use crate::scope::{ScopeEntry, ScopeId, ScopeKind};
 use crate::tasks::{CurrentScopes, Task, Tasks};
 use hir_base::Steps;
-use hir_node::{ExprId, PatId, TypeRefId};
+use hir_node::{ExprId, PatId};
 use hir_store_core::ExpressionStore;
 use hir_store_core::laws::rank_decreases;
 
@@ -58,92 +57,6 @@ impl Walk {
         Ok(scope_within(&form, self.current.scope, outside))
     }
 
-    /// Enters an anonymous constant.
-    fn enter_const(&mut self, expr: ExprId) -> Result<(), ScopesFault>
-        ensures moves { IfOk result (λ _. (s : Nodes) → IsReady s (with_next self.old (Task.Constant expr))
-            → Step s (with_next self.old (Task.Constant expr)) (state self.new) []) }
-        ensures memory { OnErr result (result ≡ Err ScopesFault.Memory) }
-    {
-        let before = self.current;
-        self.tasks
-            .push(Task::Leave(before.scope, before.const_scope))?;
-        self.tasks.push(Task::Expr(expr))?;
-        self.current.scope = before.const_scope;
-        Ok(())
-    }
-
-    /// Enters a pattern.
-    fn enter_pat(&mut self, store: &ExpressionStore, pat: PatId) -> Result<(), ScopesFault>
-        requires ready { IsReady store.now.nodes (with_next self.old (Task.Pat pat)) }
-        ensures moves { IfOk result (λ _. Step store.now.nodes
-            (with_next self.old (Task.Pat pat)) (state self.new) []) }
-        ensures memory { OnErr result (result ≡ Err ScopesFault.Memory) }
-    {
-        store.has_no_fault();
-        rank_decreases();
-        let _borrowed: BorrowedByForm<'_> = None;
-        let form = Form::of_pat(&store[pat]);
-        self.tasks.push_in(&form, self.current)?;
-        Ok(())
-    }
-
-    /// Enters a type, in the scope of constants.
-    fn enter_type(
-        &mut self,
-        store: &ExpressionStore,
-        type_ref: TypeRefId,
-    ) -> Result<(), ScopesFault>
-        requires ready { IsReady store.now.nodes (with_next self.old (Task.TypeRef type_ref)) }
-        ensures moves { IfOk result (λ _. Step store.now.nodes
-            (with_next self.old (Task.TypeRef type_ref)) (state self.new) []) }
-        ensures memory { OnErr result (result ≡ Err ScopesFault.Memory) }
-    {
-        store.has_no_fault();
-        rank_decreases();
-        let CurrentScopes { scope, const_scope } = self.current;
-        self.tasks.push(Task::Leave(scope, const_scope))?;
-        self.current.scope = const_scope;
-        let _borrowed: BorrowedByForm<'_> = None;
-        let form = Form::of_type(&store[type_ref]);
-        self.tasks.push_in(&form, self.current)?;
-        Ok(())
-    }
-
-    /// Enters a pattern in a scope of its own, which stays open.
-    fn bind(&mut self, store: &ExpressionStore, bound: PatId) -> Result<(), ScopesFault>
-        requires ready { IsReady store.now.nodes (with_next self.old (Task.Bound bound)) }
-        ensures moves { IfOk result (λ _. Step store.now.nodes
-            (with_next self.old (Task.Bound bound)) (state self.new) []) }
-        ensures full { result ≡ Err ScopesFault.Full
-            → Exceeds store.now.nodes (with_next self.old (Task.Bound bound)) }
-        ensures missing { result ≡ Err ScopesFault.Missing → ⊥ }
-    {
-        store.has_no_fault();
-        rank_decreases();
-        let _borrowed: BorrowedByForm<'_> = None;
-        let form = Form::of_pat(&store[bound]);
-        self.tasks.push_in(&form, self.current)?;
-        self.open(store, ScopeKind::None, &[bound])?;
-        Ok(())
-    }
-
-    /// Enters a root of a signature in a scope of its own, in the first scope.
-    fn enter_root(&mut self, store: &ExpressionStore, root: ExprId) -> Result<(), ScopesFault>
-        requires ready { IsReady store.now.nodes (with_next self.old (Task.Root root)) }
-        ensures moves { IfOk result (λ _. Step store.now.nodes
-            (with_next self.old (Task.Root root)) (state self.new) []) }
-        ensures full { result ≡ Err ScopesFault.Full
-            → Exceeds store.now.nodes (with_next self.old (Task.Root root)) }
-        ensures missing { result ≡ Err ScopesFault.Missing → ⊥ }
-    {
-        self.tasks.push(Task::Expr(root))?;
-        let first = CurrentScopes::both(ScopeId::from_raw(0));
-        self.current = first;
-        self.open(store, ScopeKind::None, &[])?;
-        self.current.const_scope = self.current.scope;
-        Ok(())
-    }
-
     /// Enters an arm in a scope of its own, which ends with it.
     fn enter_arm(
         &mut self,
@@ -161,12 +74,14 @@ impl Walk {
     {
         store.has_no_fault();
         rank_decreases();
-        let before = self.current;
-        self.tasks
-            .push(Task::Leave(before.scope, before.const_scope))?;
-        self.tasks.push(Task::Expr(expr))?;
-        self.tasks.push_expr_opt(guard)?;
-        self.tasks.push(Task::Pat(pat))?;
+        let CurrentScopes { scope, const_scope } = self.current;
+        let tasks = &mut self.tasks;
+        tasks.push(Task::Leave(scope, const_scope))?;
+        tasks.push(Task::Expr(expr))?;
+        if let Some(guard) = guard {
+            tasks.push(Task::Expr(guard))?;
+        }
+        tasks.push(Task::Pat(pat))?;
         self.open(store, ScopeKind::None, &[pat])?;
         Ok(())
     }
@@ -187,6 +102,8 @@ impl Walk {
         ensures full { result ≡ Err ScopesFault.Full → Exceeds store.now.nodes (with_next self.old task) }
         ensures missing { result ≡ Err ScopesFault.Missing → ⊥ }
     {
+        store.has_no_fault();
+        rank_decreases();
         match task {
             Task::Expr(expr) => {
                 let scope = self.enter_expr(store, expr)?;
@@ -194,16 +111,36 @@ impl Walk {
                 steps.tick();
                 Ok(())
             }
-            Task::Constant(expr) => self.enter_const(expr),
-            Task::Pat(pat) => self.enter_pat(store, pat),
-            Task::TypeRef(type_ref) => self.enter_type(store, type_ref),
-            Task::Bound(pat) => self.bind(store, pat),
+            Task::Constant(expr) => {
+                let CurrentScopes { scope, const_scope } = self.current;
+                self.tasks.push(Task::Leave(scope, const_scope))?;
+                self.tasks.push(Task::Expr(expr))?;
+                self.current.scope = const_scope;
+                Ok(())
+            }
+            Task::Pat(pat) => self.tasks.push_pat(&store[pat], self.current),
+            Task::TypeRef(type_ref) => {
+                let CurrentScopes { scope, const_scope } = self.current;
+                self.tasks.push(Task::Leave(scope, const_scope))?;
+                self.current.scope = const_scope;
+                self.tasks.push_type(&store[type_ref], self.current)
+            }
+            Task::Bound(pat) => {
+                self.tasks.push_pat(&store[pat], self.current)?;
+                self.open(store, ScopeKind::None, &[pat])
+            }
             Task::Arm(pat, expr) => self.enter_arm(store, pat, None, expr),
             Task::GuardedArm(pat, guard, expr) => self.enter_arm(store, pat, Some(guard), expr),
             Task::MacroDef(id) => {
                 self.open_both(store, ScopeKind::MacroDef(id), ScopeKind::MacroDef(id))
             }
-            Task::Root(root) => self.enter_root(store, root),
+            Task::Root(root) => {
+                self.tasks.push(Task::Expr(root))?;
+                self.current = CurrentScopes::both(ScopeId::from_raw(0));
+                self.open(store, ScopeKind::None, &[])?;
+                self.current.const_scope = self.current.scope;
+                Ok(())
+            }
             Task::Leave(scope, const_scope) => {
                 self.current = CurrentScopes { scope, const_scope };
                 Ok(())
