@@ -7,7 +7,7 @@ use Rattle.std.proofs.lemmas.{List.Sums.fold-append, Bool.eqb-true}
 use Rattle.std.specs.FinMap as map
 use Rattle.std.specs.{List.filter, List.list_any}
 use Rattle.std.specs.Ordering.{nat_cmp, eq_by_cmp, is_eq, MatchOrdering}
-use Rattle.std.specs.{Prelude.not, Prelude.is_some, Prelude.◌||◌, declared.cmp.Ordering.Ordering}
+use Rattle.std.specs.{Option.unwrap_or, Prelude.not, Prelude.is_some, Prelude.◌||◌, declared.cmp.Ordering.Ordering}
 use Rattle.hir_captures.specs.Captures.{with_new}
 use Rattle.hir_usages.specs.Usages.{FoundUsages, resolves_to, is_binding, usages_of, unresolved_in, is_unused, unused_among}
 use Rattle.hir_usages.specs.declared.usage.Usage.{Usage}
@@ -16,7 +16,7 @@ use Rattle.std.proofs.lemmas.Grind.{common_steps}
 
 -- 1. Groups
 
-abbrev Groups : Type 0
+abbrev pub Groups : Type 0
 Groups = map.FinMap nat_cmp (List Usage)
 
 is_tie : (r : Ordering) (y x : ℕ) → MatchOrdering r (y < x) (y ≡ x) (x < y) → is_eq r ≡ nat_eq x y
@@ -30,30 +30,8 @@ tied y x = is_tie (nat_cmp y x) y x (ranked y x (nat_cmp y x) refl)
 pub no_groups : AreGroups [] map.empty []
 no_groups = record { each = λ b. ap or_none (map.get-empty nat_cmp b); rest = refl }
 
-module _ (before : List Usage) (usage : Usage) where
-  -- the uses of a binding, with one more
-  uses_more : (b : ℕ) (o : Option ℕ) → usage.binding ≡ o → usages_of b (before ++ usage ∷ [])
-      ≡ usages_of b before ++ cond (is_binding b o) (usage ∷ []) []
-  uses_more b o is =
-      filter-append (resolves_to b) before (usage ∷ [])
-      ∙ ap (λ (x : Option ℕ). usages_of b before ++ cond (is_binding b x) (usage ∷ []) []) is
-
-  -- and the unresolved ones
-  rest_more : (o : Option ℕ) → usage.binding ≡ o → unresolved_in (before ++ usage ∷ [])
-      ≡ unresolved_in before ++ cond (not (is_some o)) (usage ∷ []) []
-  rest_more o is = search (rules, filter-append)
-
-  pub one_more_of : (groups more : Groups) (unresolved : List Usage) (x : ℕ) → AreGroups before groups unresolved → usage.binding ≡ Some x →
-      ((q : ℕ) → or_none (map.get more q) ≡ or_none (map.get groups q) ++ cond (nat_eq x q) (usage ∷ []) []) →
-      AreGroups (before ++ usage ∷ []) more unresolved
-  one_more_of groups more unresolved x h is adds = grind (arith, common_steps, append-nil, rest_more)
-
-  pub one_more_unresolved : (groups : Groups) (unresolved : List Usage) → AreGroups before groups unresolved →
-      usage.binding ≡ None → AreGroups (before ++ usage ∷ []) groups (unresolved ++ usage ∷ [])
-  one_more_unresolved groups unresolved h is = grind (arith, common_steps, append-nil, rest_more)
-
 -- a list that is taken out, gets one use more and is put back
-pub put_back : (m more : Groups) (x : ℕ) (a b : List Usage) (usage : Usage) → more
+put_back : (m more : Groups) (x : ℕ) (a b : List Usage) (usage : Usage) → more
     ≡ map.insert (map.insert m x a) x b → b ≡ or_none (map.get m x) ++ usage ∷ [] →
     (q : ℕ) → or_none (map.get more q) ≡ or_none (map.get m q) ++ cond (nat_eq x q) (usage ∷ []) []
 put_back m more x a b usage e is q =
@@ -68,8 +46,26 @@ put_back m more x a b usage e is q =
       at false true h same = absurd cc
       at false false h same = sym (append-nil (or_none (map.get m q)))
 
-abbrev pub found_as : List Usage → List ℕ → FoundUsages
-found_as usages unused = record { usages = usages; unused = unused }
+module _ (before : List Usage) (usage : Usage) where
+  -- the unresolved uses, with one more
+  rest_more : (o : Option ℕ) → usage.binding ≡ o → unresolved_in (before ++ usage ∷ [])
+      ≡ unresolved_in before ++ cond (not (is_some o)) (usage ∷ []) []
+  rest_more o is = search (rules, filter-append)
+
+  pub one_more_of : (groups more : Groups) (unresolved : List Usage) (x : ℕ) (a b : List Usage) →
+      AreGroups before groups unresolved → usage.binding ≡ Some x → more ≡ map.insert (map.insert groups x a) x b →
+      b ≡ or_none (map.get groups x) ++ usage ∷ [] → AreGroups (before ++ usage ∷ []) more unresolved
+  one_more_of groups more unresolved x a b h is e adds =
+      grind (arith, common_steps, append-nil, rest_more, put_back groups more x a b usage e adds)
+
+  pub one_more_unresolved : (groups : Groups) (unresolved : List Usage) → AreGroups before groups unresolved →
+      usage.binding ≡ None → AreGroups (before ++ usage ∷ []) groups (unresolved ++ usage ∷ [])
+  one_more_unresolved groups unresolved h is = grind (arith, common_steps, append-nil, rest_more)
+
+-- a list that is taken out, or none
+pub unwrapped : (o p : Option (List Usage)) (none : List Usage) → none ≡ [] → o ≡ p → unwrap_or o none ≡ or_none p
+unwrapped None p none e is = e ∙ ap or_none is
+unwrapped (Some us) p none e is = ap or_none is
 
 -- 2. Bindings that no use resolves to
 
@@ -106,4 +102,4 @@ pub takes_of : (b : ℕ) (us : List Usage) (i : ℕ) (d : Usage) → i < length 
     ≡ usages_of b (take i us) ++ cond (resolves_to b (get_or us i d)) (get_or us i d ∷ []) []
 takes_of b us i d l = ap (usages_of b) (take_more us i d l) ∙ filter-append (resolves_to b) (take i us) (get_or us i d ∷ [])
 
-pub ruleset grouping = (no_groups, put_back, one_more_of, one_more_unresolved, is_unused_where, is_used_where, unused_more)
+pub ruleset grouping = (no_groups, one_more_unresolved)

@@ -10,7 +10,7 @@ use Rattle.hir_scope.specs.Paths.{path, chain}
 use Rattle.hir_scope.specs.Resolution.{find_entry, resolve}
 use Rattle.hir_scope.specs.Scopes.{Scope, frame_of}
 use Rattle.hir_scope.specs.declared.scope.ScopeEntry.{ScopeEntry}
-use Rattle.hir_usages.specs.Renames.{first_some, has_entry, other_among, renamed_entry, renamed_chain}
+use Rattle.hir_usages.specs.Renames.{first_some, has_entry, other_among, other_of, renamed_entry, renamed_chain}
 use Rattle.std.proofs.lemmas.Grind.{common_steps}
 
 -- the binding of an entry that was found
@@ -151,6 +151,9 @@ module _ (scopes : List Scope) (i : ℕ) (es : List ScopeEntry)
     abbrev pub other_later : Option ℕ
     other_later = first_some (λ (s : Scope). other_among b n h s.entries) (drop (i + 1) scopes)
 
-    pub beside_as : (o : Option ℕ) → other_among b n h es ≡ o → option_or o other_later
-        ≡ first_some (λ (s : Scope). other_among b n h s.entries) scopes
-    beside_as o is = ap (λ (p : Option ℕ). option_or p other_later) (sym is) ∙ (sym (beside_step b n h) ∙ before)
+    pub beside_as : (t : Bool) (o : Option ℕ) → has_entry b es ≡ t → cond t (first_some (other_of b n h) es) None ≡ o →
+        option_or o other_later ≡ first_some (λ (s : Scope). other_among b n h s.entries) scopes
+    beside_as t o has is =
+        ap (λ (p : Option ℕ). option_or p other_later)
+        (sym (ap (λ (u : Bool). cond u (first_some (other_of b n h) es) None) has ∙ is))
+        ∙ (sym (beside_step b n h) ∙ before)

@@ -16,13 +16,14 @@ use Rattle.hir_scope.specs.PathResolution.{local_name, resolve_path, resolved_by
 use Rattle.hir_store_core.specs.SideTables.{hygiene_of}
 use Rattle.hir_captures.specs.Uses.{Spot, spot, if_assignment, assignment_at}
 use Rattle.hir_path.specs.declared.path.Path.{Path}
+use Rattle.hir_path.specs.declared.ids.ExprOrPatId.{ExprOrPatId}
 use Rattle.hir_path.specs.declared.ids.ExprOrPatId.TheVariants.{ExprId, PatId}
 use Rattle.hir_node.specs.OtherIds.{pat_bindings}
 use Rattle.hir_usages.specs.Usages.{usage_with, usages_of_expr, usages_of_pat, usages_in, bound_at, bound_in}
 use Rattle.hir_usages.specs.declared.{to_visit.Task.Task, to_visit.ToVisit.ToVisit, usage.Usage.Usage, walk.Walk.Walk}
 use Rattle.hir_usages.specs.internal.Pending.{task_of, tasks_of, pat_task, task_node, task_target, visits_of, AreInRange}
 use Rattle.hir_usages.specs.Renames.{name_of_expr}
-use Rattle.hir_usages.specs.internal.Wanted.{wanted_among, wanted_at, if_wanted, usage_of_expr, usage_of_pat}
+use Rattle.hir_usages.specs.internal.Wanted.{wanted_among, wanted_at, if_wanted}
 use Rattle.hir_usages.specs.internal.Reading.{FoundLists, with_visit, with_visits, Reads}
 use Rattle.hir_usages.proofs.VisitLemmas.{visits_left, children_in_range}
 use Rattle.std.proofs.lemmas.Grind.{common_steps}
@@ -40,6 +41,13 @@ defers_all {v} no_call = (refl, defers_none v.stack)
 defers_all {v} {w} (a_call {v = u} {c = c} {cs = cs} step rest) = grind (arith, common_steps, defers_two, defers_all rest)
 
 -- 2. Visiting a node leaves what is to be found as it was.
+
+-- the use that a path is, which asks for this name at an expression
+abbrev usage_of : Walk → ExprOrPatId → ℕ → List ℕ → Usage
+usage_of w path at name =
+    let c = w.store.now in
+    let hygiene = hygiene_of c.side_tables path in
+    record { path = path; expr = at; binding = resolve_path c w.scopes.now at hygiene (Some name) }
 
 abbrev listed : List Usage → List ℕ → FoundLists
 listed usages bound = record { usages = usages; bound = bound }
@@ -89,18 +97,8 @@ module _ (w : Walk) where
   named_alone id (Path.Normal path) name rest e = absurd cc
   named_alone id (Path.LangItem target segment) name rest e = absurd cc
 
-  uses_here : (id : ℕ) (path : Path) (name : List ℕ) → slice_get c.nodes.exprs id ≡ Some (Expr.Path path) →
-      local_name path ≡ Some name → usages_of_expr c w.scopes.now id (slice_get c.nodes.exprs id)
-      ≡ usage_of_expr w id name ∷ []
-  uses_here id path name is asks =
-      ap (usages_of_expr c w.scopes.now id) is
-      ∙ (ap (usage_with (ExprId id) id (binding_at c w.scopes.now id)) asks
-      ∙ ap (λ (q : Option ℕ). usage_with (ExprId id) id q (Some name))
-      (ap (resolved_by_expr c w.scopes.now id) is
-      ∙ ap (resolve_path c w.scopes.now id (hygiene_of c.side_tables (ExprId id))) asks))
-
   wanted_here : (id : ℕ) (path : Path) (name : List ℕ) → slice_get c.nodes.exprs id ≡ Some (Expr.Path path) →
-      local_name path ≡ Some name → if_wanted w.wanted (usage_of_expr w id name) name
+      local_name path ≡ Some name → if_wanted w.wanted (usage_of w (ExprId id) id name) name
       ≡ wanted_at w (NodeId.Expr id) None
   wanted_here id path name is asks = search rules
 
@@ -108,7 +106,7 @@ module _ (w : Walk) where
       (id : ℕ) (x : Expr) (name : List ℕ) (rest : List Task) (before after : FoundLists) → slice_get c.nodes.exprs id
       ≡ Some x → name_of_expr (Some x) ≡ Some name →
       AreInRange c.nodes (Task.Expr id ∷ rest) → after.usages ≡ before.usages ++ if_wanted w.wanted
-      (usage_of_expr w id name) name → after.bound ≡ before.bound → Reads w before (Task.Expr id ∷ rest) after rest
+      (usage_of w (ExprId id) id name) name → after.bound ≡ before.bound → Reads w before (Task.Expr id ∷ rest) after rest
   visit_named fall id (Expr.Path path) name rest before after is asks in_range usages bound =
       visit_one fall (Task.Expr id) rest rest before after in_range
       (usages ∙ ap (λ (us : List Usage). before.usages ++ us) (wanted_here id path name is asks))
@@ -172,7 +170,7 @@ module _ (w : Walk) (id : ℕ) (us : List Usage) where
 
   -- a path in a target that asks for a name, or for none
   pub adds_target : (a : ℕ) (path : Path) (name : List ℕ) → slice_get d.nodes.pats id ≡ Some (Pat.Path path) → local_name path ≡ Some name →
-      us ++ if_wanted w.wanted (usage_of_pat w id a name) name ≡ us ++ wanted_at w (NodeId.Pat id) (Some a)
+      us ++ if_wanted w.wanted (usage_of w (PatId id) a name) name ≡ us ++ wanted_at w (NodeId.Pat id) (Some a)
   adds_target a path name is asks = search (rules, pattern_uses)
 
   pub adds_no_name : (a : ℕ) (path : Path) → slice_get d.nodes.pats id ≡ Some (Pat.Path path) → local_name path
@@ -194,14 +192,4 @@ pub binds_nothing : (s : Nodes) (id : ℕ) (x : Pat) (bs : List ℕ) → slice_g
     ((b : ℕ) (subpat : Option ℕ) → x ≡ Pat.Bind b subpat → ⊥) → bs ++ bound_at s (NodeId.Pat id) ≡ bs
 binds_nothing s id x bs is h = search (rules, no_bind, append-nil)
 
-pub ruleset reads = (
-  visit_named,
-  visit_unnamed,
-  visit_pat,
-  visit_type,
-  adds_target,
-  adds_no_name,
-  adds_no_pat,
-  adds_in_no_target,
-  binds_nothing,
-)
+pub ruleset reads = (adds_target, adds_no_name, adds_no_pat, adds_in_no_target, binds_nothing)

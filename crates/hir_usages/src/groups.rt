@@ -1,9 +1,8 @@
 //! Uses in groups: those of each binding, and those that resolve to none.
 #![tactic(auto, using(crate::proofs::GroupLemmas::grouping))]
 
-ghost use Rattle.std.specs.Prelude.{◌≡◌, ◌==◌, ◌∷◌, ◌++◌, [], ℕ, List, IfOk, OnOk, if◌then◌else◌};
-ghost use Rattle.hir_captures.specs.Captures.{with_new};
-ghost use Rattle.hir_usages.specs.Usages.{is_unused, unused_among};
+ghost use Rattle.std.specs.Prelude.{◌≡◌, ◌∷◌, ◌++◌, [], List, IfOk, OnOk};
+ghost use Rattle.hir_usages.specs.Usages.{unused_among};
 ghost use Rattle.hir_usages.specs.declared.usage.Usage.{Usage};
 ghost use Rattle.hir_usages.specs.Groups.{AreGroups, or_none};
 ghost use Rattle.std.specs.FinMap as map;
@@ -18,39 +17,7 @@ use std::alloc::{AllocError, Global};
 #[derive(Drop)]
 pub(crate) struct Groups {
     by_binding: ArenaMap<BindingKind, Seq<Usage>>,
-    unresolved: Vec<Usage>,
-}
-
-/// Returns these uses, or none.
-fn or_empty(alloc: Global, usages: Option<Seq<Usage>>) -> Seq<Usage>
-    ensures { result ≡ or_none usages }
-{
-    match usages {
-        Some(usages) => usages,
-        None => Seq::new(alloc),
-    }
-}
-
-/// Adds a use to those of its binding.
-fn add_of(
-    by_binding: &mut ArenaMap<BindingKind, Seq<Usage>>,
-    alloc: Global,
-    binding: BindingId,
-    usage: Usage,
-) -> Result<(), AllocError>
-    ensures { OnOk result ((other : ℕ) → or_none (map.get by_binding.new other)
-        ≡ or_none (map.get by_binding.old other) ++ (if binding == other then usage ∷ [] else [])) }
-{
-    // The list is taken out and put back: it is moved, and nothing is copied.
-    let before = by_binding.insert(binding, Seq::new(alloc))?;
-    let mut usages = or_empty(alloc, before);
-    // (a copy: the prover's borrow checker has to be told of the types in it, here and below)
-    usages.push(Usage {
-        path: usage.path,
-        ..usage
-    })?;
-    by_binding.insert(binding, usages)?;
-    Ok(())
+    pub(crate) unresolved: Vec<Usage>,
 }
 
 impl Groups {
@@ -60,19 +27,23 @@ impl Groups {
             → AreGroups before self.old.by_binding self.old.unresolved.items
             → AreGroups (before ++ usage ∷ []) self.new.by_binding self.new.unresolved.items) }
     {
-        match usage.binding {
-            Some(binding) => {
-                add_of(&mut self.by_binding, alloc, binding, usage)?;
-                Ok(())
-            }
-            None => {
-                self.unresolved.push(Usage {
-                    path: usage.path,
-                    ..usage
-                })?;
-                Ok(())
-            }
-        }
+        let Some(binding) = usage.binding else {
+            // (a copy: the prover's borrow checker has to be told of the types in it, here and below)
+            self.unresolved.push(Usage {
+                path: usage.path,
+                ..usage
+            })?;
+            return Ok(());
+        };
+        // The list is taken out and put back: it is moved, and nothing is copied.
+        let before = self.by_binding.insert(binding, Seq::new(alloc))?;
+        let mut usages = before.unwrap_or(Seq::new(alloc));
+        usages.push(Usage {
+            path: usage.path,
+            ..usage
+        })?;
+        self.by_binding.insert(binding, usages)?;
+        Ok(())
     }
 
     /// Returns these uses in groups. There is room for this number of bindings.
@@ -103,30 +74,6 @@ impl Groups {
         }
     }
 
-    /// Returns the uses that resolve to no binding.
-    pub(crate) fn unresolved(&self) -> &[Usage]
-        ensures { result.now ≡ self.now.unresolved.items }
-    {
-        self.unresolved.as_slice()
-    }
-
-    /// Adds a binding to the unused ones, where no use resolves to it.
-    fn add_unused(
-        &self,
-        unused: &mut DistinctBindings,
-        binding: BindingId,
-    ) -> Result<(), AllocError>
-        ensures { OnOk result ((usages : List Usage)
-            → AreGroups usages self.now.by_binding self.now.unresolved.items
-            → unused.new ≡ (if is_unused usages binding then with_new unused.old binding else unused.old)) }
-    {
-        if self.of(binding).len() > 0 {
-            return Ok(());
-        }
-        unused.add(binding)?;
-        Ok(())
-    }
-
     /// Returns those of these bindings to which no use resolves, each once, in their order. Numbers of
     /// bindings are below `bindings`.
     pub(crate) fn unused(
@@ -141,7 +88,10 @@ impl Groups {
     {
         let mut unused = DistinctBindings::new(alloc, bindings)?;
         for binding in bound {
-            self.add_unused(&mut unused, *binding)?;
+            if self.of(*binding).len() > 0 {
+                continue;
+            }
+            unused.add(*binding)?;
         }
         Ok(unused.into_bindings())
     }

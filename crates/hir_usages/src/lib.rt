@@ -2,11 +2,9 @@
 //! nothing uses, what is visible in a scope, and which uses change when a binding is renamed.
 #![tactic(auto)]
 
-mod found;
 mod groups;
 mod labels;
 pub mod laws;
-mod lookup;
 mod rename_fault;
 mod renamed_body;
 mod renames;

@@ -35,32 +35,6 @@ fn new_path(path: &Path, name: &Name) -> Result<Option<Path>, AllocError>
     }
 }
 
-/// Returns the expression that takes the place of a path, and none for any other expression, which stays.
-fn new_expr(expr: &Expr, name: &Name) -> Result<Option<Expr>, AllocError>
-    ensures { IfOk result (λ made. unwrap_or made expr.now ≡ renamed_expr name.now expr.now) }
-{
-    let Expr::Path(path) = expr else {
-        return Ok(None);
-    };
-    match new_path(path, name)? {
-        Some(path) => Ok(Some(Expr::Path(path))),
-        None => Ok(None),
-    }
-}
-
-/// Returns the pattern that takes the place of a path, and none for any other pattern, which stays.
-fn new_pat(pat: &Pat, name: &Name) -> Result<Option<Pat>, AllocError>
-    ensures { IfOk result (λ made. unwrap_or made pat.now ≡ renamed_pat name.now pat.now) }
-{
-    let Pat::Path(path) = pat else {
-        return Ok(None);
-    };
-    match new_path(path, name)? {
-        Some(path) => Ok(Some(Pat::Path(path))),
-        None => Ok(None),
-    }
-}
-
 /// Gives an expression the new name, where it is a path.
 fn rename_expr(exprs: &mut Arena<ExprKind, Expr>, id: ExprId, name: &Name) -> Result<(), AllocError>
     ensures { OnOk result (exprs.new ≡ change_at (renamed_expr name.now) exprs.old id) }
@@ -68,8 +42,11 @@ fn rename_expr(exprs: &mut Arena<ExprKind, Expr>, id: ExprId, name: &Name) -> Re
     if !exprs.has(id) {
         return Ok(());
     }
-    if let Some(expr) = new_expr(&exprs[id], name)? {
-        exprs[id] = expr;
+    let Expr::Path(path) = &exprs[id] else {
+        return Ok(());
+    };
+    if let Some(path) = new_path(path, name)? {
+        exprs[id] = Expr::Path(path);
     }
     Ok(())
 }
@@ -81,8 +58,11 @@ fn rename_pat(pats: &mut Arena<PatKind, Pat>, id: PatId, name: &Name) -> Result<
     if !pats.has(id) {
         return Ok(());
     }
-    if let Some(pat) = new_pat(&pats[id], name)? {
-        pats[id] = pat;
+    let Pat::Path(path) = &pats[id] else {
+        return Ok(());
+    };
+    if let Some(path) = new_path(path, name)? {
+        pats[id] = Pat::Path(path);
     }
     Ok(())
 }

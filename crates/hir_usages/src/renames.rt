@@ -1,9 +1,9 @@
 //! The rename of a binding: the uses that change with it, or the first reason why there is none.
-ghost use Rattle.std.specs.Prelude.{◌≡◌, ◌<◌, length, ◌∷◌, ◌++◌, [], ◌⊎◌, None, Some, IfErr, IfOk, OnOk, if◌then◌else◌};
+ghost use Rattle.std.specs.Prelude.{◌≡◌, ◌<◌, length, ◌⊎◌, None, Some, IfErr, IfOk, OnOk};
 ghost use Rattle.hir_scope.specs.BodyScopes.{AreBodyScopes};
 ghost use Rattle.hir_usages.specs.Kept.{IsWhyNot, MayBeRenamed};
-ghost use Rattle.hir_usages.specs.Usages.{resolves_to, usages_of, usages_of_body};
-ghost use Rattle.hir_usages.specs.Renames.{first_conflict, first_some, has_entry, is_bound, is_self_name, is_self_param, other_among, other_beside, other_of, refusal, refusal_of, rename_fault};
+ghost use Rattle.hir_usages.specs.Usages.{usages_of, usages_of_body};
+ghost use Rattle.hir_usages.specs.Renames.{first_conflict, first_some, has_entry, is_bound, is_self_param, other_beside, other_of, refusal, rename_fault};
 
 use crate::laws::renames_are_exact;
 use crate::rename_fault::RenameFault;
@@ -13,7 +13,7 @@ use crate::usages::find;
 use crate::walk::{Walk, Wanted};
 use hir_base::{HygieneId, Name};
 use hir_body::{Body, Param};
-use hir_node::{Binding, BindingId};
+use hir_node::BindingId;
 use hir_scope::{ExprScopes, ScopeEntry, ScopeId};
 use hir_store_core::laws::rank_decreases;
 use std::alloc::{AllocError, Global};
@@ -33,13 +33,6 @@ fn has_entry(entries: &[ScopeEntry], binding: BindingId) -> bool
     ensures { result ≡ has_entry binding entries.now }
 {
     entries.iter().any(|entry| entry.binding() == binding)
-}
-
-/// Returns whether a name is `self`.
-fn is_self_name(name: &str) -> bool
-    ensures { result ≡ is_self_name name.now }
-{
-    name == "self"
 }
 
 /// Returns whether a scope has an entry of the binding.
@@ -74,22 +67,6 @@ fn first_other(
     None
 }
 
-/// Returns the binding of the first of these entries that has this name and hygiene and is another one's,
-/// where they have one of the binding.
-fn other_in(
-    entries: &[ScopeEntry],
-    binding: BindingId,
-    name: &str,
-    hygiene: HygieneId,
-) -> Option<BindingId>
-    ensures { result ≡ other_among binding name.now hygiene entries.now }
-{
-    if !has_entry(entries, binding) {
-        return None;
-    }
-    first_other(entries, binding, name, hygiene)
-}
-
 /// Returns another binding of this name and hygiene that is bound beside the binding, in one scope.
 fn other_beside(
     scopes: &ExprScopes,
@@ -101,29 +78,29 @@ fn other_beside(
 {
     for next in 0..scopes.scope_count() {
         let entries = scopes.entries(ScopeId::from_raw(next as u32));
-        if let Some(other) = other_in(entries, binding, name, hygiene) {
+        if !has_entry(entries, binding) {
+            continue;
+        }
+        if let Some(other) = first_other(entries, binding, name, hygiene) {
             return Some(other);
         }
     }
     None
 }
 
-/// Returns why this binding has no other name, apart from what uses would resolve to.
-fn refusal_of(
-    body: &Body,
-    scopes: &ExprScopes,
-    binding: BindingId,
-    found: &Binding,
-    name: &str,
-) -> Option<RenameFault>
-    ensures { result ≡ refusal_of body.now scopes.now binding name.now found.now }
+/// Returns why a binding has no other name, apart from what uses would resolve to.
+#[tactic(auto, using(std::proofs::lemmas::Option::slice_get_past))]
+fn refusal(body: &Body, scopes: &ExprScopes, binding: BindingId, name: &str) -> Option<RenameFault>
+    ensures { result ≡ refusal body.now scopes.now binding name.now }
 {
-    if !is_bound(scopes, binding) {
+    let store = body.store();
+    if !store.has_binding(binding) || !is_bound(scopes, binding) {
         return Some(RenameFault::NotBound);
     }
+    let found = &store[binding];
     if is_self_param(body.self_param(), binding)
-        || is_self_name(found.name.as_str())
-        || is_self_name(name)
+        || found.name.as_str() == "self"
+        || name == "self"
     {
         return Some(RenameFault::IsSelf);
     }
@@ -133,34 +110,6 @@ fn refusal_of(
     }
 }
 
-/// Returns why a binding has no other name, apart from what uses would resolve to.
-#[tactic(auto, using(std::proofs::lemmas::Option::slice_get_past))]
-fn refusal(body: &Body, scopes: &ExprScopes, binding: BindingId, name: &str) -> Option<RenameFault>
-    ensures { result ≡ refusal body.now scopes.now binding name.now }
-{
-    let store = body.store();
-    if !store.has_binding(binding) {
-        return Some(RenameFault::NotBound);
-    }
-    refusal_of(body, scopes, binding, &store[binding], name)
-}
-
-/// Appends a use, where it resolves to a binding.
-fn add_of(found: &mut Vec<Usage>, usage: Usage, binding: BindingId) -> Result<(), AllocError>
-    ensures { OnOk result (found.new.items
-        ≡ found.old.items ++ (if resolves_to binding usage then usage ∷ [] else [])) }
-{
-    if !usage.resolves_to(binding) {
-        return Ok(());
-    }
-    // (a copy: the prover's borrow checker has to be told of the types in it)
-    found.push(Usage {
-        path: usage.path,
-        ..usage
-    })?;
-    Ok(())
-}
-
 /// Returns those of these uses that resolve to a binding.
 #[tactic(auto, using(crate::proofs::GroupLemmas::takes_of))]
 fn usages_of(alloc: Global, usages: &[Usage], binding: BindingId) -> Result<Vec<Usage>, AllocError>
@@ -168,7 +117,10 @@ fn usages_of(alloc: Global, usages: &[Usage], binding: BindingId) -> Result<Vec<
 {
     let mut found = Vec::new(alloc);
     for usage in usages {
-        add_of(&mut found, *usage, binding)?;
+        if !usage.resolves_to(binding) {
+            continue;
+        }
+        found.push(*usage)?;
     }
     Ok(found)
 }
@@ -198,36 +150,6 @@ fn affected_uses<'a>(
     };
     let found = find(alloc, body, &walk)?;
     Ok(found.usages)
-}
-
-/// Returns the uses that take the new name when a binding takes it, or the first fault by these scopes.
-fn uses_to_rename(
-    alloc: Global,
-    body: &Body,
-    scopes: &ExprScopes,
-    binding: BindingId,
-    name: &Name,
-) -> Result<Vec<Usage>, RenameFault>
-    ensures usages { IfOk result (λ found.
-        found.items ≡ usages_of binding (usages_of_body body.now scopes.now)) }
-    ensures ok { OnOk result (rename_fault body.now scopes.now binding name.now ≡ None) }
-    ensures fault { IfErr result (λ fault. (fault ≡ RenameFault.Memory)
-        ⊎ (rename_fault body.now scopes.now binding name.now ≡ Some fault)) }
-{
-    if let Some(fault) = refusal(body, scopes, binding, name.as_str()) {
-        return Err(fault);
-    }
-    let renaming = Renaming {
-        store: body.store(),
-        scopes,
-        binding,
-        name: name.as_str(),
-    };
-    let affected = affected_uses(alloc, body, scopes, binding, name.as_str())?;
-    if let Some(conflict) = renaming.first_conflict(affected.as_slice()) {
-        return Err(conflict);
-    }
-    Ok(usages_of(alloc, affected.as_slice(), binding)?)
 }
 
 /// Returns the uses that take the new name when a binding takes it, in the order of the walk, or why the
@@ -261,8 +183,18 @@ pub fn rename(
     body.store().has_no_fault();
     body.has_no_fault();
     renames_are_exact();
-    match uses_to_rename(alloc, body, scopes, binding, name) {
-        Ok(usages) => Ok(usages),
-        Err(fault) => Err(fault),
+    if let Some(fault) = refusal(body, scopes, binding, name.as_str()) {
+        return Err(fault);
     }
+    let renaming = Renaming {
+        store: body.store(),
+        scopes,
+        binding,
+        name: name.as_str(),
+    };
+    let affected = affected_uses(alloc, body, scopes, binding, name.as_str())?;
+    if let Some(conflict) = renaming.first_conflict(affected.as_slice()) {
+        return Err(conflict);
+    }
+    Ok(usages_of(alloc, affected.as_slice(), binding)?)
 }

@@ -1,23 +1,19 @@
 //! The uses of a body.
-ghost use Rattle.std.specs.Prelude.{◌≡◌, ◌++◌, [], map, option_map, IfOk, OnOk};
-ghost use Rattle.std.specs.Option.{option_to_list};
-ghost use Rattle.hir_body.specs.Bodies.{formals_of};
+ghost use Rattle.std.specs.Prelude.{◌≡◌, IfOk};
 ghost use Rattle.hir_usages.specs.Visits.{visits};
 ghost use Rattle.hir_usages.specs.internal.Pending.{AreInRange, visits_of};
 ghost use Rattle.hir_usages.specs.internal.Wanted.{wanted_among};
 ghost use Rattle.hir_usages.specs.Usages.{bound_by_body, found_in_body, unresolved_in, usages_of, usages_of_body};
-ghost use Rattle.hir_usages.specs.declared.to_visit.Task.TheVariants as task;
 ghost use Rattle.std.specs.Slice.Iter.{iter_rest};
 ghost use Rattle.std.specs.Iterator.Adapters.{IterYieldsInOrder, IterYieldsInReverse};
 
-use crate::found::Found;
 use crate::groups::Groups;
 use crate::to_visit::{Task, ToVisit};
 use crate::usage::Usage;
-use crate::walk::{Walk, Wanted};
+use crate::walk::{Found, Walk, Wanted};
+use hir_body::Body;
 use hir_body::laws::entry_nodes_are_in_range;
-use hir_body::{Body, Param};
-use hir_node::{BindingId, PatId};
+use hir_node::BindingId;
 use hir_scope::ExprScopes;
 use std::alloc::{AllocError, Global};
 use std::marker::Model;
@@ -43,19 +39,6 @@ impl Model for Usages {
     ghost invariant = { λ s. AreGroups s.all.items s.groups.by_binding s.groups.unresolved.items };
 }
 
-/// Pushes the formals, the first on top.
-fn push_formals(unread: &mut ToVisit, params: &[Param<PatId>]) -> Result<(), AllocError>
-    ensures { OnOk result (unread.new.stack.items
-        ≡ map task.Pat (formals_of params.now) ++ unread.old.stack.items) }
-{
-    let mut rest = params.len();
-    while rest > 0 {
-        rest -= 1;
-        unread.stack.push(Task::Pat(params[rest].formal))?;
-    }
-    Ok(())
-}
-
 /// Returns what is to be visited first: the formals, and then the last root.
 fn first_visits(alloc: Global, body: &Body) -> Result<ToVisit, AllocError>
     ensures ahead { IfOk result (λ unread.
@@ -68,24 +51,14 @@ fn first_visits(alloc: Global, body: &Body) -> Result<ToVisit, AllocError>
     let mut unread = ToVisit::new(alloc);
     let root = body.root_expr();
     unread.stack.push(Task::Expr(root))?;
-    push_formals(&mut unread, body.params())?;
-    Ok(unread)
-}
-
-/// Returns what is found before the first visit: the binding of the self parameter, where there is one.
-fn first_found(alloc: Global, self_param: Option<Param<BindingId>>) -> Result<Found, AllocError>
-    ensures usages { IfOk result (λ found. found.usages.items ≡ []) }
-    ensures bound { IfOk result (λ found.
-        found.bound.items ≡ option_to_list (option_map (λ p. p.formal) self_param)) }
-{
-    let mut found = Found::new(alloc);
-    match self_param {
-        Some(param) => {
-            found.bound.push(param.formal)?;
-            Ok(found)
-        }
-        None => Ok(found),
+    // The last first, so that the first formal is on top.
+    let params = body.params();
+    let mut rest = params.len();
+    while rest > 0 {
+        rest -= 1;
+        unread.stack.push(Task::Pat(params[rest].formal))?;
     }
+    Ok(unread)
 }
 
 /// Returns those of the uses of a body that a walk over its store searches for, and what the body binds, in
@@ -96,7 +69,13 @@ pub(crate) fn find(alloc: Global, body: &Body, walk: &Walk<'_>) -> Result<Found,
         ≡ wanted_among walk.now.wanted body.now.store.nodes (usages_of_body body.now walk.now.scopes.now)) }
     ensures bound { IfOk result (λ found. found.bound.items ≡ bound_by_body body.now) }
 {
-    let mut found = first_found(alloc, body.self_param())?;
+    let mut found = Found {
+        usages: Vec::new(alloc),
+        bound: Vec::new(alloc),
+    };
+    if let Some(param) = body.self_param() {
+        found.bound.push(param.formal)?;
+    }
     let mut unread = first_visits(alloc, body)?;
     walk.run(&mut unread, &mut found)?;
     Ok(found)
@@ -161,7 +140,7 @@ impl Usages {
     pub fn unresolved(&self) -> &[Usage]
         ensures { result.now ≡ unresolved_in self.now.usages }
     {
-        self.groups.unresolved()
+        self.groups.unresolved.as_slice()
     }
 
     /// Returns the bindings that the self parameter or a reached pattern binds, and that no use resolves

@@ -65,13 +65,6 @@ impl<'a> VisibleEntries<'a> {
         }
         Ok(())
     }
-
-    /// Returns the entries.
-    fn into_entries(self) -> Vec<&'a ScopeEntry>
-        ensures { map (λ e. e.now) result.items ≡ self.entry }
-    {
-        self.entries
-    }
 }
 
 /// Returns the entries that names in a scope may resolve to: of each name and hygiene the first along the
@@ -96,5 +89,5 @@ pub fn visible_names<'a>(
         found.add_all(scopes.entries(inner))?;
         current = outer;
     }
-    Ok(found.into_entries())
+    Ok(found.entries)
 }

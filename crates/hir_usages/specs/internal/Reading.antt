@@ -3,7 +3,7 @@ use Rattle.std.specs.Prelude.{◌≡◌, ◌<◌, List, ◌++◌, fold, length}
 use Rattle.hir_path.specs.NodeIds.{BindingId}
 use Rattle.hir_captures.specs.Uses.{Spot}
 use Rattle.hir_usages.specs.Usages.{bound_at}
-use Rattle.hir_usages.specs.declared.{found.Found.Found, walk.Walk.Walk, to_visit.Task.Task, usage.Usage.Usage}
+use Rattle.hir_usages.specs.declared.{walk.Found.Found, walk.Walk.Walk, to_visit.Task.Task, usage.Usage.Usage}
 use Rattle.hir_usages.specs.internal.{Pending.AreInRange, Pending.visits_of, Wanted.wanted_at}
 
 -- what was found, as lists

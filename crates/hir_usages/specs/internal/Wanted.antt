@@ -2,12 +2,9 @@
 use Rattle.std.specs.List.{filter}
 use Rattle.std.specs.Prelude.{ℕ, List, [], ◌∷◌, Option, Some, None, Bool, true, false, ◌||◌, if◌then◌else◌}
 use Rattle.hir_base.specs.contracts.name.NamePartialEq.TheImpl as names
-use Rattle.hir_path.specs.declared.ids.ExprOrPatId.TheVariants as either
-use Rattle.hir_path.specs.NodeIds.{ExprId, PatId, BindingId}
+use Rattle.hir_path.specs.NodeIds.{ExprId, BindingId}
 use Rattle.hir_node.specs.declared.node_id.NodeId.{NodeId}
 use Rattle.hir_validate.specs.declared.node_arenas.Nodes.{Nodes}
-use Rattle.hir_store_core.specs.SideTables.{hygiene_of}
-use Rattle.hir_scope.specs.PathResolution.{resolve_path}
 use Rattle.hir_usages.specs.Renames.{name_at}
 use Rattle.hir_usages.specs.Usages.{resolves_to, usages_at}
 use Rattle.hir_usages.specs.declared.{usage.Usage.Usage, walk.Walk.Walk, walk.Wanted.Wanted}
@@ -41,25 +38,3 @@ wanted_at w n assignment =
 -- the use, where it is searched for
 abbrev pub if_wanted : Wanted → Usage → List ℕ → List Usage
 if_wanted wanted usage name = if is_wanted wanted (Some name) usage then usage ∷ [] else []
-
--- the use that an expression is, which asks for this name
-abbrev pub usage_of_expr : Walk → ExprId → List ℕ → Usage
-usage_of_expr w id name =
-    let c = w.store.now in
-    let path = either.ExprId id in
-    record {
-      path = path;
-      expr = id;
-      binding = resolve_path c w.scopes.now id (hygiene_of c.side_tables path) (Some name);
-    }
-
--- the use that a pattern in the target of an assignment is, which asks for this name
-abbrev pub usage_of_pat : Walk → PatId → ExprId → List ℕ → Usage
-usage_of_pat w id assignment name =
-    let c = w.store.now in
-    let path = either.PatId id in
-    record {
-      path = path;
-      expr = assignment;
-      binding = resolve_path c w.scopes.now assignment (hygiene_of c.side_tables path) (Some name);
-    }

@@ -1,7 +1,7 @@
 use Rattle.std.proofs.Common.{◌≡◌, ◌≤◌, ◌++◌, drop, length, map}
 use Rattle.hir_body.specs.Bodies.{formals_of}
 use Rattle.hir_usages.specs.declared.to_visit.Task.{Task}
-use Rattle.hir_usages.proofs.usages.push_formals.Given as goal
+use Rattle.hir_usages.proofs.usages.first_visits.Given as goal
 
 abbrev pub invariant-loop-rest : goal.invariant-loop-rest
 invariant-loop-rest l =
