@@ -1,5 +1,6 @@
 -- Fields of patterns, and parameters of closures, one after another.
-use Rattle.std.proofs.Common.{◌≡◌, ℕ, ◌+◌, ◌<◌, ◌≤◌, Bool, true, false, List, [], ◌∷◌, ◌++◌, codes, length, drop, get_or, Option, refl, sym, ap, ◌∙◌, arith, append_assoc, append-nil, ◌||◌, ◌==◌, not, rules}
+use Rattle.std.proofs.Common.{◌≡◌, ℕ, ◌+◌, ◌<◌, ◌≤◌, Bool, true, false, List, [], ◌∷◌, ◌++◌, codes, length, drop, get_or, Option}
+use Rattle.std.proofs.Common.{refl, sym, ap, ◌∙◌, arith, append_assoc, append-nil, ◌||◌, ◌==◌, not, rules}
 use Rattle.std.proofs.lemmas.List.{drop_all}
 use Rattle.hir_node.specs.declared.pat.RecordFieldPat.{RecordFieldPat}
 use Rattle.hir_pretty_docs.specs.Prelude.{PrintEnv, text, br, p, t, opt, when, field_pattern, after_last, field_patterns, params, following}
@@ -24,7 +25,8 @@ pub no_fields : (s : PrintEnv) (b : Bool) (fs : List RecordFieldPat) → length 
 no_fields s b [] h = refl
 no_fields s b (f ∷ fs) h = absurd (omega arith)
 
-pub param_step : (after : Bool) (args : List ℕ) (i : ℕ) (arg : ℕ) (types others : List (Option ℕ)) (type : Option ℕ) → i < length args → arg ≡ get_or args i arg → types ≡ type ∷ others
+pub param_step : (after : Bool) (args : List ℕ) (i : ℕ) (arg : ℕ) (types others : List (Option ℕ)) (type : Option ℕ)
+    → i < length args → arg ≡ get_or args i arg → types ≡ type ∷ others
     → when after (text (codes ", ")) ++ p arg ++ opt (λ id. text (codes ": ") ++ t id) type ++ following (text (codes ", ")) true (params (drop (i + 1) args) others)
     ≡ following (text (codes ", ")) after (params (drop i args) types)
 param_step after args i arg types others type h e k = search (rules, append_assoc, drop_item)

@@ -1,5 +1,6 @@
 -- Lists that are gone through, and separators.
-use Rattle.std.proofs.Common.{◌≡◌, ℕ, ◌+◌, ◌-◌, ◌<◌, ◌≤◌, Bool, true, false, List, [], ◌∷◌, ◌++◌, length, map, take, drop, get_or, arith, refl, sym, ap, ap₂, ◌∙◌, append_assoc, append-nil, add-one, drop-cons, flat_map, rules}
+use Rattle.std.proofs.Common.{◌≡◌, ℕ, ◌+◌, ◌-◌, ◌<◌, ◌≤◌, Bool, true, false, List, [], ◌∷◌, ◌++◌, length, map, take, drop, get_or}
+use Rattle.std.proofs.Common.{arith, refl, sym, ap, ap₂, ◌∙◌, append_assoc, append-nil, add-one, drop-cons, flat_map, rules}
 use Rattle.std.proofs.lemmas.List.{take_all, drop_all}
 use Rattle.hir_pretty_docs.specs.Prelude.{Doc, when, join, following}
 

@@ -1,5 +1,7 @@
 -- Items by what a list has: none, one, or more.
-use Rattle.std.proofs.Common.{◌≡◌, ℕ, zero, suc, ◌+◌, ◌-◌, ◌<◌, ◌≤◌, Bool, true, false, List, [], ◌∷◌, ◌++◌, codes, map, take, drop, length, get_or, Option, Some, None, refl, sym, ap, ap₂, ◌∙◌, arith, append_assoc, ◌==◌, ◌&&◌, not, IsTrue, is_none, is_some, flat_map, option_to_list, rules}
+use Rattle.std.proofs.Common.{◌≡◌, ℕ, zero, suc, ◌+◌, ◌-◌, ◌<◌, ◌≤◌, Bool, true, false, List, [], ◌∷◌, ◌++◌, codes, map, take}
+use Rattle.std.proofs.Common.{drop, length, get_or, Option, Some, None, refl, sym, ap, ap₂, ◌∙◌, arith, append_assoc, ◌==◌, ◌&&◌}
+use Rattle.std.proofs.Common.{not, IsTrue, is_none, is_some, flat_map, option_to_list, rules}
 use Rattle.std.proofs.lemmas.{Bool.cases_lt, Bool.Decides.nat_tests, List.take-map, List.drop-map, List.take_all, List.drop_all}
 use Rattle.std.proofs.lemmas.List.{length-map, Concat.flat_map-append}
 use Rattle.hir_node.specs.declared.{expr_types.Array.TheVariants.ElementList, expr_types.Statement.Statement}
@@ -7,7 +9,10 @@ use Rattle.hir_node.specs.declared.expr_types.{ClosureKind.ClosureKind, Coroutin
 use Rattle.hir_node.specs.declared.expr_types.ClosureKind.TheVariants as closure
 use Rattle.hir_path.specs.declared.{bound.TypeBound.TypeBound, path.GenericArg.GenericArg}
 use Rattle.hir_path.specs.declared.path.GenericArgs.{GenericArgs, out-GenericArgs}
-use Rattle.hir_pretty_docs.specs.Prelude.{PrintEnv, name_docs, Doc, text, sp, into, out, br, e, p, opt, when, join, comma_joined, arguments, array_docs, statement_docs, inside_block, with_rest, arg_docs, each_arg, args_docs, assoc_docs, turbofish, segments_from, bounds_docs, bounds_after, supers, following, header}
+use Rattle.hir_pretty_docs.specs.Prelude.{PrintEnv, name_docs, Doc, text, sp, into, out, br, e, p, opt, when, join, comma_joined}
+use Rattle.hir_pretty_docs.specs.Prelude.{arguments, array_docs, statement_docs, inside_block, with_rest, arg_docs, each_arg}
+use Rattle.hir_pretty_docs.specs.Prelude.{args_docs, assoc_docs, turbofish, segments_from, bounds_docs, bounds_after, supers}
+use Rattle.hir_pretty_docs.specs.Prelude.{following, header}
 use Rattle.hir_pretty_docs.proofs.ListLemmas.{drop_item, is_cons, following_joined, following_append}
 use Rattle.hir_pretty_docs.proofs.ArgsDocs.{args_docs_is}
 
@@ -61,7 +66,8 @@ bounds_is s [] b k = ap (λ c. when c (text (codes ": ")) ++ bounds_docs s []) (
 bounds_is s (x ∷ bs) b k = ap (λ c. when c (text (codes ": ")) ++ bounds_docs s (x ∷ bs)) (filled (x ∷ bs) b k)
 
 each_is : (s : PrintEnv) (self : Bool) (args : List GenericArg) (bs : List (List Doc))
-    → when (is_cons args && self) (text (codes "Self=")) ++ join (text (codes ", ")) (map (arg_docs s) args) ++ following (text (codes ", ")) (is_cons args) bs ≡ comma_joined (each_arg s self args ++ bs)
+    → when (is_cons args && self) (text (codes "Self=")) ++ join (text (codes ", ")) (map (arg_docs s) args)
+    ++ following (text (codes ", ")) (is_cons args) bs ≡ comma_joined (each_arg s self args ++ bs)
 each_is s true [] bs = following_joined (text (codes ", ")) bs
 each_is s false [] bs = following_joined (text (codes ", ")) bs
 each_is s false (a ∷ more) bs = following_append (text (codes ", ")) (arg_docs s a ∷ map (arg_docs s) more) bs
@@ -69,7 +75,8 @@ each_is s true (a ∷ []) bs = following_append (text (codes ", ")) ((text (code
 each_is s true (a ∷ b ∷ more) bs = following_append (text (codes ", ")) ((text (codes "Self=") ++ arg_docs s a) ∷ arg_docs s b ∷ map (arg_docs s) more) bs
 
 pub args_is : (s : PrintEnv) (x : GenericArgs)
-    → when (is_cons (out-GenericArgs x).args && (out-GenericArgs x).has_self_type) (text (codes "Self=")) ++ join (text (codes ", ")) (map (arg_docs s) (out-GenericArgs x).args)
+    → when (is_cons (out-GenericArgs x).args && (out-GenericArgs x).has_self_type) (text (codes "Self="))
+    ++ join (text (codes ", ")) (map (arg_docs s) (out-GenericArgs x).args)
     ++ following (text (codes ", ")) (is_cons (out-GenericArgs x).args) (map (assoc_docs s) (out-GenericArgs x).bindings) ≡ args_docs s x
 args_is s x = each_is s (out-GenericArgs x).has_self_type (out-GenericArgs x).args (map (assoc_docs s) (out-GenericArgs x).bindings) ∙ sym (args_docs_is s x)
 
@@ -90,7 +97,8 @@ supers_last (suc (suc n)) h k = absurd (omega arith)
 around : (sep x : List Doc) (xs ys : List (List Doc)) → join sep xs ++ when (is_cons xs) sep ++ x ++ following sep true ys ≡ join sep (xs ++ (x ∷ []) ++ ys)
 around sep x xs ys =
     append_assoc (join sep xs ++ when (is_cons xs) sep) x (following sep true ys) ∙ append_assoc (join sep xs) (when (is_cons xs) sep) (x ++ following sep true ys)
-    ∙ ap (λ zs. join sep xs ++ zs) (sym (append_assoc (when (is_cons xs) sep) x (following sep true ys))) ∙ following_append sep xs (x ∷ ys) ∙ ap (join sep) (sym (append_assoc xs (x ∷ []) ys))
+    ∙ ap (λ zs. join sep xs ++ zs) (sym (append_assoc (when (is_cons xs) sep) x (following sep true ys)))
+    ∙ following_append sep xs (x ∷ ys) ∙ ap (join sep) (sym (append_assoc xs (x ∷ []) ys))
 
 -- a list cut where it ends, or before
 all_but_last_is : {X Y : Type 0} (f : X → Y) (xs : List X) (n m : ℕ) → m ≡ length xs - (length xs - n) → map f (take m xs) ≡ take n (map f xs)
@@ -100,7 +108,8 @@ back_cut : {X Y : Type 0} (f : X → Y) (xs : List X) (n m : ℕ) → m ≡ leng
 back_cut f xs n m h = search (rules, cases_lt, drop-map, length-map, drop_all)
 
 pub rest_is : (pats all_but_last back : List ℕ) (n m : ℕ) → m ≡ length pats - (length pats - n) → all_but_last ≡ take m pats → back ≡ drop m pats
-    → join (text (codes ", ")) (map p all_but_last) ++ when (not (length all_but_last == 0)) (text (codes ", ")) ++ text (codes "..") ++ following (text (codes ", ")) true (map p back)
+    → join (text (codes ", ")) (map p all_but_last) ++ when (not (length all_but_last == 0)) (text (codes ", "))
+    ++ text (codes "..") ++ following (text (codes ", ")) true (map p back)
     ≡ comma_joined (with_rest (Some n) (map p pats))
 rest_is pats all_but_last back n m h f b = search (rules, not_empty, cons_map, around, all_but_last_is, back_cut)
 
@@ -110,7 +119,8 @@ slice_parts : (prefix suffix : List ℕ) (slice : Option ℕ)
 slice_parts prefix suffix slice = search (rules, flat_map-append)
 
 pub slice_is : (prefix suffix : List ℕ) (slice : Option ℕ)
-    → text (codes "[") ++ flat_map (λ id. p id ++ text (codes ", ")) prefix ++ opt (λ id. p id ++ text (codes ", ")) slice ++ flat_map (λ id. p id ++ text (codes ", ")) suffix ++ text (codes "]")
+    → text (codes "[") ++ flat_map (λ id. p id ++ text (codes ", ")) prefix ++ opt (λ id. p id ++ text (codes ", ")) slice
+    ++ flat_map (λ id. p id ++ text (codes ", ")) suffix ++ text (codes "]")
     ≡ text (codes "[") ++ flat_map (λ id. p id ++ text (codes ", ")) (prefix ++ option_to_list slice ++ suffix) ++ text (codes "]")
 slice_is prefix suffix slice = ap (λ is. text (codes "[") ++ is ++ text (codes "]")) (slice_parts prefix suffix slice)
 
@@ -120,7 +130,8 @@ bound_to is q = append_assoc (is ++ sp) (text (codes "@ ")) (p q) ∙ append_ass
 
 -- 6. Segments of a path
 
-pub segment_alone : (s : PrintEnv) (after : Bool) (names : List (List ℕ)) (i : ℕ) (name : List ℕ) (lists : List (Option GenericArgs)) → i < length names → name ≡ get_or names i name → length lists < 1
+pub segment_alone : (s : PrintEnv) (after : Bool) (names : List (List ℕ)) (i : ℕ) (name : List ℕ)
+    (lists : List (Option GenericArgs)) → i < length names → name ≡ get_or names i name → length lists < 1
     → when after (text (codes "::")) ++ name_docs s name ++ segments_from s true (drop (i + 1) names) lists ≡ segments_from s after (drop i names) lists
 segment_alone s after names i name [] h e k = sym (ap (λ ns. segments_from s after ns []) (drop_item names i name h e))
 segment_alone s after names i name (x ∷ xs) h e k = absurd (omega arith)

@@ -1,5 +1,6 @@
 -- The documents of a function type by its parameters and its result.
-use Rattle.std.proofs.Common.{◌≡◌, ℕ, ◌-◌, Bool, true, false, List, [], ◌∷◌, ◌++◌, codes, map, length, Option, refl, sym, ap, ◌∙◌, arith, append_assoc, append-nil, length-append, ◌&&◌, ◌==◌, not, flat_map, rules}
+use Rattle.std.proofs.Common.{◌≡◌, ℕ, ◌-◌, Bool, true, false, List, [], ◌∷◌, ◌++◌, codes, map, length, Option, refl, sym, ap, ◌∙◌}
+use Rattle.std.proofs.Common.{arith, append_assoc, append-nil, length-append, ◌&&◌, ◌==◌, not, flat_map, rules}
 use Rattle.hir_pretty_docs.specs.Prelude.{Doc, text, t, when, join, comma_joined, all_but_last, last, varargs_docs, signature_docs}
 use Rattle.hir_pretty_docs.proofs.{ListLemmas.is_cons, OrderLemmas.not_empty}
 
@@ -21,7 +22,8 @@ each_type : (bs : List (Option (List ℕ) × ℕ)) → map (λ (entry : Option (
 each_type [] = refl
 each_type (b ∷ bs) = ap (λ rest. t b.1 ∷ rest) (each_type bs)
 
-dots : (v : Bool) (is : List Doc) (bs : List (Option (List ℕ) × ℕ)) → is ++ when (v && is_cons bs) (text (codes ", ")) ++ when v (text (codes "...")) ≡ is ++ varargs_docs v (types_of bs)
+dots : (v : Bool) (is : List Doc) (bs : List (Option (List ℕ) × ℕ))
+    → is ++ when (v && is_cons bs) (text (codes ", ")) ++ when v (text (codes "...")) ≡ is ++ varargs_docs v (types_of bs)
 dots false is bs = append-nil (is ++ [])
 dots true is [] = ap (λ xs. xs ++ text (codes "...")) (append-nil is)
 dots true is (b ∷ bs) = append_assoc is (text (codes ", ")) (text (codes "..."))
@@ -33,11 +35,14 @@ written v bs ret =
     ++ when v (text (codes "...")) ++ text (codes ") -> ") ++ flat_map (λ (entry : Option (List ℕ) × ℕ). t entry.1) ret
 
 parts : (v : Bool) (bs ret : List (Option (List ℕ) × ℕ))
-    → written v bs ret ≡ text (codes "fn(") ++ comma_joined (map t (types_of bs)) ++ varargs_docs v (types_of bs) ++ text (codes ") -> ") ++ flat_map (λ (entry : Option (List ℕ) × ℕ). t entry.1) ret
+    → written v bs ret ≡ text (codes "fn(") ++ comma_joined (map t (types_of bs)) ++ varargs_docs v (types_of bs)
+    ++ text (codes ") -> ") ++ flat_map (λ (entry : Option (List ℕ) × ℕ). t entry.1) ret
 parts v bs ret =
     let tail = flat_map (λ (entry : Option (List ℕ) × ℕ). t entry.1) ret in
-    ap (λ xs. text (codes "fn(") ++ comma_joined xs ++ when (v && not (length bs == 0)) (text (codes ", ")) ++ when v (text (codes "...")) ++ text (codes ") -> ") ++ tail) (each_type bs)
-    ∙ ap (λ b. text (codes "fn(") ++ comma_joined (map t (types_of bs)) ++ when (v && b) (text (codes ", ")) ++ when v (text (codes "...")) ++ text (codes ") -> ") ++ tail) (not_empty bs)
+    ap (λ xs. text (codes "fn(") ++ comma_joined xs ++ when (v && not (length bs == 0)) (text (codes ", "))
+    ++ when v (text (codes "...")) ++ text (codes ") -> ") ++ tail) (each_type bs)
+    ∙ ap (λ b. text (codes "fn(") ++ comma_joined (map t (types_of bs)) ++ when (v && b) (text (codes ", "))
+    ++ when v (text (codes "...")) ++ text (codes ") -> ") ++ tail) (not_empty bs)
     ∙ ap (λ is. is ++ text (codes ") -> ") ++ tail) (dots v (text (codes "fn(") ++ comma_joined (map t (types_of bs))) bs)
 
 pub signature_is : (v : Bool) (params bs ret : List (Option (List ℕ) × ℕ)) → params ≡ bs ++ ret → length bs ≡ length params - 1

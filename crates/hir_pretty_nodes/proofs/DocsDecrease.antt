@@ -18,6 +18,9 @@ module _ (s : PrintEnv) (low : (n k : NodeId) → Contains (children_of s.nodes 
   children_lower n = all_of_children (Lower n) (calls_of s.nodes n) (low n)
 
   pub docs_decrease : DocsDecrease s
-  docs_decrease (node.Expr id) = opt_falls (Lower (node.Expr id)) expr_calls (expr_docs s) (expr_falls (Lower (node.Expr id)) s (closed (node.Expr id))) (slice_get s.nodes.exprs id) (children_lower (node.Expr id))
-  docs_decrease (node.Pat id) = opt_falls (Lower (node.Pat id)) pat_calls (pat_docs s) (pat_falls (Lower (node.Pat id)) s) (slice_get s.nodes.pats id) (children_lower (node.Pat id))
-  docs_decrease (node.TypeRef id) = opt_falls (Lower (node.TypeRef id)) type_calls (type_docs s) (type_falls (Lower (node.TypeRef id)) s) (slice_get s.nodes.types id) (children_lower (node.TypeRef id))
+  docs_decrease (node.Expr id) = opt_falls (Lower (node.Expr id)) expr_calls (expr_docs s)
+      (expr_falls (Lower (node.Expr id)) s (closed (node.Expr id))) (slice_get s.nodes.exprs id) (children_lower (node.Expr id))
+  docs_decrease (node.Pat id) = opt_falls (Lower (node.Pat id)) pat_calls (pat_docs s) (pat_falls (Lower (node.Pat id)) s)
+      (slice_get s.nodes.pats id) (children_lower (node.Pat id))
+  docs_decrease (node.TypeRef id) = opt_falls (Lower (node.TypeRef id)) type_calls (type_docs s)
+      (type_falls (Lower (node.TypeRef id)) s) (slice_get s.nodes.types id) (children_lower (node.TypeRef id))

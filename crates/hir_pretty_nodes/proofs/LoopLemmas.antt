@@ -1,5 +1,7 @@
 -- Steps of the printer's loop, and what is printed of all that was added.
-use Rattle.std.proofs.Common.{◌≡◌, ℕ, ◌<◌, ◌≤◌, Bool, true, false, List, [], ◌∷◌, ◌++◌, map, length, Option, Some, None, refl, sym, ap, ap₂, subst, ◌∙◌, arith, append_assoc, append-nil, Result, Ok, Err, IsTrue, String, slice_get, rules}
+use Rattle.std.proofs.Common.{◌≡◌, ℕ, ◌<◌, ◌≤◌, Bool, true, false, List, [], ◌∷◌, ◌++◌, map, length, Option, Some, None, refl}
+use Rattle.std.proofs.Common.{sym, ap, ap₂, subst, ◌∙◌, arith, append_assoc, append-nil, Result, Ok, Err, IsTrue, String}
+use Rattle.std.proofs.Common.{slice_get, rules}
 use Rattle.std.proofs.lemmas.{Bool.cases_lt, List.reverse-append, List.reverse-reverse, Option.slice_get_past}
 use Rattle.std.specs.Prelude.{reverse}
 use Rattle.hir_collections.specs.Stacks.{StackItems, Defers}
@@ -10,7 +12,11 @@ use Rattle.hir_pretty_layout.specs.{Page.Page, Page.empty_page, Layouts.Layout, 
 use Rattle.hir_pretty_docs.proofs.AddLemmas.{meant-append, is_false}
 use Rattle.hir_pretty_docs.specs.declared.token.Token.{Token}
 use Rattle.hir_pretty_docs.specs.declared.token.Token.TheVariants as token
-use Rattle.hir_pretty_nodes.specs.Prelude.{NodeId, Missing, PrintEnv, Doc, MissingDoc, ExprDoc, ExprIn, DocPiece, Present, PrintsPieces, WritesPieces, opt, format_of, docs_of, pieces, doc_list_pieces, stands_in_parentheses, precedence_found, DocsDecrease, size, stands_for, docs_of_tokens, above, Adds, Printing, env_of, printing_of, on_page, AddsTo, printing, Stacked, all_printed, enclose, AddsAt, PrintsAlike, WritesToken, ExpandsToken, ComesTo}
+use Rattle.hir_pretty_nodes.specs.Prelude.{NodeId, Missing, PrintEnv, Doc, MissingDoc, ExprDoc, ExprIn, DocPiece, Present}
+use Rattle.hir_pretty_nodes.specs.Prelude.{PrintsPieces, WritesPieces, opt, format_of, docs_of, pieces, doc_list_pieces}
+use Rattle.hir_pretty_nodes.specs.Prelude.{stands_in_parentheses, precedence_found, DocsDecrease, size, stands_for}
+use Rattle.hir_pretty_nodes.specs.Prelude.{docs_of_tokens, above, Adds, Printing, env_of, printing_of, on_page, AddsTo, printing}
+use Rattle.hir_pretty_nodes.specs.Prelude.{Stacked, all_printed, enclose, AddsAt, PrintsAlike, WritesToken, ExpandsToken, ComesTo}
 use Rattle.hir_pretty_nodes.specs.declared.{printer.Printer.Printer, fault.PrintFault.PrintFault}
 use Rattle.hir_pretty_nodes.specs.declared.fault.PrintFault.TheVariants as fault
 use Rattle.hir_pretty_nodes.proofs.PieceLemmas.{printed-append, enclosed_printed, pieces_alike, missing_is, value_of_pieces, nothing_left, is_missing}
@@ -46,7 +52,8 @@ at_absent docs found e = at_as (sym (ap (opt docs) e)) at_none
 module _ {W : Type 0} {step : Layout → W → W} where
   -- 2. A token that was written
 
-  pub written : {w : Token} {old new : Stacked W} (ps : List Layout) → new ≡ record old { value = new.value } → doc_list_pieces old.from (stands_for old.from w) ≡ map Present ps
+  pub written : {w : Token} {old new : Stacked W} (ps : List Layout) → new ≡ record old { value = new.value }
+      → doc_list_pieces old.from (stands_for old.from w) ≡ map Present ps
       → new.value ≡ steps step ps old.value → WritesToken step w old new
   written ps same e f = record { same = same; alike = pieces_alike ps e f }
 
@@ -59,7 +66,8 @@ module _ {W : Type 0} {step : Layout → W → W} where
 
   -- of which the first layouts were written
   pub written_then : {w : Token} {old new : Stacked W} {is : List Doc} (first : List Doc) (ps : List Layout) → doc_list_pieces old.from first ≡ map Present ps
-      → new.value ≡ steps step ps old.value → new.from ≡ old.from → AddsAt old.from old.tokens is new.tokens → stands_for old.from w ≡ first ++ is → 0 < size old.from first → ExpandsToken step w old new
+      → new.value ≡ steps step ps old.value → new.from ≡ old.from → AddsAt old.from old.tokens is new.tokens
+      → stands_for old.from w ≡ first ++ is → 0 < size old.from first → ExpandsToken step w old new
   written_then {w} {old} {new} {is} first ps e f from a means some =
       let s = old.from in
       let first_alike : PrintsAlike step s old.value first new.value [] = pieces_alike ps e f in
@@ -80,18 +88,21 @@ node_printed : (s : PrintEnv) → DocsDecrease s → (n : NodeId) (more : List D
 node_printed s fall n more = ap (λ ps. ps ++ doc_list_pieces s more) (pieces_at s fall n) ∙ sym (printed-append s (docs_of s n) more)
 
 module _ {W : Type 0} {step : Layout → W → W} {old new : Stacked W} (fall : DocsDecrease old.from) (same : new ≡ record old { tokens = new.tokens }) where
-  pub expr_gives : {w : Token} (id : ℕ) → stands_for old.from w ≡ ExprDoc id ∷ [] → AddsAt old.from old.tokens (docs_of old.from (node.Expr id)) new.tokens → ExpandsToken step w old new
+  pub expr_gives : {w : Token} (id : ℕ) → stands_for old.from w ≡ ExprDoc id ∷ []
+      → AddsAt old.from old.tokens (docs_of old.from (node.Expr id)) new.tokens → ExpandsToken step w old new
   expr_gives {w} id e a =
       let s = old.from in
       expands_by same a (λ more. ap (λ is. doc_list_pieces s (is ++ more)) e ∙ node_printed s fall (node.Expr id) more)
       (let k = node_size_at s fall (node.Expr id) in let m = ap (size s) e in omega arith)
 
   -- the first of expressions, with what is after it
-  pub first_gives : {w : Token} (id : ℕ) (trailer : List Doc) → stands_for old.from w ≡ ExprDoc id ∷ trailer → AddsAt old.from old.tokens (docs_of old.from (node.Expr id) ++ trailer) new.tokens → ExpandsToken step w old new
+  pub first_gives : {w : Token} (id : ℕ) (trailer : List Doc) → stands_for old.from w ≡ ExprDoc id ∷ trailer
+      → AddsAt old.from old.tokens (docs_of old.from (node.Expr id) ++ trailer) new.tokens → ExpandsToken step w old new
   first_gives {w} id trailer e a =
       let s = old.from in
       expands_by same a
-      (λ more. ap (λ is. doc_list_pieces s (is ++ more)) e ∙ node_printed s fall (node.Expr id) (trailer ++ more) ∙ ap (doc_list_pieces s) (sym (append_assoc (docs_of s (node.Expr id)) trailer more)))
+      (λ more. ap (λ is. doc_list_pieces s (is ++ more)) e ∙ node_printed s fall (node.Expr id) (trailer ++ more)
+      ∙ ap (doc_list_pieces s) (sym (append_assoc (docs_of s (node.Expr id)) trailer more)))
       (let k = node_size_at s fall (node.Expr id) in let m = ap (size s) e in let l = size-append s (docs_of s (node.Expr id)) trailer in omega arith)
 
   pub pattern_gives : (id : ℕ) → AddsAt old.from old.tokens (docs_of old.from (node.Pat id)) new.tokens → ExpandsToken step (token.Pattern id) old new
@@ -101,33 +112,39 @@ module _ {W : Type 0} {step : Layout → W → W} {old new : Stacked W} (fall : 
   type_gives id a = expands_by same a (node_printed old.from fall (node.TypeRef id)) (let k = node_size_at old.from fall (node.TypeRef id) in omega arith)
 
   pub under_gives : (id : ℕ) (parent : ExprPrecedence)
-      → AddsAt old.from old.tokens (enclose (stands_in_parentheses (precedence_found (slice_get old.from.nodes.exprs id)) parent) (docs_of old.from (node.Expr id))) new.tokens
+      → AddsAt old.from old.tokens (enclose (stands_in_parentheses (precedence_found (slice_get old.from.nodes.exprs id)) parent)
+      (docs_of old.from (node.Expr id))) new.tokens
       → ExpandsToken step (token.ExprIn id parent) old new
   under_gives id parent a =
       let s = old.from in
       let b = stands_in_parentheses (precedence_found (slice_get s.nodes.exprs id)) parent in
       expands_by same a
-      (λ more. printed-append s (ExprIn id parent ∷ []) more ∙ ap (λ ps. ps ++ doc_list_pieces s more) (sym (enclosed_printed s fall b id)) ∙ sym (printed-append s (enclose b (docs_of s (node.Expr id))) more))
+      (λ more. printed-append s (ExprIn id parent ∷ []) more ∙ ap (λ ps. ps ++ doc_list_pieces s more)
+      (sym (enclosed_printed s fall b id)) ∙ sym (printed-append s (enclose b (docs_of s (node.Expr id))) more))
       (let k = node_size_at s fall (node.Expr id) in let m = enclosed_size s b (docs_of s (node.Expr id)) in omega arith)
 
 module _ {W : Type 0} {step : Layout → W → W} where
   -- 4. What waits comes to the same
 
   -- these tokens are left once the next was taken from the stack
-  pub comes_taken : {old now taken : Stacked W} {left : List Token} → ComesTo step old now.tokens.items now → now.tokens.items ≡ left → taken.from ≡ now.from → taken.value ≡ now.value
+  pub comes_taken : {old now taken : Stacked W} {left : List Token} → ComesTo step old now.tokens.items now
+      → now.tokens.items ≡ left → taken.from ≡ now.from → taken.value ≡ now.value
       → ComesTo step old left taken
   comes_taken {old} {now} {taken} {left} c next from value = search rules
 
   -- and it was written
-  pub comes_written : {old taken new : Stacked W} {w : Token} → ComesTo step old (w ∷ taken.tokens.items) taken → WritesToken step w taken new → ComesTo step old new.tokens.items new
+  pub comes_written : {old taken new : Stacked W} {w : Token} → ComesTo step old (w ∷ taken.tokens.items) taken
+      → WritesToken step w taken new → ComesTo step old new.tokens.items new
   comes_written {old} {taken} {new} {w} c a =
       let s = old.from in
       let tokens : new.tokens.items ≡ taken.tokens.items = ap (λ (p : Stacked W). p.tokens.items) a.same in
-      let alike : PrintsAlike step s taken.value (stands_for s w) new.value [] = subst (λ t. PrintsAlike step t taken.value (stands_for t w) new.value []) c.from a.alike in
+      let alike : PrintsAlike step s taken.value (stands_for s w) new.value [] =
+      subst (λ t. PrintsAlike step t taken.value (stands_for t w) new.value []) c.from a.alike in
       record {
         from = ap (λ (p : Stacked W). p.from) a.same ∙ c.from;
         same = c.same ∙ alike.alike (docs_of_tokens s taken.tokens.items) ∙ ap (λ ws. printing step new.value (doc_list_pieces s (docs_of_tokens s ws))) (sym tokens);
-        most = let h = c.most in let k = size-append s (stands_for s w) (docs_of_tokens s taken.tokens.items) in let m = ap (λ ws. size s (docs_of_tokens s ws)) tokens in omega arith;
+        most = let h = c.most in let k = size-append s (stands_for s w)
+            (docs_of_tokens s taken.tokens.items) in let m = ap (λ ws. size s (docs_of_tokens s ws)) tokens in omega arith;
       }
 
   -- or it is missing
@@ -224,7 +241,8 @@ by_case true f g = f refl
 by_case false f g = g refl
 
 -- what was added is these documents, unless an allocation failed
-prints_docs : {Z : Type 0} {s : PrintEnv} {docs : List Doc} {result : Result (String Z) PrintFault} (p : Printing Page) → p.from ≡ s → p.value ≡ empty_page (format_of s.one_line)
+prints_docs : {Z : Type 0} {s : PrintEnv} {docs : List Doc} {result : Result (String Z) PrintFault} (p : Printing Page)
+    → p.from ≡ s → p.value ≡ empty_page (format_of s.one_line)
     → (p.refused ≡ false → p.added ≡ docs) → (p.value ≡ empty_page (format_of p.from.one_line) → PrintsPieces p.from (doc_list_pieces p.from p.added) result)
     → (p.refused ≡ true → result ≡ Err fault.Memory) → PrintsPieces s (doc_list_pieces s docs) result
 prints_docs {s = s} {docs} {result} p from value whole pieces memory = search (rules, by_case, prints_refused)
@@ -233,7 +251,8 @@ prints_docs {s = s} {docs} {result} p from value whole pieces memory = search (r
 stack_more : {old new : StackItems Token} {docs : PrintEnv → List Doc} → Adds old docs new → new.refused ≡ false → (s : PrintEnv)
     → docs_of_tokens s (reverse new.items) ≡ docs_of_tokens s (reverse old.items) ++ docs s
 stack_more {old} {new} a h s =
-    ap (λ ws. docs_of_tokens s (reverse ws)) (a.defers h).1 ∙ ap (docs_of_tokens s) (reverse-append (reverse (above old new)) old.items ∙ ap (λ ws. reverse old.items ++ ws) (reverse-reverse (above old new)))
+    ap (λ ws. docs_of_tokens s (reverse ws)) (a.defers h).1 ∙ ap (docs_of_tokens s)
+    (reverse-append (reverse (above old new)) old.items ∙ ap (λ ws. reverse old.items ++ ws) (reverse-reverse (above old new)))
     ∙ meant-append s (reverse old.items) (above old new) ∙ ap (λ is. docs_of_tokens s (reverse old.items) ++ is) (a.same h s)
 
 pub added_to : {W : Type 0} (old : Printer W) {new : Printer W} {between : StackItems Token} {docs : PrintEnv → List Doc} → Adds old.tokens.stack docs between
@@ -246,13 +265,16 @@ added_to old {new} {between} {docs} a h same =
     let whole : new.tokens.stack.refused ≡ false = ap (λ (v : StackItems Token). v.refused) stack ∙ h.0 in
     record { same = ap printing_of same ∙ ap₂ (λ ds b. record (printing_of old) { added = ds; refused = b }) is whole }
 
-pub prints : {Z : Type 0} {s : PrintEnv} (first : Printer Page) {added : Printer Page} {docs : PrintEnv → List Doc} {result : Result (String Z) PrintFault} → printing_of first ≡ on_page s
+pub prints : {Z : Type 0} {s : PrintEnv} (first : Printer Page) {added : Printer Page} {docs : PrintEnv
+    → List Doc} {result : Result (String Z) PrintFault} → printing_of first ≡ on_page s
     → added ≡ record first { tokens = added.tokens } → Adds first.tokens.stack docs added.tokens.stack
-    → ((printing_of added).value ≡ empty_page (format_of (env_of added).one_line) → PrintsPieces (env_of added) (doc_list_pieces (env_of added) (printing_of added).added) result)
+    → ((printing_of added).value ≡ empty_page (format_of (env_of added).one_line)
+    → PrintsPieces (env_of added) (doc_list_pieces (env_of added) (printing_of added).added) result)
     → ((printing_of added).refused ≡ true → result ≡ Err fault.Memory) → PrintsPieces s (doc_list_pieces s (docs s)) result
 prints {s = s} first {added} {docs} b same a pieces memory =
     let first_from : env_of first ≡ s = ap (λ (p : Printing Page). p.from) b in
     let from : env_of added ≡ env_of first = ap env_of same in
     let none : docs_of_tokens (env_of first) (reverse first.tokens.stack.items) ≡ [] = ap (λ (p : Printing Page). p.added) b in
     prints_docs (printing_of added) (from ∙ first_from) (ap (λ (p : Printer Page). p.writer) same ∙ ap (λ (p : Printing Page). p.value) b)
-    (λ h. ap (λ t. docs_of_tokens t (reverse added.tokens.stack.items)) from ∙ stack_more a h (env_of first) ∙ ap (λ is. is ++ docs (env_of first)) none ∙ ap docs first_from) pieces memory
+    (λ h. ap (λ t. docs_of_tokens t (reverse added.tokens.stack.items)) from ∙ stack_more a h (env_of first)
+    ∙ ap (λ is. is ++ docs (env_of first)) none ∙ ap docs first_from) pieces memory

@@ -1,6 +1,7 @@
 -- What is printed inside an expression, a pattern or a type is among its child calls, or stands under one of
 -- them.
-use Rattle.std.proofs.Common.{ℕ, zero, suc, Bool, true, false, List, [], ◌∷◌, ◌++◌, map, codes, Option, Some, None, sym, ap, ◌∙◌, subst, slice_get, Result, Ok, Err, flat_map, option_to_list, rules, arith}
+use Rattle.std.proofs.Common.{ℕ, zero, suc, Bool, true, false, List, [], ◌∷◌, ◌++◌, map, codes, Option, Some, None, sym, ap, ◌∙◌}
+use Rattle.std.proofs.Common.{subst, slice_get, Result, Ok, Err, flat_map, option_to_list, rules, arith}
 use Rattle.std.proofs.lemmas.List.Concat.{flat_map-append}
 use Rattle.hir_base.specs.OpTexts.{range_text}
 use Rattle.hir_base.specs.declared.{abi.ExternAbi.ExternAbi, mod_path.PathKind.PathKind, defs.LangItemTarget.LangItemTarget}
@@ -12,7 +13,11 @@ use Rattle.hir_base.specs.declared.defs.NamedDef.TheVariants as named
 use Rattle.hir_path.specs.declared.{path.GenericArgs.GenericArgs, path.Path.Path}
 use Rattle.hir_path.specs.declared.path.Path.TheVariants as path
 use Rattle.hir_node.specs.ChildCalls.{args_calls, path_calls, spread_calls, array_calls, arm_calls, statement_calls, expr_calls, pat_calls, type_calls}
-use Rattle.hir_node.specs.declared.{expr_types.RecordSpread.RecordSpread, expr_types.Unsafe.Unsafe, expr_types.ClosureKind.ClosureKind, expr_types.Array.Array, expr_types.MatchArm.MatchArm, expr_types.RecordLitField.RecordLitField, expr_types.Statement.Statement, literal.Literal.Literal, expr.Expr.Expr, pat.RecordFieldPat.RecordFieldPat, pat.Pat.Pat, type_ref.TypeRef.TypeRef, binding.Label.Label}
+use Rattle.hir_node.specs.declared.{expr_types.RecordSpread.RecordSpread, expr_types.Unsafe.Unsafe}
+use Rattle.hir_node.specs.declared.{expr_types.ClosureKind.ClosureKind, expr_types.Array.Array, expr_types.MatchArm.MatchArm}
+use Rattle.hir_node.specs.declared.{expr_types.RecordLitField.RecordLitField, expr_types.Statement.Statement}
+use Rattle.hir_node.specs.declared.{literal.Literal.Literal, expr.Expr.Expr, pat.RecordFieldPat.RecordFieldPat, pat.Pat.Pat}
+use Rattle.hir_node.specs.declared.{type_ref.TypeRef.TypeRef, binding.Label.Label}
 use Rattle.hir_node.specs.{declared.binding.BindingAnnotation.BindingAnnotation}
 use Rattle.hir_node.specs.ChildCalls as calls
 use Rattle.hir_node.specs.declared.binding.BindingAnnotation.TheVariants as annotation
@@ -25,12 +30,23 @@ use Rattle.hir_node.specs.declared.literal.Literal.TheVariants as literal
 use Rattle.hir_node.specs.declared.expr.Expr.TheVariants as expr
 use Rattle.hir_node.specs.declared.pat.Pat.TheVariants as pat
 use Rattle.hir_node.specs.declared.type_ref.TypeRef.TheVariants as type
-use Rattle.hir_pretty_nodes.specs.Prelude.{NodeId, Missing, PrintEnv, Doc, text, sp, br, into, out, e, under, p, t, opt, when, join, comma_joined, name_docs, label_docs, annotation_docs, binding_docs, of_binding, found_name, target_docs, supers, kind_docs, colons_first, segments_from, start_docs, turbofish, args_docs, path_docs, literal_docs, label_before, to_label, operand, each_line, in_lines, arguments, arm_docs, field_docs, spread_docs, statement_docs, unsafe_docs, inside_block, params, header, coroutine_body, of_coroutine, printed_body, array_docs, expr_docs, with_rest, in_parentheses, field_pattern, after_last, field_patterns, pat_docs, type_param_docs, extern_docs, varargs_docs, all_but_last, last, signature_docs, type_docs, AllNodes}
+use Rattle.hir_pretty_nodes.specs.Prelude.{NodeId, Missing, PrintEnv, Doc, text, sp, br, into, out, e, under, p, t, opt, when}
+use Rattle.hir_pretty_nodes.specs.Prelude.{join, comma_joined, name_docs, label_docs, annotation_docs, binding_docs, of_binding}
+use Rattle.hir_pretty_nodes.specs.Prelude.{found_name, target_docs, supers, kind_docs, colons_first, segments_from, start_docs}
+use Rattle.hir_pretty_nodes.specs.Prelude.{turbofish, args_docs, path_docs, literal_docs, label_before, to_label, operand}
+use Rattle.hir_pretty_nodes.specs.Prelude.{each_line, in_lines, arguments, arm_docs, field_docs, spread_docs, statement_docs}
+use Rattle.hir_pretty_nodes.specs.Prelude.{unsafe_docs, inside_block, params, header, coroutine_body, of_coroutine, printed_body}
+use Rattle.hir_pretty_nodes.specs.Prelude.{array_docs, expr_docs, with_rest, in_parentheses, field_pattern, after_last}
+use Rattle.hir_pretty_nodes.specs.Prelude.{field_patterns, pat_docs, type_param_docs, extern_docs, varargs_docs, all_but_last}
+use Rattle.hir_pretty_nodes.specs.Prelude.{last, signature_docs, type_docs, AllNodes}
 use Rattle.hir_node.specs.declared.node_id.NodeId.TheVariants as node
 use Rattle.hir_validate.specs.Nodes.{calls_of}
 use Rattle.hir_pretty_layout.specs.Literals.{string_literal, char_literal, bytes_literal, c_string_literal}
 use Rattle.hir_pretty_nodes.proofs.StepLemmas.{nodes_append}
-use Rattle.hir_pretty_nodes.proofs.DecreaseLemmas.{AllCalls, AllLists, first_calls, last_calls, each_falls, map_falls, opt_falls, joined_falls, lists_append, lists_take, lists_drop, name_falls, names_fall, puts_fall, none_falls, lifetime_falls, for_falls, bounds_fall, generic_args_fall}
+use Rattle.hir_pretty_nodes.proofs.DecreaseLemmas.{AllCalls, AllLists, first_calls, last_calls, each_falls, map_falls, opt_falls}
+use Rattle.hir_pretty_nodes.proofs.DecreaseLemmas.{joined_falls, lists_append, lists_take, lists_drop, name_falls, names_fall}
+use Rattle.hir_pretty_nodes.proofs.DecreaseLemmas.{puts_fall, none_falls, lifetime_falls, for_falls, bounds_fall}
+use Rattle.hir_pretty_nodes.proofs.DecreaseLemmas.{generic_args_fall}
 use Rattle.std.proofs.lemmas.Grind.{common_steps}
 
 when_falls : (P : NodeId → Type 0) (b : Bool) (is : List Doc) → AllNodes P is → AllNodes P (when b is)
@@ -72,7 +88,8 @@ module _ (P : NodeId → Type 0) (s : PrintEnv) where
   abbrev fish : Option GenericArgs → List Doc
   fish args = opt (λ a. turbofish (args_docs s a)) args
 
-  segments_fall : (after : Bool) (names : List (List ℕ)) (lists : List (Option GenericArgs)) → AllCalls P (flat_map (calls.opt args_calls) lists) → AllNodes P (segments_from s after names lists)
+  segments_fall : (after : Bool) (names : List (List ℕ)) (lists : List (Option GenericArgs))
+      → AllCalls P (flat_map (calls.opt args_calls) lists) → AllNodes P (segments_from s after names lists)
   segments_fall after [] lists a = tt
   segments_fall after (name ∷ names) [] a = search (rules, nodes_append, when_falls, name_falls, segments_fall true names [] tt)
   segments_fall after (name ∷ names) (args ∷ lists) a =
@@ -80,7 +97,8 @@ module _ (P : NodeId → Type 0) (s : PrintEnv) where
       let here = calls.opt args_calls args in
       let rest = flat_map (calls.opt args_calls) lists in
       nodes_append P ((colons ++ name_docs s name) ++ fish args) (segments_from s true names lists)
-      (nodes_append P (colons ++ name_docs s name) (fish args) (nodes_append P colons (name_docs s name) (when_falls P after (text (codes "::")) tt) (name_falls P s name)) (generic_args_fall P s args (first_calls P here rest a)))
+      (nodes_append P (colons ++ name_docs s name) (fish args) (nodes_append P colons (name_docs s name)
+      (when_falls P after (text (codes "::")) tt) (name_falls P s name)) (generic_args_fall P s args (first_calls P here rest a)))
       (segments_fall true names lists (last_calls P here rest a))
 
   start_falls : (anchor : Option ℕ) (k : PathKind) → AllCalls P (calls.opt calls.t anchor) → AllNodes P (start_docs s anchor k)
@@ -88,7 +106,8 @@ module _ (P : NodeId → Type 0) (s : PrintEnv) where
   start_falls (Some anchor) k a = a
 
   pub path_falls : (x : Path) → AllCalls P (path_calls x) → AllNodes P (path_docs s x)
-  path_falls (path.BarePath x) a = nodes_append P (kind_docs s x.kind) (segments_from s (colons_first x.kind) x.segments []) (kind_falls x.kind) (segments_fall (colons_first x.kind) x.segments [] tt)
+  path_falls (path.BarePath x) a = nodes_append P (kind_docs s x.kind) (segments_from s (colons_first x.kind) x.segments [])
+      (kind_falls x.kind) (segments_fall (colons_first x.kind) x.segments [] tt)
   path_falls (path.Normal n) a = search (rules, nodes_append, start_falls, last_calls, segments_fall, first_calls)
   path_falls (path.LangItem x name) a = search (rules, nodes_append, target_falls, none_falls, name_falls)
 
@@ -112,7 +131,8 @@ module _ (P : NodeId → Type 0) (s : PrintEnv) where
   arguments_fall : (args : List ℕ) → AllCalls P (flat_map calls.e args) → AllNodes P (arguments args)
   arguments_fall args a = nodes_append P (in_lines args) (text (codes ")")) (in_lines_fall args a) tt
 
-  parts_of_arm_fall : (pat : ℕ) (guard : Option ℕ) (x : ℕ) → AllCalls P (calls.e x ++ calls.opt calls.e guard ++ calls.p pat) → AllNodes P (p pat ++ opt (λ id. text (codes " if ") ++ e id) guard ++ text (codes " => ") ++ e x ++ text (codes ",") ++ br)
+  parts_of_arm_fall : (pat : ℕ) (guard : Option ℕ) (x : ℕ) → AllCalls P (calls.e x ++ calls.opt calls.e guard ++ calls.p pat)
+      → AllNodes P (p pat ++ opt (λ id. text (codes " if ") ++ e id) guard ++ text (codes " => ") ++ e x ++ text (codes ",") ++ br)
   parts_of_arm_fall pat None x a = (a.1.0, (a.0, tt))
   parts_of_arm_fall pat (Some guard) x a = (a.1.1.0, (a.1.0, (a.0, tt)))
 
@@ -156,7 +176,8 @@ module _ (P : NodeId → Type 0) (s : PrintEnv) where
       let cs = flat_map statement_calls (x ∷ xs) in
       let ts = calls.opt calls.e tail in
       nodes_append P ((all ++ opt e tail) ++ br) out
-      (nodes_append P (all ++ opt e tail) br (nodes_append P all (opt e tail) (each_falls P statement_calls statement_docs statement_falls (x ∷ xs) (first_calls P cs ts a)) (opt_falls P calls.e e (λ id h. h) tail (last_calls P cs ts a))) tt) tt
+      (nodes_append P (all ++ opt e tail) br (nodes_append P all (opt e tail) (each_falls P statement_calls statement_docs
+      statement_falls (x ∷ xs) (first_calls P cs ts a)) (opt_falls P calls.e e (λ id h. h) tail (last_calls P cs ts a))) tt) tt
 
   unsafe_falls : (x : Unsafe) → AllNodes P (unsafe_docs x)
   unsafe_falls unsafety.Yes = tt
@@ -166,7 +187,8 @@ module _ (P : NodeId → Type 0) (s : PrintEnv) where
   param_falls pat None h a = (h, tt)
   param_falls pat (Some type) h a = (h, a)
 
-  params_fall : (pats : List ℕ) (types : List (Option ℕ)) → AllCalls P (flat_map calls.p pats) → AllCalls P (flat_map (calls.opt calls.t) types) → AllLists P (params pats types)
+  params_fall : (pats : List ℕ) (types : List (Option ℕ)) → AllCalls P (flat_map calls.p pats)
+      → AllCalls P (flat_map (calls.opt calls.t) types) → AllLists P (params pats types)
   params_fall [] types a b = tt
   params_fall (pat ∷ pats) [] a b = tt
   params_fall (pat ∷ pats) (type ∷ types) a b =
@@ -174,7 +196,8 @@ module _ (P : NodeId → Type 0) (s : PrintEnv) where
       let rest = flat_map (calls.opt calls.t) types in
       (param_falls pat type a.0 (first_calls P here rest b), params_fall pats types a.1 (last_calls P here rest b))
 
-  bars_fall : (xs : List (List Doc)) (ret : Option ℕ) → AllLists P xs → AllCalls P (calls.opt calls.t ret) → AllNodes P (text (codes "|") ++ comma_joined xs ++ text (codes "|") ++ opt (λ id. text (codes " -> ") ++ t id) ret ++ sp)
+  bars_fall : (xs : List (List Doc)) (ret : Option ℕ) → AllLists P xs → AllCalls P (calls.opt calls.t ret)
+      → AllNodes P (text (codes "|") ++ comma_joined xs ++ text (codes "|") ++ opt (λ id. text (codes " -> ") ++ t id) ret ++ sp)
   bars_fall xs ret a b = grind (arith, common_steps, nodes_append, joined_falls P (text (codes ", ")) tt xs a, opt_falls)
 
   header_falls : (kind : ClosureKind) (xs : List (List Doc)) (ret : Option ℕ) → AllLists P xs → AllCalls P (calls.opt calls.t ret) → AllNodes P (header kind xs ret)
@@ -210,7 +233,8 @@ module _ (P : NodeId → Type 0) (s : PrintEnv) where
     expr_falls expr.IncludeBytes a = tt
     expr_falls (expr.OffsetOf o) a = search (rules, nodes_append, joined_falls, names_fall)
     expr_falls (expr.If condition then_branch else_branch) a = (a.0, (a.1.0, opt_falls P calls.e (λ id. text (codes " else ") ++ e id) (λ id h. h) else_branch a.1.1))
-    expr_falls (expr.Loop body label source) a = nodes_append P (label_before s label ++ text (codes "loop ")) (e body) (nodes_append P (label_before s label) (text (codes "loop ")) (labelled_falls label) tt) a
+    expr_falls (expr.Loop body label source) a = nodes_append P (label_before s label ++ text (codes "loop ")) (e body)
+        (nodes_append P (label_before s label) (text (codes "loop ")) (labelled_falls label) tt) a
     expr_falls (expr.Call callee args) a = (a.0, arguments_fall args a.1)
     expr_falls (expr.MethodCall receiver name args generic_args) a =
         let of_args = flat_map calls.e args in
@@ -218,8 +242,11 @@ module _ (P : NodeId → Type 0) (s : PrintEnv) where
         (a.0, nodes_append P (name_docs s name ++ fish generic_args) (arguments args) (nodes_append P (name_docs s name) (fish generic_args) (name_falls P s name) (generic_args_fall P s generic_args (last_calls P of_args of_generics a.1))) (arguments_fall args (first_calls P of_args of_generics a.1)))
     expr_falls (expr.Match x arms) a =
         let all = flat_map arm_docs arms in
-        let brace = text (codes "}") in
-        (a.0, nodes_append P ((all ++ out) ++ brace) br (nodes_append P (all ++ out) brace (nodes_append P all out (each_falls P arm_calls arm_docs arm_falls arms a.1) tt) tt) tt)
+        let brace = text (codes "}") in (
+          a.0,
+          nodes_append P ((all ++ out) ++ brace) br (nodes_append P (all ++ out) brace
+              (nodes_append P all out (each_falls P arm_calls arm_docs arm_falls arms a.1) tt) tt) tt,
+        )
     expr_falls (expr.Continue label) a = to_label_falls label
     expr_falls (expr.Break x label) a = nodes_append P (to_label s label) (operand x) (to_label_falls label) (operand_falls x a)
     expr_falls (expr.Return x) a = operand_falls x a
@@ -235,7 +262,8 @@ module _ (P : NodeId → Type 0) (s : PrintEnv) where
         (nodes_append P ((head ++ all) ++ spread_docs spread) out
         (nodes_append P (head ++ all) (spread_docs spread)
         (nodes_append P head all
-        (nodes_append P (path_docs s path ++ text (codes "{")) into (nodes_append P (path_docs s path) (text (codes "{")) (path_falls path (last_calls P (of_fields ++ of_spread) (path_calls path) a)) tt) tt)
+        (nodes_append P (path_docs s path ++ text (codes "{")) into (nodes_append P (path_docs s path) (text (codes "{"))
+        (path_falls path (last_calls P (of_fields ++ of_spread) (path_calls path) a)) tt) tt)
         (each_falls P (λ (field : RecordLitField). calls.e field.expr) (field_docs s) field_falls fields (first_calls P of_fields of_spread rest)))
         (spread_falls spread (last_calls P of_fields of_spread rest))) tt) tt
     expr_falls (expr.Field x name) a = (a.0, name_falls P s name)
@@ -272,7 +300,8 @@ module _ (P : NodeId → Type 0) (s : PrintEnv) where
   after_last_falls true = tt
   after_last_falls false = line_end_falls s.one_line
 
-  field_patterns_fall : (rest : Bool) (fields : List RecordFieldPat) → AllCalls P (flat_map (λ (field : RecordFieldPat). calls.p field.pat) fields) → AllNodes P (field_patterns s rest fields)
+  field_patterns_fall : (rest : Bool) (fields : List RecordFieldPat)
+      → AllCalls P (flat_map (λ (field : RecordFieldPat). calls.p field.pat) fields) → AllNodes P (field_patterns s rest fields)
   field_patterns_fall rest [] a = tt
   field_patterns_fall rest (f ∷ []) a = nodes_append P (field_pattern s f) (after_last s rest) (field_pattern_falls f a.0) (after_last_falls rest)
   field_patterns_fall rest (f ∷ g ∷ fs) a = search (rules, nodes_append, field_pattern_falls, field_patterns_fall rest (g ∷ fs) a.1)
@@ -286,13 +315,15 @@ module _ (P : NodeId → Type 0) (s : PrintEnv) where
   binding_falls : (id : ℕ) → AllNodes P (binding_docs s id)
   binding_falls id = none_falls P (of_binding s) (λ b. bound_falls b.mode (name_docs s b.name) (name_falls P s b.name)) (slice_get s.nodes.bindings id)
 
-  range_falls : (start end : Option ℕ) (dots : List ℕ) → AllCalls P (calls.opt calls.e start ++ calls.opt calls.e end) → AllNodes P (opt (under Shift) start ++ text dots ++ opt (under Shift) end)
+  range_falls : (start end : Option ℕ) (dots : List ℕ) → AllCalls P (calls.opt calls.e start ++ calls.opt calls.e end)
+      → AllNodes P (opt (under Shift) start ++ text dots ++ opt (under Shift) end)
   range_falls None None dots a = tt
   range_falls None (Some y) dots a = a
   range_falls (Some x) None dots a = a
   range_falls (Some x) (Some y) dots a = a
 
-  slice_falls : (prefix : List ℕ) (slice : Option ℕ) (suffix : List ℕ) → AllCalls P (flat_map calls.p prefix ++ calls.opt calls.p slice ++ flat_map calls.p suffix) → AllNodes P (flat_map (λ id. p id ++ text (codes ", ")) (prefix ++ option_to_list slice ++ suffix))
+  slice_falls : (prefix : List ℕ) (slice : Option ℕ) (suffix : List ℕ) → AllCalls P (flat_map calls.p prefix ++ calls.opt calls.p
+      slice ++ flat_map calls.p suffix) → AllNodes P (flat_map (λ id. p id ++ text (codes ", ")) (prefix ++ option_to_list slice ++ suffix))
   slice_falls prefix slice suffix a =
       let each = λ (id : ℕ). p id ++ text (codes ", ") in
       let first = flat_map calls.p prefix in
@@ -301,7 +332,8 @@ module _ (P : NodeId → Type 0) (s : PrintEnv) where
       let both = first_calls P (first ++ middle) end a in
       let is = flat_map-append each (prefix ++ option_to_list slice) suffix ∙ ap (λ u. u ++ flat_map each suffix) (flat_map-append each prefix (option_to_list slice)) in
       subst (AllNodes P) (sym is) (nodes_append P (flat_map each prefix ++ flat_map each (option_to_list slice)) (flat_map each suffix)
-      (nodes_append P (flat_map each prefix) (flat_map each (option_to_list slice)) (each_falls P calls.p each (λ id h. h) prefix (first_calls P first middle both)) (middle_falls slice (last_calls P first middle both)))
+      (nodes_append P (flat_map each prefix) (flat_map each (option_to_list slice)) (each_falls P calls.p each (λ id h. h) prefix
+      (first_calls P first middle both)) (middle_falls slice (last_calls P first middle both)))
       (each_falls P calls.p each (λ id h. h) suffix (last_calls P (first ++ middle) end a)))
     where
       middle_falls : (o : Option ℕ) → AllCalls P (calls.opt calls.p o) → AllNodes P (flat_map (λ id. p id ++ text (codes ", ")) (option_to_list o))
@@ -315,12 +347,15 @@ module _ (P : NodeId → Type 0) (s : PrintEnv) where
   pat_falls pat.NotNull a = tt
   pat_falls (pat.Tuple args ellipsis) a = in_parentheses_fall ellipsis args a
   pat_falls (pat.TupleStruct path args ellipsis) a = search (rules, nodes_append, path_falls, last_calls, in_parentheses_fall, first_calls)
-  pat_falls (pat.Or args) a = nodes_append P (join (text (codes " | ")) (map p args)) (text (codes ")")) (joined_falls P (text (codes " | ")) tt (map p args) (pats_fall args a)) tt
+  pat_falls (pat.Or args) a = nodes_append P (join (text (codes " | ")) (map p args)) (text (codes ")"))
+      (joined_falls P (text (codes " | ")) tt (map p args) (pats_fall args a)) tt
   pat_falls (pat.Record ellipsis path args) a =
       grind (arith, common_steps, nodes_append, path_falls, last_calls, field_patterns_fall, first_calls, when_falls)
   pat_falls (pat.Range start end range_type) a = range_falls start end (range_text range_type) a
-  pat_falls (pat.Slice prefix slice suffix) a = nodes_append P (flat_map (λ id. p id ++ text (codes ", ")) (prefix ++ option_to_list slice ++ suffix)) (text (codes "]")) (slice_falls prefix slice suffix a) tt
-  pat_falls (pat.Bind id subpat) a = nodes_append P (binding_docs s id) (opt (λ q. sp ++ text (codes "@ ") ++ p q) subpat) (binding_falls id) (opt_falls P calls.p (λ q. sp ++ text (codes "@ ") ++ p q) (λ q h. h) subpat a)
+  pat_falls (pat.Slice prefix slice suffix) a = nodes_append P (flat_map (λ id. p id ++ text (codes ", "))
+      (prefix ++ option_to_list slice ++ suffix)) (text (codes "]")) (slice_falls prefix slice suffix a) tt
+  pat_falls (pat.Bind id subpat) a = nodes_append P (binding_docs s id) (opt (λ q. sp ++ text (codes "@ ") ++ p q) subpat)
+      (binding_falls id) (opt_falls P calls.p (λ q. sp ++ text (codes "@ ") ++ p q) (λ q h. h) subpat a)
   pat_falls (pat.Path path) a = path_falls path a
   pat_falls x a = a
 
@@ -349,7 +384,8 @@ module _ (P : NodeId → Type 0) (s : PrintEnv) where
   last_falls (x ∷ []) a = a
   last_falls (x ∷ y ∷ xs) a = last_falls (y ∷ xs) a.1
 
-  types_of_params : (params : List (Option (List ℕ) × ℕ)) → AllCalls P (flat_map (λ (entry : Option (List ℕ) × ℕ). calls.t entry.1) params) → AllCalls P (flat_map calls.t (map (λ (entry : Option (List ℕ) × ℕ). entry.1) params))
+  types_of_params : (params : List (Option (List ℕ) × ℕ)) → AllCalls P (flat_map (λ (entry : Option (List ℕ) × ℕ). calls.t entry.1)
+      params) → AllCalls P (flat_map calls.t (map (λ (entry : Option (List ℕ) × ℕ). entry.1) params))
   types_of_params [] a = tt
   types_of_params (x ∷ xs) a = (a.0, types_of_params xs a.1)
 
@@ -359,14 +395,16 @@ module _ (P : NodeId → Type 0) (s : PrintEnv) where
       let dots = varargs_docs varargs (all_but_last types) in
       let arrow = text (codes ") -> ") in
       nodes_append P ((all ++ dots) ++ arrow) (last types)
-      (nodes_append P (all ++ dots) arrow (nodes_append P all dots (joined_falls P (text (codes ", ")) tt (map t (all_but_last types)) (all_but_last_falls types a)) (varargs_fall varargs (all_but_last types))) tt) (last_falls types a)
+      (nodes_append P (all ++ dots) arrow (nodes_append P all dots (joined_falls P (text (codes ", ")) tt
+      (map t (all_but_last types)) (all_but_last_falls types a)) (varargs_fall varargs (all_but_last types))) tt) (last_falls types a)
 
   pub type_falls : (x : TypeRef) → AllCalls P (type_calls x) → AllNodes P (type_docs s x)
   type_falls type.Never a = tt
   type_falls type.Placeholder a = tt
   type_falls type.Error a = tt
   type_falls (type.TypeParam id) a = type_param_falls id.local_id (s.tables.type_param id)
-  type_falls (type.Tuple types) a = nodes_append P (comma_joined (map t types)) (text (codes ")")) (joined_falls P (text (codes ", ")) tt (map t types) (map_falls P calls.t t (λ id h. h) types a)) tt
+  type_falls (type.Tuple types) a = nodes_append P (comma_joined (map t types)) (text (codes ")"))
+      (joined_falls P (text (codes ", ")) tt (map t types) (map_falls P calls.t t (λ id h. h) types a)) tt
   type_falls (type.Reference r) a = search (rules, nodes_append, none_falls, lifetime_falls)
   type_falls (type.Fn f) a = search (rules, nodes_append, none_falls, for_falls, when_falls, extern_falls, signature_falls, types_of_params)
   type_falls (type.ImplTrait bounds) a = bounds_fall P s bounds a

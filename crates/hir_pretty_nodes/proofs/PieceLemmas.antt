@@ -8,7 +8,11 @@ use Rattle.hir_node.specs.declared.binding.BindingAnnotation.TheVariants as anno
 use Rattle.hir_pretty_docs.specs.declared.token.Token.{Token}
 use Rattle.hir_pretty_docs.specs.declared.token.Token.TheVariants as token
 use Rattle.hir_pretty_nodes.specs.declared.lookups.Found.{Found}
-use Rattle.hir_pretty_nodes.specs.Prelude.{Missing, PrintEnv, Doc, Put, MissingDoc, ExprDoc, ExprIn, Pattern, TypeDoc, text, br, name_parts, name_docs, annotation_docs, literal_docs, put_pieces, DocPiece, Present, Absent, docs_of, doc_pieces, pieces, doc_list_pieces, with_parentheses, first_missing, layout, DocsDecrease, stands_for, is_plain, found_docs, last_field_end, plain_pieces, found_pieces, enclose, printing, PrintsAlike}
+use Rattle.hir_pretty_nodes.specs.Prelude.{Missing, PrintEnv, Doc, Put, MissingDoc, ExprDoc, ExprIn, Pattern, TypeDoc, text, br}
+use Rattle.hir_pretty_nodes.specs.Prelude.{name_parts, name_docs, annotation_docs, literal_docs, put_pieces, DocPiece, Present}
+use Rattle.hir_pretty_nodes.specs.Prelude.{Absent, docs_of, doc_pieces, pieces, doc_list_pieces, with_parentheses, first_missing}
+use Rattle.hir_pretty_nodes.specs.Prelude.{layout, DocsDecrease, stands_for, is_plain, found_docs, last_field_end, plain_pieces}
+use Rattle.hir_pretty_nodes.specs.Prelude.{found_pieces, enclose, printing, PrintsAlike}
 use Rattle.hir_pretty_nodes.specs.declared.lookups.Found.TheVariants as found
 use Rattle.hir_pretty_layout.specs.Literals.{string_literal, char_literal, bytes_literal, c_string_literal}
 use Rattle.hir_pretty_layout.specs.{Layouts.Layout, Layouts.Text, Steps.steps}
@@ -104,11 +108,14 @@ found_printed s (found.Param n) = refl
 found_printed s (found.Binding b) = binding_printed s b.now.mode b.now.name
 
 -- an expression in parentheses, or without
-pub enclosed_printed : (s : PrintEnv) → DocsDecrease s → (b : Bool) (id : ℕ) → doc_list_pieces s (enclose b (docs_of s (node.Expr id))) ≡ with_parentheses b (pieces s (node.Expr id)) ++ []
-enclosed_printed s fall false id = ap (doc_list_pieces s) (append-nil (docs_of s (node.Expr id))) ∙ sym (append-nil (pieces s (node.Expr id)) ∙ pieces_at s fall (node.Expr id))
+pub enclosed_printed : (s : PrintEnv) → DocsDecrease s → (b : Bool) (id : ℕ)
+    → doc_list_pieces s (enclose b (docs_of s (node.Expr id))) ≡ with_parentheses b (pieces s (node.Expr id)) ++ []
+enclosed_printed s fall false id = ap (doc_list_pieces s) (append-nil (docs_of s (node.Expr id)))
+    ∙ sym (append-nil (pieces s (node.Expr id)) ∙ pieces_at s fall (node.Expr id))
 enclosed_printed s fall true id =
     let close = Present (Text (codes ")")) ∷ [] in
-    ap (λ ps. Present (Text (codes "(")) ∷ ps) (printed-append s (docs_of s (node.Expr id)) (text (codes ")")) ∙ ap (λ ps. ps ++ close) (sym (pieces_at s fall (node.Expr id))))
+    ap (λ ps. Present (Text (codes "(")) ∷ ps) (printed-append s (docs_of s (node.Expr id)) (text (codes ")"))
+    ∙ ap (λ ps. ps ++ close) (sym (pieces_at s fall (node.Expr id))))
     ∙ sym (append-nil (Present (Text (codes "(")) ∷ (pieces s (node.Expr id) ++ close)))
 
 -- 2. A value
@@ -140,8 +147,10 @@ module _ {W : Type 0} (step : Layout → W → W) where
   unfolding printing
   is_missing value missing ps = refl
 
-pub pieces_alike : {W : Type 0} {step : Layout → W → W} {s : PrintEnv} {value new : W} {is : List Doc} (ps : List Layout) → doc_list_pieces s is ≡ map Present ps → new ≡ steps step ps value
+pub pieces_alike : {W : Type 0} {step : Layout → W → W} {s : PrintEnv} {value new : W} {is : List Doc} (ps : List Layout)
+    → doc_list_pieces s is ≡ map Present ps → new ≡ steps step ps value
     → PrintsAlike step s value is new []
 pieces_alike {step = step} {s} {value} {new} {is} ps e f = record {
-  alike = λ more. ap (printing step value) (printed-append s is more ∙ ap (λ qs. qs ++ doc_list_pieces s more) e) ∙ printing_pieces step value ps (doc_list_pieces s more) ∙ ap (λ v. printing step v (doc_list_pieces s more)) (sym f);
+  alike = λ more. ap (printing step value) (printed-append s is more ∙ ap (λ qs. qs ++ doc_list_pieces s more) e)
+      ∙ printing_pieces step value ps (doc_list_pieces s more) ∙ ap (λ v. printing step v (doc_list_pieces s more)) (sym f);
 }

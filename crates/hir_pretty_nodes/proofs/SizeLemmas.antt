@@ -1,6 +1,8 @@
 -- How much is to be done for what is printed.
 use Rattle.std.proofs.Common.{◌≡◌, ℕ, zero, suc, ◌+◌, ◌<◌, ◌≤◌, Bool, true, false, List, [], ◌∷◌, ◌++◌, codes, refl, arith, ◌==◌, if◌then◌else◌, flat_map}
-use Rattle.hir_pretty_nodes.specs.Prelude.{NodeId, PrintEnv, Doc, Put, MissingDoc, ExprDoc, ExprIn, Pattern, TypeDoc, text, is_word, raw_parts, name_docs, same_text, docs_of, AllNodes, DocsDecrease, total, doc_size, node_size_step, node_size, size, enclose}
+use Rattle.hir_pretty_nodes.specs.Prelude.{NodeId, PrintEnv, Doc, Put, MissingDoc, ExprDoc, ExprIn, Pattern, TypeDoc, text}
+use Rattle.hir_pretty_nodes.specs.Prelude.{is_word, raw_parts, name_docs, same_text, docs_of, AllNodes, DocsDecrease, total}
+use Rattle.hir_pretty_nodes.specs.Prelude.{doc_size, node_size_step, node_size, size, enclose}
 use Rattle.hir_validate.specs.Recursion.{rank, fold_down_within, fold_down}
 use Rattle.hir_pretty_nodes.proofs.StepLemmas.{nodes_weaker}
 
@@ -53,10 +55,12 @@ quoted_size : (s : PrintEnv) (b : Bool) (whole quote : List ℕ) (parts : List (
 quoted_size s true whole quote parts = omega arith
 quoted_size s false whole quote parts = omega arith
 
-either_size : (s : PrintEnv) (b : Bool) (xs ys : List (List ℕ)) → 0 < size s (flat_map text xs) → 0 < size s (flat_map text ys) → 0 < size s (flat_map text (if b then xs else ys))
+either_size : (s : PrintEnv) (b : Bool) (xs ys : List (List ℕ)) → 0 < size s (flat_map text xs) → 0 < size s (flat_map text ys)
+    → 0 < size s (flat_map text (if b then xs else ys))
 either_size s true xs ys k l = k
 either_size s false xs ys k l = l
 
 pub name_size : (s : PrintEnv) (name : List ℕ) → 0 < size s (name_docs s name)
 name_size s [] = raw_size s (is_word s.words []) []
-name_size s (c ∷ cs) = either_size s (c == 39) _ _ (quoted_size s (same_text cs (codes "static")) (c ∷ cs) (c ∷ []) (raw_parts s.words cs)) (raw_size s (is_word s.words (c ∷ cs)) (c ∷ cs))
+name_size s (c ∷ cs) = either_size s (c == 39) _ _ (quoted_size s (same_text cs (codes "static")) (c ∷ cs) (c ∷ [])
+    (raw_parts s.words cs)) (raw_size s (is_word s.words (c ∷ cs)) (c ∷ cs))

@@ -1,7 +1,8 @@
 -- The doc pieces of a node are those of its documents, in a store where what is printed inside a node has a
 -- lower rank.
 use Rattle.std.proofs.Common.{◌≡◌, ℕ, zero, suc, ◌<◌, List, [], ◌∷◌, ◌++◌, refl, ap₂, arith, flat_map, rules}
-use Rattle.hir_pretty_nodes.specs.Prelude.{NodeId, PrintEnv, Doc, Put, MissingDoc, ExprDoc, ExprIn, Pattern, TypeDoc, DocPiece, docs_of, doc_pieces, pieces_step, pieces, AllNodes, DocsDecrease}
+use Rattle.hir_pretty_nodes.specs.Prelude.{NodeId, PrintEnv, Doc, Put, MissingDoc, ExprDoc, ExprIn, Pattern, TypeDoc, DocPiece}
+use Rattle.hir_pretty_nodes.specs.Prelude.{docs_of, doc_pieces, pieces_step, pieces, AllNodes, DocsDecrease}
 use Rattle.hir_node.specs.declared.node_id.NodeId.TheVariants as node
 use Rattle.hir_validate.specs.Recursion.{rank, fold_down_within, fold_down}
 

@@ -83,8 +83,10 @@ literals_and_operators :
     × (exprs_text (expr.Literal (literal.CString (codes "a")) ∷ []) 0 ≡ codes "\"a\\0\"")
     × (exprs_text (expr.Literal (literal.ByteString (0 ∷ 34 ∷ 255 ∷ [])) ∷ []) 0 ≡ codes "\"\\x00\\\"\\xff\"")
     × (exprs_text (expr.Const 3 ∷ []) 0 ≡ codes "const { /* ExprId(3) */ }")
-    × (exprs_text (var (codes "a") ∷ var (codes "b") ∷ expr.BinaryOp 0 1 (Some (binary.ArithOp arith.Sub)) ∷ var (codes "c") ∷ expr.BinaryOp 2 3 (Some (binary.ArithOp arith.Sub)) ∷ []) 4 ≡ codes "(a - b) - c")
-    × (exprs_text (var (codes "a") ∷ var (codes "b") ∷ expr.BinaryOp 0 1 (Some (binary.LogicOp logic.And)) ∷ var (codes "c") ∷ expr.BinaryOp 2 3 (Some (binary.LogicOp logic.And)) ∷ []) 4 ≡ codes "a && b && c")
+    × (exprs_text (var (codes "a") ∷ var (codes "b") ∷ expr.BinaryOp 0 1 (Some (binary.ArithOp arith.Sub)) ∷ var (codes "c")
+    ∷ expr.BinaryOp 2 3 (Some (binary.ArithOp arith.Sub)) ∷ []) 4 ≡ codes "(a - b) - c")
+    × (exprs_text (var (codes "a") ∷ var (codes "b") ∷ expr.BinaryOp 0 1 (Some (binary.LogicOp logic.And)) ∷ var (codes "c")
+    ∷ expr.BinaryOp 2 3 (Some (binary.LogicOp logic.And)) ∷ []) 4 ≡ codes "a && b && c")
     × (expr_text (var (codes "x") ∷ expr.Cast 0 2 ∷ []) [] (named_type (codes "u32") ∷ type.Tuple [] ∷ type.Fn (record { binder = None; params = (None, 0) ∷ (None, 1) ∷ []; is_varargs = false; is_unsafe = false; abi = abi.C }) ∷ []) [] 1 ≡ codes "x as extern C fn(u32) -> ()")
 unfolding pieces fold_down rank height chars encode digits
 literals_and_operators = (refl, refl, refl, refl, refl, refl, refl, refl)
@@ -101,9 +103,11 @@ lists = (refl, refl, refl, refl, refl)
 
 -- blocks
 blocks :
-    (expr_text (var (codes "M") ∷ var (codes "W") ∷ expr.Assignment 0 0 ∷ expr.Block None (statement.Expr 2 true ∷ []) (Some 1) None unsafety.No ∷ []) (bind 0 ∷ []) [] (binding (codes "x") ∷ []) 3 ≡ codes "{\n    x = M;\n    W\n}")
+    (expr_text (var (codes "M") ∷ var (codes "W") ∷ expr.Assignment 0 0 ∷ expr.Block None (statement.Expr 2 true ∷ []) (Some 1)
+    None unsafety.No ∷ []) (bind 0 ∷ []) [] (binding (codes "x") ∷ []) 3 ≡ codes "{\n    x = M;\n    W\n}")
     × (exprs_text (expr.Block None (statement.Item item.Other ∷ []) None None unsafety.No ∷ []) 0 ≡ codes "{\n}")
-    × (exprs_text (var (codes "x") ∷ var (codes "y") ∷ expr.Match 1 [] ∷ expr.Array (array.Repeat 0 2) ∷ expr.Block None [] (Some 3) None unsafety.No ∷ []) 4 ≡ codes "{\n    [\n        x; match y {\n        }\n    \n    ]\n}")
+    × (exprs_text (var (codes "x") ∷ var (codes "y") ∷ expr.Match 1 [] ∷ expr.Array (array.Repeat 0 2)
+    ∷ expr.Block None [] (Some 3) None unsafety.No ∷ []) 4 ≡ codes "{\n    [\n        x; match y {\n        }\n    \n    ]\n}")
 unfolding pieces fold_down rank height
 blocks = (refl, refl, refl)
 
@@ -121,8 +125,10 @@ patterns = (refl, refl, refl, refl, refl, refl, refl)
 
 -- the first definition that is missing, in printing order, and a lang item by the name that the tables have
 definitions :
-    ((let s = print_env (expr.Path (path.LangItem (target.StructId 1) None) ∷ expr.Path (path.LangItem (target.FunctionId 0) None) ∷ expr.Tuple (0 ∷ 1 ∷ []) ∷ []) [] [] [] false in first_missing (pieces s (node.Expr 2))) ≡ Some (missing.Name (named.StructId 1)))
-    × ((let s = print_env [] [] [] [] false in first_missing (path_pieces s (path.BarePath (record { kind = kind.DollarCrate 0; segments = codes "a" ∷ [] })))) ≡ Some (missing.Crate 0))
+    ((let s = print_env (expr.Path (path.LangItem (target.StructId 1) None) ∷ expr.Path (path.LangItem (target.FunctionId 0) None)
+    ∷ expr.Tuple (0 ∷ 1 ∷ []) ∷ []) [] [] [] false in first_missing (pieces s (node.Expr 2))) ≡ Some (missing.Name (named.StructId 1)))
+    × ((let s = print_env [] [] [] [] false in first_missing (path_pieces s
+    (path.BarePath (record { kind = kind.DollarCrate 0; segments = codes "a" ∷ [] })))) ≡ Some (missing.Crate 0))
     × (text_of (record (print_env [] [] [] [] false) { tables = record no_tables { name = λ def. Ok (Some (codes "f")) } }) (path_pieces (record (print_env [] [] [] [] false) { tables = record no_tables { name = λ def. Ok (Some (codes "f")) } }) (path.LangItem (target.FunctionId 0) (Some (codes "new")))) ≡ codes "builtin#lang(f::new)")
 unfolding pieces fold_down rank height
 definitions = (refl, refl, refl)

@@ -273,7 +273,8 @@ module _ (s : Nodes) where
     type_opens w (Some _) = refl
 
     pub type_moves : {x : TypeRef} {us : List Task} → slice_get s.types id ≡ Some x →
-        us ≡ form_tasks (both a.const_scope) (type_form x) ++ (leave a ∷ ts) → IsReady s (with_next m (Task.TypeRef id)) → Step s (with_next m (Task.TypeRef id)) (at m.scopes (both a.const_scope) us) []
+        us ≡ form_tasks (both a.const_scope) (type_form x) ++ (leave a ∷ ts) → IsReady s (with_next m (Task.TypeRef id))
+        → Step s (with_next m (Task.TypeRef id)) (at m.scopes (both a.const_scope) us) []
     type_moves is e r =
         let n = NodeId.TypeRef id in
         let b = both a.const_scope in

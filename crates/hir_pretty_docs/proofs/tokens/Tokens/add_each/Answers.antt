@@ -8,7 +8,8 @@ loop-member-init g c = left_begins (λ s. refl)
 pub loop-member-preserved : goal.loop-member-preserved
 loop-member-preserved g c =
     left_goes_on c.loop-member.invariant (adds_more c.add_to.ensures c.add.ensures)
-    (λ s. each_step (λ x. stood_after s (g.T.Part.docs s x) c.args.trailer.now) c.args.members.now c.loop-member.member-index c.member-item.result c.loop-member-test.true c.member-item.is)
+    (λ s. each_step (λ x. stood_after s (g.T.Part.docs s x) c.args.trailer.now) c.args.members.now c.loop-member.member-index
+    c.member-item.result c.loop-member-test.true c.member-item.is)
 
 pub returns : goal.returns
 returns g c = search (rules, left_ends, each_ends, stood_after)

@@ -7,4 +7,5 @@ loop-member-init g c = left_begins (λ s. refl)
 pub loop-member-preserved : goal.loop-member-preserved
 loop-member-preserved g c =
     left_goes_on c.loop-member.invariant (adds_then c.add_if.ensures c.add_to.ensures)
-    (λ s. following_step (text c.args.between.now) (g.T.Part.docs s) c.loop-member.after c.args.members.now c.loop-member.member-index c.member-item.result c.loop-member-test.true c.member-item.is)
+    (λ s. following_step (text c.args.between.now) (g.T.Part.docs s) c.loop-member.after c.args.members.now
+    c.loop-member.member-index c.member-item.result c.loop-member-test.true c.member-item.is)

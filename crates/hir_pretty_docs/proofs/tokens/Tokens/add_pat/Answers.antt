@@ -8,10 +8,12 @@ pub returns-in-Range : goal.returns-in-Range
 returns-in-Range c = rw c.in-Range.is (adds_then (adds_more c.add_in_pat.ensures (rw c.as_str.ensures at c.add-in-Range.ensures)) c.add_in_pat-in-Range.ensures)
 
 pub returns-in-Some : goal.returns-in-Some
-returns-in-Some c = rw (c.in-Bind.is, c.in-Some.is) (adds_as (adds_more c.add_binding.ensures c.add-in-Some.ensures) (λ s. bound_to (binding_docs s c.in-Bind.id) c.in-Some.subpat))
+returns-in-Some c = rw (c.in-Bind.is, c.in-Some.is) (adds_as (adds_more c.add_binding.ensures c.add-in-Some.ensures)
+    (λ s. bound_to (binding_docs s c.in-Bind.id) c.in-Some.subpat))
 
 pub returns-in-TupleStruct : goal.returns-in-TupleStruct
-returns-in-TupleStruct c = rw c.in-TupleStruct.is (adds_then c.add_path-in-TupleStruct.ensures (rw c.as_slice-in-TupleStruct.ensures at c.add_in_parentheses-in-TupleStruct.ensures))
+returns-in-TupleStruct c = rw c.in-TupleStruct.is (adds_then c.add_path-in-TupleStruct.ensures
+    (rw c.as_slice-in-TupleStruct.ensures at c.add_in_parentheses-in-TupleStruct.ensures))
 
 pub returns-in-Tuple : goal.returns-in-Tuple
 returns-in-Tuple c = rw c.in-Tuple.is (rw c.as_slice.ensures at c.add_in_parentheses.ensures)

@@ -11,4 +11,5 @@ loop-left-preserved c = record {
 }
 
 pub returns : goal.returns
-returns c = left_ends (left_goes_on c.loop-left.invariant.left (adds c.add-2.ensures (λ s. refl)) (λ s. supers_last c.loop-left.left (omega arith) (omega arith))) (λ s. refl)
+returns c = left_ends (left_goes_on c.loop-left.invariant.left (adds c.add-2.ensures (λ s. refl))
+    (λ s. supers_last c.loop-left.left (omega arith) (omega arith))) (λ s. refl)

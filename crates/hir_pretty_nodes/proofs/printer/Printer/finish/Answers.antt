@@ -1,4 +1,5 @@
-use Rattle.hir_pretty_nodes.proofs.Common.{ap, refl, sym, Err, ◌∙◌, env_of, turned_over, never_turned, comes_expanded, less_expanded, comes_missed, comes_over, writes_all, writes_fault}
+use Rattle.hir_pretty_nodes.proofs.Common.{ap, refl, sym, Err, ◌∙◌, env_of, turned_over, never_turned, comes_expanded}
+use Rattle.hir_pretty_nodes.proofs.Common.{less_expanded, comes_missed, comes_over, writes_all, writes_fault}
 use Rattle.hir_pretty_nodes.proofs.printer.Printer.finish.Goals as goal
 
 pub nodes-init : goal.nodes-init
