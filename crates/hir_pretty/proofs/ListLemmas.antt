@@ -1,6 +1,6 @@
 -- Lists with separators, and places of arguments.
-use Rattle.std.proofs.Common.{◌≡◌, ℕ, ◌+◌, ◌<◌, ◌≤◌, ◌==◌, Bool, true, false, List, [], ◌∷◌, ◌++◌, length, map, drop, get_or, Option, Some, None, refl, sym, ap, ap₂, subst, ◌∙◌, append_assoc, append-nil, arith, codes, is_some, nat_lt, Ok, rules}
-use Rattle.std.proofs.lemmas.{Bool.lt-ltb, Bool.true≢false, List.drop_all}
+use Rattle.std.proofs.Common.{◌≡◌, ℕ, ◌+◌, ◌<◌, ◌≤◌, ◌==◌, Bool, true, false, List, [], ◌∷◌, ◌++◌, length, map, drop, get_or, Option, Some, None, refl, sym, ap, ap₂, subst, ◌∙◌, append_assoc, arith, codes, is_some, nat_lt, Ok, rules}
+use Rattle.std.proofs.lemmas.{Bool.lt-ltb, Bool.true≢false, List.drop_all, List.get_or_read}
 use Rattle.std.specs.List.{enumerate_from, list_any}
 use Rattle.hir_base.specs.declared.mod_path.PathKind.{PathKind, TheVariants.Plain}
 use Rattle.hir_signature.specs.declared.{param_data.LifetimeParamData.LifetimeParamData, predicate.WherePredicate.WherePredicate, any_param.TypeOrConstParamData.TypeOrConstParamData}
@@ -9,7 +9,7 @@ use Rattle.hir_body.specs.{Bodies.formals_of, declared.formals.Param.Param}
 use Rattle.hir_pretty_nodes.specs.Prelude.{PrintEnv, Doc, text, br, into, out, t, p, opt, when, join, comma_joined, binding_docs, colons_first, type_param_docs, following}
 use Rattle.hir_pretty_docs.proofs.ListLemmas.{drop_item, is_cons, following_append, following_joined}
 use Rattle.hir_pretty.specs.Signatures.{type_name, argument_docs, arguments, function_types, each_lifetime, each_type_or_const, in_angles, each_predicate, where_docs}
-use Rattle.hir_pretty.specs.{internal.AddedDocs.marked_docs, Bodies.formal_params, Variants.kind_word}
+use Rattle.hir_pretty.specs.{internal.AddedDocs.marked_docs, Bodies.formal_params, Bodies.formal_self, Variants.kind_word}
 
 -- 1. Separators
 
@@ -44,16 +44,20 @@ module_is s kind names =
     ap (λ b. join (text (codes "::")) (kind_word s kind) ++ following (text (codes "::")) b names) (kinds_first s kind) ∙ following_append (text (codes "::")) (kind_word s kind) names
 
 -- the binding of `self`, and the formal patterns
-pub formals_begin : (s : PrintEnv) (self : Option ℕ) (b : Bool) (params : List (Param ℕ)) → b ≡ is_some self
-    → opt (binding_docs s) self ++ following (text (codes ", ")) b (map p (formals_of params)) ≡ comma_joined (formal_params s self (formals_of params))
+pub formals_begin : (s : PrintEnv) (self : Option (Param ℕ)) (b : Bool) (params : List (Param ℕ)) → b ≡ is_some self
+    → opt (binding_docs s) (formal_self self) ++ following (text (codes ", ")) b (map p (formals_of params)) ≡ comma_joined (formal_params s (formal_self self) (formals_of params))
 formals_begin s None b params e = ap (λ c. following (text (codes ", ")) c (map p (formals_of params))) e ∙ following_joined (text (codes ", ")) (map p (formals_of params))
-formals_begin s (Some id) b params e =
-    ap (λ c. binding_docs s id ++ following (text (codes ", ")) c (map p (formals_of params))) e ∙ following_append (text (codes ", ")) (binding_docs s id ∷ []) (map p (formals_of params))
+formals_begin s (Some param) b params e =
+    ap (λ c. binding_docs s param.formal ++ following (text (codes ", ")) c (map p (formals_of params))) e
+    ∙ following_append (text (codes ", ")) (binding_docs s param.formal ∷ []) (map p (formals_of params))
 
 pub formals_step : (after : Bool) (params : List (Param ℕ)) (i : ℕ) (x : Param ℕ) → i < length params → x ≡ get_or params i x
     → when after (text (codes ", ")) ++ p x.formal ++ following (text (codes ", ")) true (map p (formals_of (drop (i + 1) params)))
     ≡ following (text (codes ", ")) after (map p (formals_of (drop i params)))
 formals_step after params i x h e = sym (ap (λ xs. following (text (codes ", ")) after (map p (formals_of xs))) (drop_item params i x h e))
+
+pub formals_end : (after : Bool) (params : List (Param ℕ)) (i : ℕ) → length params ≤ i → [] ≡ following (text (codes ", ")) after (map p (formals_of (drop i params)))
+formals_end after params i h = sym (ap (λ xs. following (text (codes ", ")) after (map p (formals_of xs))) (drop_all i params h))
 
 -- 2. Places
 
@@ -74,11 +78,11 @@ marked_arguments marks places n (x ∷ xs) h =
     ap₂ (λ b ys. (when b (text (codes "const: ")) ++ t x) ∷ ys) (h n (omega arith)) (marked_arguments marks places (n + 1) xs (λ i k. h i (omega (arith, k))))
 
 -- a marked argument and those after it
-pub marked_step : (sep : List Doc) (marks : List Bool) (at x : ℕ) (xs : List ℕ) → at < length xs → x ≡ get_or xs at x
-    → when (nat_lt 0 at) sep ++ when (get_or marks at false) (text (codes "const: ")) ++ t x
+pub marked_step : (sep : List Doc) (marks : List Bool) (at x : ℕ) (xs : List ℕ) (mark : Bool) → at < length marks → at < length xs → x ≡ get_or xs at x → mark ≡ get_or marks at mark
+    → when (nat_lt 0 at) sep ++ when mark (text (codes "const: ")) ++ t x
     ++ following sep (nat_lt 0 (at + 1)) (map (marked_docs marks) (enumerate_from (at + 1) (drop (at + 1) xs)))
     ≡ following sep (nat_lt 0 at) (map (marked_docs marks) (enumerate_from at (drop at xs)))
-marked_step sep marks at x xs h e = search (rules, lt-ltb, append_assoc, drop_item)
+marked_step sep marks at x xs mark k h e m = search (rules, lt-ltb, append_assoc, drop_item, get_or_read)
 
 pub marked_end : (sep : List Doc) (b : Bool) (marks : List Bool) (at : ℕ) (xs : List ℕ) → length xs ≤ at → [] ≡ following sep b (map (marked_docs marks) (enumerate_from at (drop at xs)))
 marked_end sep b marks at xs h = sym (ap (λ (r : List ℕ). following sep b (map (marked_docs marks) (enumerate_from at r))) (drop_all at xs h))
@@ -88,14 +92,6 @@ marked_end sep b marks at xs h = sym (ap (λ (r : List ℕ). following sep b (ma
 pub types_is : (f : FunctionParts) (places : Option (List ℕ)) (params : List ℕ) (ret : Option ℕ) → places ≡ f.legacy_const_indices → params ≡ f.params → ret ≡ f.ret_type
     → text (codes "(") ++ arguments places params ++ text (codes ")") ++ opt (λ id. text (codes " -> ") ++ t id) ret ≡ function_types f
 types_is f places params ret d e h = search rules
-
-pub no_result : (f : FunctionParts) (places : Option (List ℕ)) (params : List ℕ) → places ≡ f.legacy_const_indices → params ≡ f.params → None ≡ f.ret_type
-    → text (codes "(") ++ arguments places params ++ text (codes ")") ≡ function_types f
-no_result f places params d e h = sym (append-nil (text (codes "(") ++ arguments places params ++ text (codes ")"))) ∙ types_is f places params None d e h
-
-pub a_result : (f : FunctionParts) (places : Option (List ℕ)) (params : List ℕ) (ret : ℕ) → places ≡ f.legacy_const_indices → params ≡ f.params → Some ret ≡ f.ret_type
-    → text (codes "(") ++ arguments places params ++ text (codes ")") ++ text (codes " -> ") ++ t ret ≡ function_types f
-a_result f places params ret d e h = search (rules, append_assoc, types_is)
 
 pub type_names : (s : PrintEnv) (at : ℕ) (name : Option (List ℕ)) → type_param_docs s at (Ok name) ≡ type_name s at name
 type_names s at None = refl

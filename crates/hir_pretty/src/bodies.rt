@@ -1,10 +1,10 @@
 //! Bodies as text.
 #![tactic(auto, using(hir_pretty_docs::proofs::AddLemmas::adding))]
 
-ghost use Rattle.std.specs.Prelude.{◌≡◌, false};
-ghost use Rattle.hir_pretty_nodes.specs.Prelude.{words_of, print_env, opt, comma_joined, binding_docs, lookups_of, PrintsPieces, doc_list_pieces, Adds};
+ghost use Rattle.std.specs.Prelude.{false};
+ghost use Rattle.hir_pretty_nodes.specs.Prelude.{words_of, print_env, lookups_of, PrintsPieces, doc_list_pieces, Adds};
 ghost use Rattle.hir_body.specs.Bodies.{formals_of};
-ghost use Rattle.hir_pretty.specs.Bodies.{formal_self, formal_params, body_params, body_end, body_docs};
+ghost use Rattle.hir_pretty.specs.Bodies.{formal_self, body_params, body_end, body_docs};
 ghost use Rattle.hir_pretty.specs.FoundParts.{parents};
 
 use crate::body_heads::add_body_head;
@@ -14,48 +14,29 @@ use hir_node::{BindingId, PatId};
 use hir_pretty_nodes::{PrintFault, Printer, Token, Tokens};
 use std::alloc::Global;
 
-/// Adds the binding of `self`, where there is one.
-fn add_self(tokens: &mut Tokens<'_>, binding: Option<BindingId>)
-    ensures { Adds tokens.old.stack (λ s. opt (binding_docs s) binding) tokens.new.stack }
-{
-    match binding {
-        None => {}
-        Some(binding) => tokens.add_binding(binding),
-    }
-}
-
-/// Adds the binding of `self`, where there is one, and the formal patterns.
-fn add_all_formals(
-    tokens: &mut Tokens<'_>,
-    self_binding: Option<BindingId>,
-    params: &[Param<PatId>],
-)
-    ensures { Adds tokens.old.stack
-        (λ s. comma_joined (formal_params s self_binding (formals_of params.now))) tokens.new.stack }
-{
-    add_self(tokens, self_binding);
-    let mut after = self_binding.is_some();
-    for param in params {
-        tokens.add_if(after, ", ");
-        tokens.add(&[Token::Pattern(param.formal)]);
-        after = true;
-    }
-}
-
-/// Adds the parameters in parentheses, which only a function has.
+/// Adds the parameters in parentheses, which only a function has: the binding of `self`, where there is one,
+/// and the formal patterns.
 fn add_params(
     tokens: &mut Tokens<'_>,
     owner: &DefWithBodyId,
-    self_binding: Option<BindingId>,
+    self_param: &Option<Param<BindingId>>,
     params: &[Param<PatId>],
 )
     ensures { Adds tokens.old.stack
-        (λ s. body_params s self_binding (formals_of params.now) owner.now) tokens.new.stack }
+        (λ s. body_params s (formal_self self_param.now) (formals_of params.now) owner.now) tokens.new.stack }
 {
     match owner {
         DefWithBodyId::FunctionId(_) => {
             tokens.add(&[Token::Text("(")]);
-            add_all_formals(tokens, self_binding, params);
+            if let Some(param) = self_param {
+                tokens.add_binding(param.formal);
+            }
+            let mut after = self_param.is_some();
+            for param in params {
+                tokens.add_if(after, ", ");
+                tokens.add(&[Token::Pattern(param.formal)]);
+                after = true;
+            }
             tokens.add(&[Token::Text(") ")])
         }
         DefWithBodyId::StaticId(_) | DefWithBodyId::ConstId(_) | DefWithBodyId::VariantId(_) => {}
@@ -70,26 +51,6 @@ fn add_end(tokens: &mut Tokens<'_>, owner: &DefWithBodyId)
         DefWithBodyId::FunctionId(_) | DefWithBodyId::VariantId(_) => {}
         DefWithBodyId::StaticId(_) | DefWithBodyId::ConstId(_) => tokens.add(&[Token::Text(";")]),
     }
-}
-
-/// The binding of `self`, where there is one.
-fn formal_self(body: &Body) -> Option<BindingId>
-    ensures { result ≡ formal_self body.now.self_param }
-{
-    match body.self_param() {
-        None => None,
-        Some(param) => Some(param.formal),
-    }
-}
-
-fn add_body(tokens: &mut Tokens<'_>, tables: &Tables, body: &Body, owner: &DefWithBodyId)
-    ensures { Adds tokens.old.stack
-        (λ s. body_docs s (parents tables.now) owner.now body.now) tokens.new.stack }
-{
-    add_body_head(tokens, tables, owner);
-    add_params(tokens, owner, formal_self(body), body.params());
-    tokens.add(&[Token::Expr(body.root_expr())]);
-    add_end(tokens, owner)
 }
 
 /// The text of a body of this owner, in lines: its head with the names that the tables have, the formal
@@ -110,6 +71,10 @@ pub fn print_body_hir(
         PrintsPieces s (doc_list_pieces s (body_docs s (parents tables.now) owner body.now)) result }
 {
     let mut printer = Printer::new(alloc, body.store(), tables, edition, false);
-    add_body(&mut printer.tokens, tables, body, &owner);
+    let tokens = &mut printer.tokens;
+    add_body_head(tokens, tables, &owner);
+    add_params(tokens, &owner, &body.self_param(), body.params());
+    tokens.add(&[Token::Expr(body.root_expr())]);
+    add_end(tokens, &owner);
     printer.print()
 }

@@ -1,24 +1,15 @@
 //! What bodies and variants begin with: a keyword and names of the tables.
 #![tactic(auto, using(hir_pretty_docs::proofs::AddLemmas::adding))]
 
-ghost use Rattle.std.specs.Prelude.{◌++◌, Ok, codes};
+ghost use Rattle.std.specs.Prelude.{◌++◌, codes};
 ghost use Rattle.hir_pretty_nodes.specs.Prelude.{text, found_name, Adds};
-ghost use Rattle.hir_pretty.specs.Bodies.{variant_name, body_head, of_enum};
+ghost use Rattle.hir_pretty.specs.Bodies.{variant_name, body_head};
 ghost use Rattle.hir_pretty.specs.Variants.{variant_head};
 ghost use Rattle.hir_pretty.specs.FoundParts.{parents};
 
-use hir_base::{DefWithBodyId, EnumId, EnumVariantId, NamedDef, VariantId};
+use hir_base::{DefWithBodyId, EnumVariantId, NamedDef, VariantId};
 use hir_defs::Tables;
 use hir_pretty_nodes::{Lookup, Token, Tokens};
-
-fn add_enum(tokens: &mut Tokens<'_>, id: EnumVariantId, parent: EnumId)
-    ensures { Adds tokens.old.stack (λ s. of_enum s id (Ok parent)) tokens.new.stack }
-{
-    tokens.add(&[Token::Text("enum ")]);
-    tokens.add_named(NamedDef::EnumId(parent));
-    tokens.add(&[Token::Text("::")]);
-    tokens.add_named(NamedDef::EnumVariantId(id))
-}
 
 /// Adds the names of the variant's enum and of the variant. The enum is looked up first.
 fn add_variant_name(tokens: &mut Tokens<'_>, tables: &Tables, id: EnumVariantId)
@@ -26,7 +17,11 @@ fn add_variant_name(tokens: &mut Tokens<'_>, tables: &Tables, id: EnumVariantId)
         (λ s. variant_name s (parents tables.now) id) tokens.new.stack }
 {
     match tables.variant_parent(id) {
-        Ok(parent) => add_enum(tokens, id, parent),
+        Ok(parent) => {
+            add_keyword(tokens, "enum ", NamedDef::EnumId(parent));
+            tokens.add(&[Token::Text("::")]);
+            tokens.add_named(NamedDef::EnumVariantId(id))
+        }
         Err(missing) => tokens.add(&[Token::Missing(missing)]),
     }
 }

@@ -1,37 +1,29 @@
 //! Structs, unions and variants of enums as text, with their fields.
 #![tactic(auto, using(hir_pretty_docs::proofs::AddLemmas::adding))]
 
-ghost use Rattle.std.specs.Prelude.{◌≡◌, codes, false, IfSome, None};
-ghost use Rattle.hir_pretty_nodes.specs.Prelude.{words_of, print_env, text, join, lookups_of, PrintsPieces, doc_list_pieces, Adds};
+ghost use Rattle.std.specs.Prelude.{◌≡◌, false, IfSome, None};
+ghost use Rattle.hir_pretty_nodes.specs.Prelude.{words_of, print_env, lookups_of, PrintsPieces, doc_list_pieces, Adds};
 ghost use Rattle.hir_store_core.specs.Contents.{Contents};
-ghost use Rattle.hir_pretty.specs.Variants.{kind_word, module_docs, visibility_docs, field_line, fields_begin, fields_end, fields_docs, variant_docs, without_fields};
+ghost use Rattle.hir_pretty.specs.Variants.{module_docs, visibility_docs, field_line, fields_begin, fields_end, fields_docs, variant_docs, without_fields};
 ghost use Rattle.hir_pretty.specs.FoundParts.{parents, fields_found};
 
 use crate::body_heads::add_variant_head;
 use hir_base::{Edition, ModPath, PathKind, VariantId};
-use hir_defs::{FieldData, FieldsShape, RawVisibility, Tables, VariantFields};
+use hir_defs::{FieldData, FieldsShape, RawVisibility, Tables};
 use hir_pretty_nodes::{PrintFault, Printer, Token, Tokens, colons_first};
 use hir_store_core::{ExpressionStore, Missing};
 use std::alloc::Global;
-
-/// Adds what the path of a module begins with.
-fn add_kind(tokens: &mut Tokens<'_>, kind: PathKind)
-    ensures { Adds tokens.old.stack
-        (λ s. join (text (codes "::")) (kind_word s kind)) tokens.new.stack }
-{
-    match kind {
-        PathKind::Plain | PathKind::Abs => {}
-        PathKind::Super(times) => tokens.add_supers(times),
-        PathKind::Crate => tokens.add(&[Token::Text("crate")]),
-        PathKind::DollarCrate(_) => tokens.add(&[Token::Text("$crate")]),
-    }
-}
 
 /// Adds the path of a module: where it begins, and its names.
 fn add_module<'a>(tokens: &mut Tokens<'a>, path: &'a ModPath)
     ensures { Adds tokens.old.stack (λ s. module_docs s path.now) tokens.new.stack }
 {
-    add_kind(tokens, path.kind());
+    match path.kind() {
+        PathKind::Plain | PathKind::Abs => {}
+        PathKind::Super(times) => tokens.add_supers(times),
+        PathKind::Crate => tokens.add(&[Token::Text("crate")]),
+        PathKind::DollarCrate(_) => tokens.add(&[Token::Text("$crate")]),
+    }
     tokens.add_list(colons_first(path.kind()), "::", path.segments())
 }
 
@@ -96,19 +88,6 @@ fn add_fields<'a>(tokens: &mut Tokens<'a>, shape: FieldsShape, fields: &'a [Fiel
     add_end(tokens, shape)
 }
 
-fn add_variant<'a>(
-    tokens: &mut Tokens<'a>,
-    tables: &Tables,
-    owner: &VariantId,
-    fields: &'a VariantFields,
-)
-    ensures { Adds tokens.old.stack
-        (λ s. variant_docs s (parents tables.now) owner.now fields.now) tokens.new.stack }
-{
-    add_variant_head(tokens, tables, owner);
-    add_fields(tokens, fields.shape(), fields.fields())
-}
-
 /// Adds what is missing first where the fields are, in the head or the fields themselves.
 fn add_without_fields(tokens: &mut Tokens<'_>, tables: &Tables, owner: &VariantId)
     ensures { Adds tokens.old.stack
@@ -116,41 +95,6 @@ fn add_without_fields(tokens: &mut Tokens<'_>, tables: &Tables, owner: &VariantI
 {
     add_variant_head(tokens, tables, owner);
     tokens.add(&[Token::Missing(Missing::Fields(*owner))])
-}
-
-/// The text of a variant with these fields.
-fn print_fields(
-    alloc: Global,
-    tables: &Tables,
-    owner: &VariantId,
-    fields: &VariantFields,
-    edition: Edition,
-) -> Result<String, PrintFault>
-    ensures { let s = print_env fields.now.store (lookups_of tables.now)
-        (words_of tables.now.words edition) false in
-        PrintsPieces s (doc_list_pieces s (variant_docs s (parents tables.now) owner.now fields.now))
-        result }
-{
-    let mut printer = Printer::new(alloc, fields.store(), tables, edition, false);
-    add_variant(&mut printer.tokens, tables, owner, fields);
-    printer.print()
-}
-
-/// What is printed of a variant whose fields are missing: what is missing first.
-fn print_without_fields(
-    alloc: Global,
-    tables: &Tables,
-    owner: &VariantId,
-    edition: Edition,
-) -> Result<String, PrintFault>
-    ensures { (store : Contents) →
-        let s = print_env store (lookups_of tables.now) (words_of tables.now.words edition) false in
-        PrintsPieces s (doc_list_pieces s (without_fields s (parents tables.now) owner.now)) result }
-{
-    let store = ExpressionStore::empty(alloc);
-    let mut printer = Printer::new(alloc, &store, tables, edition, false);
-    add_without_fields(&mut printer.tokens, tables, owner);
-    printer.print()
 }
 
 /// The text of a struct, a union or a variant of an enum with the fields that the tables have, in lines. The
@@ -171,8 +115,20 @@ pub fn print_variant_body_hir(
         let s = print_env store (lookups_of tables.now) (words_of tables.now.words edition) false in
         PrintsPieces s (doc_list_pieces s (without_fields s (parents tables.now) variant)) result }
 {
-    match tables.variant_fields(variant) {
-        Ok(fields) => print_fields(alloc, tables, &variant, fields, edition),
-        Err(_) => print_without_fields(alloc, tables, &variant, edition),
+    let owner = &variant;
+    match tables.variant_fields(*owner) {
+        Ok(fields) => {
+            let mut printer = Printer::new(alloc, fields.store(), tables, edition, false);
+            let tokens = &mut printer.tokens;
+            add_variant_head(tokens, tables, owner);
+            add_fields(tokens, fields.shape(), fields.fields());
+            printer.print()
+        }
+        Err(_) => {
+            let store = ExpressionStore::empty(alloc);
+            let mut printer = Printer::new(alloc, &store, tables, edition, false);
+            add_without_fields(&mut printer.tokens, tables, owner);
+            printer.print()
+        }
     }
 }

@@ -1,11 +1,10 @@
 //! Signatures of functions as text.
 #![tactic(auto, using(hir_pretty_docs::proofs::AddLemmas::adding))]
 
-ghost use Rattle.std.specs.Prelude.{◌≡◌, ◌<◌, ◌==◌, ◌++◌, OnOk, IfOk, map, ℕ, length, Some, get_or, false, codes, option_map};
-ghost use Rattle.std.specs.List.{enumerate_from, list_any};
-ghost use Rattle.hir_pretty_nodes.specs.Prelude.{words_of, print_env, text, comma_joined, lookups_of, PrintsPieces, doc_list_pieces, Adds};
-ghost use Rattle.hir_pretty.specs.internal.AddedDocs.{marked_docs};
-ghost use Rattle.hir_pretty.specs.Signatures.{abi_docs, arguments, flags, function_head, function_types, function_docs};
+ghost use Rattle.std.specs.Prelude.{◌≡◌, ◌<◌, ◌==◌, OnOk, IfOk, ℕ, length, Some, get_or, false, option_map};
+ghost use Rattle.std.specs.List.{list_any};
+ghost use Rattle.hir_pretty_nodes.specs.Prelude.{words_of, print_env, lookups_of, PrintsPieces, doc_list_pieces, Adds};
+ghost use Rattle.hir_pretty.specs.Signatures.{abi_docs, arguments, function_docs};
 
 use crate::generics::{add_generics, add_where};
 use hir_base::{Edition, ExternAbi, FunctionId};
@@ -14,28 +13,21 @@ use hir_node::TypeRefId;
 use hir_pretty_nodes::{PrintFault, Printer, Token, Tokens};
 use std::alloc::{AllocError, Global};
 
-fn add_quoted<'a>(tokens: &mut Tokens<'a>, abi: &'a str)
-    ensures { Adds tokens.old.stack
-        (λ s. text (codes "extern \"") ++ text abi.now ++ text (codes "\" ")) tokens.new.stack }
-{
-    tokens.add(&[
-        Token::Text("extern \""),
-        Token::Text(abi),
-        Token::Text("\" "),
-    ])
-}
-
 /// Adds the calling convention, unless it is that of Rust.
 fn add_abi<'a>(tokens: &mut Tokens<'a>, abi: &'a ExternAbi)
     ensures { Adds tokens.old.stack (λ s. abi_docs abi.now) tokens.new.stack }
 {
     match abi {
         ExternAbi::Rust => {}
-        ExternAbi::C => add_quoted(tokens, abi.as_str()),
-        ExternAbi::CUnwind => add_quoted(tokens, abi.as_str()),
-        ExternAbi::System => add_quoted(tokens, abi.as_str()),
-        ExternAbi::SystemUnwind => add_quoted(tokens, abi.as_str()),
-        ExternAbi::Named(_) => add_quoted(tokens, abi.as_str()),
+        ExternAbi::C
+        | ExternAbi::CUnwind
+        | ExternAbi::System
+        | ExternAbi::SystemUnwind
+        | ExternAbi::Named(_) => tokens.add(&[
+            Token::Text("extern \""),
+            Token::Text(abi.as_str()),
+            Token::Text("\" "),
+        ]),
     }
 }
 
@@ -55,19 +47,6 @@ fn marks_of(alloc: Global, places: &[u32], count: usize) -> Result<Vec<bool>, Al
     Ok(marks)
 }
 
-/// Adds the types of arguments, each with `const: ` before it where its place is marked.
-fn add_marked(tokens: &mut Tokens<'_>, marks: &[bool], params: &[TypeRefId])
-    requires { length marks.now ≡ length params.now }
-    ensures { Adds tokens.old.stack
-        (λ s. comma_joined (map (marked_docs marks.now) (enumerate_from 0 params.now))) tokens.new.stack }
-{
-    for (at, param) in params.iter().enumerate() {
-        tokens.add_if(at > 0, ", ");
-        tokens.add_if(marks[at], "const: ");
-        tokens.add(&[Token::Type(*param)]);
-    }
-}
-
 /// Adds the types of arguments, each with `const: ` before it where its place is listed.
 fn add_arguments<'a>(
     tokens: &mut Tokens<'a>,
@@ -78,67 +57,16 @@ fn add_arguments<'a>(
     ensures { OnOk result (Adds tokens.old.stack
         (λ s. arguments (option_map (λ list. list.now) places.entry) params.now) tokens.new.stack) }
 {
-    match places {
-        None => Ok(tokens.add_joined(", ", params)),
-        Some(places) => {
-            let marks = marks_of(alloc, places, params.len())?;
-            Ok(add_marked(tokens, &marks, params))
-        }
+    let Some(places) = places else {
+        return Ok(tokens.add_joined(", ", params));
+    };
+    let marks = marks_of(alloc, places, params.len())?;
+    for (at, param) in params.iter().enumerate() {
+        tokens.add_if(at > 0, ", ");
+        tokens.add_if(marks[at], "const: ");
+        tokens.add(&[Token::Type(*param)]);
     }
-}
-
-fn add_flags(tokens: &mut Tokens<'_>, signature: &FunctionSignature)
-    ensures { Adds tokens.old.stack (λ s. flags signature.now) tokens.new.stack }
-{
-    tokens.add_if(signature.is_const(), "const ");
-    tokens.add_if(signature.is_async(), "async ");
-    tokens.add_if(signature.is_unsafe(), "unsafe ");
-    tokens.add_if(signature.is_explicit_safe(), "safe ")
-}
-
-/// Adds all up to the list of arguments.
-fn add_head<'a>(tokens: &mut Tokens<'a>, signature: &'a FunctionSignature)
-    ensures { Adds tokens.old.stack (λ s. function_head s signature.now) tokens.new.stack }
-{
-    add_flags(tokens, signature);
-    add_abi(tokens, signature.abi());
-    tokens.add(&[Token::Text("fn "), Token::Name(signature.name().as_str())]);
-    add_generics(tokens, signature.generic_params())
-}
-
-/// Adds the arguments and the return type.
-fn add_types<'a>(
-    tokens: &mut Tokens<'a>,
-    alloc: Global,
-    signature: &'a FunctionSignature,
-) -> Result<(), AllocError>
-    ensures { OnOk result (Adds tokens.old.stack (λ s. function_types signature.now) tokens.new.stack) }
-{
-    tokens.add(&[Token::Text("(")]);
-    add_arguments(
-        tokens,
-        alloc,
-        signature.legacy_const_indices(),
-        signature.params(),
-    )?;
-    tokens.add(&[Token::Text(")")]);
-    match signature.ret_type() {
-        None => Ok(()),
-        Some(ret) => Ok(tokens.add(&[Token::Text(" -> "), Token::Type(ret)])),
-    }
-}
-
-fn add_function<'a>(
-    tokens: &mut Tokens<'a>,
-    alloc: Global,
-    signature: &'a FunctionSignature,
-) -> Result<(), AllocError>
-    ensures { OnOk result (Adds tokens.old.stack (λ s. function_docs s signature.now) tokens.new.stack) }
-{
-    add_head(tokens, signature);
-    add_types(tokens, alloc, signature)?;
-    add_where(tokens, signature.generic_params().where_predicates());
-    Ok(tokens.add(&[Token::Text(" {...}"), Token::Break]))
+    Ok(())
 }
 
 /// The text of a function's signature, in lines. Which function has it makes no difference to the text. Other
@@ -159,6 +87,26 @@ pub fn print_function(
         PrintsPieces s (doc_list_pieces s (function_docs s signature.now)) result }
 {
     let mut printer = Printer::new(alloc, signature.store(), tables, edition, false);
-    add_function(&mut printer.tokens, alloc, signature)?;
+    let tokens = &mut printer.tokens;
+    tokens.add_if(signature.is_const(), "const ");
+    tokens.add_if(signature.is_async(), "async ");
+    tokens.add_if(signature.is_unsafe(), "unsafe ");
+    tokens.add_if(signature.is_explicit_safe(), "safe ");
+    add_abi(tokens, signature.abi());
+    tokens.add(&[Token::Text("fn "), Token::Name(signature.name().as_str())]);
+    add_generics(tokens, signature.generic_params());
+    tokens.add(&[Token::Text("(")]);
+    add_arguments(
+        tokens,
+        alloc,
+        signature.legacy_const_indices(),
+        signature.params(),
+    )?;
+    tokens.add(&[Token::Text(")")]);
+    if let Some(ret) = signature.ret_type() {
+        tokens.add(&[Token::Text(" -> "), Token::Type(ret)]);
+    }
+    add_where(tokens, signature.generic_params().where_predicates());
+    tokens.add(&[Token::Text(" {...}"), Token::Break]);
     printer.print()
 }

@@ -1,58 +1,36 @@
 //! Generic parameters and the predicates on them.
 #![tactic(auto, using(hir_pretty_docs::proofs::AddLemmas::adding))]
 
-ghost use Rattle.std.specs.Prelude.{◌++◌, codes, false};
+ghost use Rattle.std.specs.Prelude.{codes, false};
 ghost use Rattle.std.specs.List.{enumerate_from};
-ghost use Rattle.hir_pretty_nodes.specs.Prelude.{text, e, opt, comma_joined, Adds, following};
-ghost use Rattle.hir_pretty.specs.Signatures.{generic_param_docs, each_lifetime, each_type_or_const, each_param, generics_docs, predicate_docs, where_docs};
+ghost use Rattle.hir_pretty_nodes.specs.Prelude.{text, Adds, following};
+ghost use Rattle.hir_pretty.specs.Signatures.{generic_param_docs, each_lifetime, each_type_or_const, generics_docs, predicate_docs, where_docs};
 
 use hir_base::Name;
-use hir_defs::{
-    ConstParamData, GenericParams, LifetimeParamData, TypeOrConstParamData, TypeParamData,
-    WherePredicate,
-};
-use hir_node::ConstRef;
+use hir_defs::{GenericParams, TypeOrConstParamData, WherePredicate};
 use hir_pretty_nodes::{Part, Token, Tokens};
 
-/// Adds a type: its name or its place, and its default.
-fn add_type<'a>(tokens: &mut Tokens<'a>, at: u32, param: &'a TypeParamData)
-    ensures { Adds tokens.old.stack
-        (λ s. generic_param_docs s at (TypeOrConstParamData.TypeParamData param.now)) tokens.new.stack }
-{
-    tokens.add_param_name(at, param.name.as_ref());
-    tokens.add_after(" = ", &param.default)
-}
-
-fn add_default(tokens: &mut Tokens<'_>, default: Option<ConstRef>)
-    ensures { Adds tokens.old.stack (λ s. opt (λ d. text (codes " = ") ++ e d.expr) default)
-        tokens.new.stack }
-{
-    match default {
-        None => {}
-        Some(default) => tokens.add(&[Token::Text(" = "), Token::Expr(default.expr)]),
-    }
-}
-
-/// Adds a constant with its type and its default.
-fn add_const<'a>(tokens: &mut Tokens<'a>, at: u32, param: &'a ConstParamData)
-    ensures { Adds tokens.old.stack
-        (λ s. generic_param_docs s at (TypeOrConstParamData.ConstParamData param.now)) tokens.new.stack }
-{
-    tokens.add(&[
-        Token::Text("const "),
-        Token::Name(param.name.as_str()),
-        Token::Text(": "),
-        Token::Type(param.ty),
-    ]);
-    add_default(tokens, param.default)
-}
-
+/// Adds a type or a constant in its place, with its default.
 fn add_type_or_const<'a>(tokens: &mut Tokens<'a>, at: u32, param: &'a TypeOrConstParamData)
     ensures { Adds tokens.old.stack (λ s. generic_param_docs s at param.now) tokens.new.stack }
 {
     match param {
-        TypeOrConstParamData::TypeParamData(param) => add_type(tokens, at, param),
-        TypeOrConstParamData::ConstParamData(param) => add_const(tokens, at, param),
+        TypeOrConstParamData::TypeParamData(param) => {
+            tokens.add_param_name(at, param.name.as_ref());
+            tokens.add_after(" = ", &param.default)
+        }
+        TypeOrConstParamData::ConstParamData(param) => {
+            tokens.add(&[
+                Token::Text("const "),
+                Token::Name(param.name.as_str()),
+                Token::Text(": "),
+                Token::Type(param.ty),
+            ]);
+            match param.default {
+                None => {}
+                Some(default) => tokens.add(&[Token::Text(" = "), Token::Expr(default.expr)]),
+            }
+        }
     }
 }
 
@@ -83,18 +61,6 @@ fn add_types_and_consts<'a>(tokens: &mut Tokens<'a>, params: &'a GenericParams, 
     }
 }
 
-/// Adds all parameters in `<` and `>`.
-fn add_in_angles<'a>(tokens: &mut Tokens<'a>, params: &'a GenericParams)
-    ensures { Adds tokens.old.stack
-        (λ s. text (codes "<") ++ comma_joined (each_param s params.now) ++ text (codes ">"))
-        tokens.new.stack }
-{
-    tokens.add(&[Token::Text("<")]);
-    add_lifetimes(tokens, params);
-    add_types_and_consts(tokens, params, params.len_lifetimes() > 0);
-    tokens.add(&[Token::Text(">")])
-}
-
 /// Adds all parameters in `<` and `>`, where there are any.
 pub(crate) fn add_generics<'a>(tokens: &mut Tokens<'a>, params: &'a GenericParams)
     ensures { Adds tokens.old.stack (λ s. generics_docs s params.now) tokens.new.stack }
@@ -102,7 +68,10 @@ pub(crate) fn add_generics<'a>(tokens: &mut Tokens<'a>, params: &'a GenericParam
     if params.is_empty() {
         return;
     }
-    add_in_angles(tokens, params)
+    tokens.add(&[Token::Text("<")]);
+    add_lifetimes(tokens, params);
+    add_types_and_consts(tokens, params, params.len_lifetimes() > 0);
+    tokens.add(&[Token::Text(">")])
 }
 
 /// Adds a predicate.

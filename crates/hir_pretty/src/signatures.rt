@@ -2,13 +2,12 @@
 #![tactic(auto, using(crate::proofs::OtherLemmas::others))]
 
 ghost use Rattle.hir_pretty_nodes.specs.Prelude.{words_of, Adds};
-ghost use Rattle.hir_pretty.specs.FoundParts.{function_found, struct_found};
-ghost use Rattle.hir_pretty.specs.Owners.{PrintsFunction, PrintsStruct, PrintsOther, PrintsAdt, PrintsSignature};
+ghost use Rattle.hir_pretty.specs.Owners.{PrintsOther, PrintsSignature};
 ghost use Rattle.hir_pretty.specs.Signatures.{unimplemented_docs};
 
 use crate::functions::print_function;
 use crate::structs::print_struct;
-use hir_base::{AdtId, Edition, FunctionId, GenericDefId, StructId};
+use hir_base::{AdtId, Edition, GenericDefId};
 use hir_defs::Tables;
 use hir_pretty_nodes::{PrintFault, Printer, Token, Tokens};
 use hir_store_core::ExpressionStore;
@@ -38,51 +37,6 @@ fn print_other<'a>(
     printer.print()
 }
 
-fn print_function_of(
-    alloc: Global,
-    tables: &Tables,
-    id: FunctionId,
-    edition: Edition,
-) -> Result<String, PrintFault>
-    ensures { PrintsFunction tables.now (words_of tables.now.words edition) id
-        (function_found tables.now id) result }
-{
-    match tables.function_signature(id) {
-        Ok(signature) => print_function(alloc, tables, id, signature, edition),
-        Err(missing) => Err(PrintFault::Missing(missing)),
-    }
-}
-
-fn print_struct_of(
-    alloc: Global,
-    tables: &Tables,
-    id: StructId,
-    edition: Edition,
-) -> Result<String, PrintFault>
-    ensures { PrintsStruct tables.now (words_of tables.now.words edition) id
-        (struct_found tables.now id) result }
-{
-    match tables.struct_signature(id) {
-        Ok(signature) => print_struct(alloc, tables, id, signature, edition),
-        Err(missing) => Err(PrintFault::Missing(missing)),
-    }
-}
-
-fn print_adt(
-    alloc: Global,
-    tables: &Tables,
-    owner: AdtId,
-    edition: Edition,
-) -> Result<String, PrintFault>
-    ensures { PrintsAdt tables.now (words_of tables.now.words edition) owner result }
-{
-    match owner {
-        AdtId::StructId(id) => print_struct_of(alloc, tables, id, edition),
-        AdtId::UnionId(id) => print_other(alloc, tables, "UnionId", id.into_raw(), edition),
-        AdtId::EnumId(id) => print_other(alloc, tables, "EnumId", id.into_raw(), edition),
-    }
-}
-
 /// The text of the signature that the tables have of a definition, in lines: as `print_function` gives it of
 /// a function, and `print_struct` of a struct. Of any other it says `unimplemented`, its kind and its number,
 /// and nothing is looked up.
@@ -99,9 +53,19 @@ pub fn print_signature(
     ensures { PrintsSignature tables.now (words_of tables.now.words edition) owner result }
 {
     match owner {
-        GenericDefId::AdtId(id) => print_adt(alloc, tables, id, edition),
+        GenericDefId::AdtId(adt) => match adt {
+            AdtId::StructId(id) => match tables.struct_signature(id) {
+                Ok(signature) => print_struct(alloc, tables, id, signature, edition),
+                Err(missing) => Err(PrintFault::Missing(missing)),
+            },
+            AdtId::UnionId(id) => print_other(alloc, tables, "UnionId", id.into_raw(), edition),
+            AdtId::EnumId(id) => print_other(alloc, tables, "EnumId", id.into_raw(), edition),
+        },
         GenericDefId::ConstId(id) => print_other(alloc, tables, "ConstId", id.into_raw(), edition),
-        GenericDefId::FunctionId(id) => print_function_of(alloc, tables, id, edition),
+        GenericDefId::FunctionId(id) => match tables.function_signature(id) {
+            Ok(signature) => print_function(alloc, tables, id, signature, edition),
+            Err(missing) => Err(PrintFault::Missing(missing)),
+        },
         GenericDefId::ImplId(id) => print_other(alloc, tables, "ImplId", id.into_raw(), edition),
         GenericDefId::StaticId(id) => print_other(
             alloc,

@@ -4,7 +4,7 @@
 ghost use Rattle.std.specs.Prelude.{◌++◌, ◌∷◌, [], codes, Some, false, decimal};
 ghost use Rattle.std.specs.FinMap as map;
 ghost use Rattle.hir_pretty_nodes.specs.Prelude.{words_of, print_env, text, br, opt, when, lookups_of, PrintsPieces, doc_list_pieces, Adds};
-ghost use Rattle.hir_pretty.specs.Signatures.{repr_docs, shape_begin, shape_end, struct_head, struct_docs};
+ghost use Rattle.hir_pretty.specs.Signatures.{repr_docs, shape_begin, shape_end, struct_docs};
 
 use crate::generics::{add_generics, add_where};
 use hir_base::{Edition, StructId};
@@ -37,20 +37,17 @@ fn add_bytes(tokens: &mut Tokens<'_>, before: &'static str, bytes: Option<u64>)
     }
 }
 
-fn add_repr(tokens: &mut Tokens<'_>, repr: Repr)
-    ensures { Adds tokens.old.stack (λ s. repr_docs (Some repr)) tokens.new.stack }
-{
-    add_attribute_if(tokens, repr.c, "#[repr(C)]");
-    add_bytes(tokens, "#[repr(align(", repr.align);
-    add_bytes(tokens, "#[repr(pack(", repr.pack)
-}
-
-fn add_repr_opt(tokens: &mut Tokens<'_>, repr: Option<Repr>)
+/// Adds what is known of how a struct lies in memory.
+fn add_repr(tokens: &mut Tokens<'_>, repr: Option<Repr>)
     ensures { Adds tokens.old.stack (λ s. repr_docs repr) tokens.new.stack }
 {
     match repr {
         None => {}
-        Some(repr) => add_repr(tokens, repr),
+        Some(repr) => {
+            add_attribute_if(tokens, repr.c, "#[repr(C)]");
+            add_bytes(tokens, "#[repr(align(", repr.align);
+            add_bytes(tokens, "#[repr(pack(", repr.pack)
+        }
     }
 }
 
@@ -73,28 +70,6 @@ fn add_end(tokens: &mut Tokens<'_>, shape: FieldsShape)
     }
 }
 
-/// Adds the attributes, the name and the parameters.
-fn add_head<'a>(tokens: &mut Tokens<'a>, repr: Option<Repr>, signature: &'a StructSignature)
-    ensures { Adds tokens.old.stack (λ s. struct_head s repr signature.now) tokens.new.stack }
-{
-    add_repr_opt(tokens, repr);
-    add_attribute_if(tokens, signature.is_fundamental(), "#[fundamental]");
-    tokens.add(&[
-        Token::Text("struct "),
-        Token::Name(signature.name().as_str()),
-    ]);
-    add_generics(tokens, signature.generic_params())
-}
-
-fn add_struct<'a>(tokens: &mut Tokens<'a>, repr: Option<Repr>, signature: &'a StructSignature)
-    ensures { Adds tokens.old.stack (λ s. struct_docs s repr signature.now) tokens.new.stack }
-{
-    add_head(tokens, repr, signature);
-    add_begin(tokens, signature.shape());
-    add_where(tokens, signature.generic_params().where_predicates());
-    add_end(tokens, signature.shape())
-}
-
 /// The text of a struct's signature, in lines, after what the tables have of its representation in memory.
 /// Other definitions that it names, and parameters that a type names by their id, its own ones too, are
 /// looked up in the tables.
@@ -114,6 +89,16 @@ pub fn print_struct(
         (map.get tables.now.reprs (id ∷ [])) signature.now)) result }
 {
     let mut printer = Printer::new(alloc, signature.store(), tables, edition, false);
-    add_struct(&mut printer.tokens, tables.repr(id), signature);
+    let tokens = &mut printer.tokens;
+    add_repr(tokens, tables.repr(id));
+    add_attribute_if(tokens, signature.is_fundamental(), "#[fundamental]");
+    tokens.add(&[
+        Token::Text("struct "),
+        Token::Name(signature.name().as_str()),
+    ]);
+    add_generics(tokens, signature.generic_params());
+    add_begin(tokens, signature.shape());
+    add_where(tokens, signature.generic_params().where_predicates());
+    add_end(tokens, signature.shape());
     printer.print()
 }

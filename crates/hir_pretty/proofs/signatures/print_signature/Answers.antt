@@ -1,7 +1,13 @@
 use Rattle.hir_pretty.proofs.signatures.print_signature.Goals as goal
 
+pub returns-in-UnionId : goal.returns-in-UnionId
+returns-in-UnionId c = rw (c.in-AdtId.is, c.in-UnionId.is) (rw c.into_raw.ensures at c.print_other.ensures)
+
+pub returns-in-EnumId : goal.returns-in-EnumId
+returns-in-EnumId c = rw (c.in-AdtId.is, c.in-EnumId.is) (rw c.into_raw-in-EnumId.ensures at c.print_other-in-EnumId.ensures)
+
 pub returns-in-ConstId : goal.returns-in-ConstId
-returns-in-ConstId c = rw c.in-ConstId.is (rw c.into_raw.ensures at c.print_other.ensures)
+returns-in-ConstId c = rw c.in-ConstId.is (rw c.into_raw-in-ConstId.ensures at c.print_other-in-ConstId.ensures)
 
 pub returns-in-ImplId : goal.returns-in-ImplId
 returns-in-ImplId c = rw c.in-ImplId.is (rw c.into_raw-in-ImplId.ensures at c.print_other-in-ImplId.ensures)
