@@ -4,7 +4,7 @@ use Rattle.std.proofs.lemmas.List.{append-nil}
 use Rattle.std.proofs.lemmas.List.{Concat.flat_map-append, Elements.filter_map-append, Sums.fold-append}
 use Rattle.std.specs.FinMap as map
 use Rattle.std.specs.List.{filter_map, slice_get}
-use Rattle.std.specs.Prelude.{IsSome, IfOk, Result, Ok, Err, ◌↔◌}
+use Rattle.std.specs.Prelude.{IsSome, ◌↔◌}
 use Rattle.hir_node.specs.{ChildCalls.Call, ChildCalls.pat_calls, Runs.Runs, Runs.no_call, Runs.a_call}
 use Rattle.hir_node.specs.declared.{expr.Expr.Expr, node_id.NodeId.NodeId, pat.Pat.Pat}
 use Rattle.hir_validate.specs.{Recursion.RankDecreases}
@@ -99,10 +99,5 @@ pub are_by_length : (b : BodyContents) (code : Code) (closure scope : ℕ) (foun
     found ≡ captures_by (chain_in code.scopes.now) b.store closure
 unfolding uses_in
 are_by_length b code closure scope found same out is e = search (rules, append-nil)
-
--- two facts on what was returned are one
-pub ok_both : {X E : Type 0} (r : Result X E) (P Q R : X → Type 0) → ((x : X) → P x → Q x → R x) → IfOk r P → IfOk r Q → IfOk r R
-ok_both (Ok x) P Q R f p q = f x p q
-ok_both (Err e) P Q R f p q = tt
 
 pub ruleset reads = (read_expr, read_pat)

@@ -1,10 +1,9 @@
 //! The reading of a closure's code: one loop over what is still to be read.
 #![tactic(auto, using(crate::proofs::ReadLemmas::reads))]
 
-ghost use Rattle.std.specs.Prelude.{◌≡◌, ◌<◌, ◌∷◌, length, None, Some, Err, OnOk, OnErr};
-ghost use Rattle.hir_node.specs.declared.node_id.NodeId.TheVariants as node;
+ghost use Rattle.std.specs.Prelude.{◌≡◌, ◌<◌, ◌∷◌, None, Some, Err, OnOk, OnErr};
 ghost use Rattle.hir_scope.specs.PathResolution.{local_name};
-ghost use Rattle.hir_captures.specs.Uses.{if_assignment, use_of, uses_at};
+ghost use Rattle.hir_captures.specs.Uses.{if_assignment, use_of};
 ghost use Rattle.hir_captures.specs.internal.Pending.{AreInRange, pat_task};
 ghost use Rattle.hir_captures.specs.internal.Reading.{with_uses, with_code, ReadsTask};
 
@@ -52,53 +51,11 @@ impl<'a> Code<'a> {
             (use_of hygiene expr (local_name path.now))) }
         ensures memory { OnErr result (result ≡ Err CapturesFault.Memory) }
     {
-        let Some(name) = local_name(path) else {
-            return Ok(());
-        };
-        let Some(scope) = self.scopes.scope_for(expr) else {
-            return Ok(());
-        };
-        match captured_binding(self.scopes, scope, name, hygiene, self.outermost) {
-            Some(binding) => {
-                found.add(binding)?;
-                Ok(())
-            }
-            None => Ok(()),
-        }
-    }
-
-    /// Adds the binding that an expression itself captures: where it is a path, it is resolved in its own
-    /// chain.
-    fn ask_expr(&self, found: &mut DistinctBindings, id: ExprId) -> Result<(), CapturesFault>
-        requires in_range { id < length self.now.store.now.nodes.exprs }
-        ensures found { OnOk result (found.new ≡ with_uses self.now found.old
-            (uses_at self.now.store.now (node.Expr id) None)) }
-        ensures memory { OnErr result (result ≡ Err CapturesFault.Memory) }
-    {
-        if let Expr::Path(path) = &self.store[id] {
-            return self.ask(found, id, path, self.store.expr_path_hygiene(id));
-        }
-        Ok(())
-    }
-
-    /// Adds the binding that a pattern captures: where it is a path in the target of an assignment, it is
-    /// resolved in the assignment's chain.
-    fn ask_pat(
-        &self,
-        found: &mut DistinctBindings,
-        id: PatId,
-        assignment: Option<ExprId>,
-    ) -> Result<(), CapturesFault>
-        requires in_range { id < length self.now.store.now.nodes.pats }
-        ensures found { OnOk result (found.new ≡ with_uses self.now found.old
-            (uses_at self.now.store.now (node.Pat id) assignment)) }
-        ensures memory { OnErr result (result ≡ Err CapturesFault.Memory) }
-    {
-        let Some(assignment) = assignment else {
-            return Ok(());
-        };
-        if let Pat::Path(path) = &self.store[id] {
-            return self.ask(found, assignment, path, self.store.pat_path_hygiene(id));
+        if let Some(name) = local_name(path)
+            && let Some(scope) = self.scopes.scope_for(expr)
+            && let Some(id) = captured_binding(self.scopes, scope, name, hygiene, self.outermost)
+        {
+            found.add(id)?;
         }
         Ok(())
     }
@@ -117,12 +74,13 @@ impl<'a> Code<'a> {
     {
         self.store.has_no_fault();
         rank_decreases();
-        self.ask_expr(found, id)?;
         let expr = &self.store[id];
+        if let Expr::Path(path) = expr {
+            self.ask(found, id, path, self.store.expr_path_hygiene(id))?;
+        }
         let _borrowed: BorrowedByForm<'_> = None;
         let form = Form::of_expr(expr);
-        unread.push_in(&form, if_assignment(id, expr))?;
-        Ok(())
+        unread.push_in(&form, if_assignment(id, expr))
     }
 
     /// Reads a pattern, which is in the target of this assignment, or in none: what is in it comes next.
@@ -141,32 +99,14 @@ impl<'a> Code<'a> {
     {
         self.store.has_no_fault();
         rank_decreases();
-        // (a copy: the prover's borrow checker takes an option that was passed on for one without a value)
-        let target = assignment;
-        self.ask_pat(found, id, assignment)?;
+        if let Some(assignment) = assignment
+            && let Pat::Path(path) = &self.store[id]
+        {
+            self.ask(found, assignment, path, self.store.pat_path_hygiene(id))?;
+        }
         let _borrowed: BorrowedByForm<'_> = None;
         let form = Form::of_pat(&self.store[id]);
-        unread.push_in(&form, target)?;
-        Ok(())
-    }
-
-    /// Reads the node of one task.
-    fn read(
-        &self,
-        unread: &mut Tasks,
-        found: &mut DistinctBindings,
-        task: Task,
-    ) -> Result<(), CapturesFault>
-        requires in_range { AreInRange self.now.store.now.nodes (task ∷ unread.old.stack.items) }
-        ensures reads { OnOk result (ReadsTask self.now found.old (task ∷ unread.old.stack.items)
-            found.new unread.new.stack.items) }
-        ensures memory { OnErr result (result ≡ Err CapturesFault.Memory) }
-    {
-        match task {
-            Task::Expr(id) => self.read_expr(unread, found, id),
-            Task::Pat(id) => self.read_pat(unread, found, id, None),
-            Task::Target(id, assignment) => self.read_pat(unread, found, id, Some(assignment)),
-        }
+        unread.push_in(&form, assignment)
     }
 
     /// Reads all nodes that are still to be read, and adds the bindings that they capture.
@@ -180,7 +120,11 @@ impl<'a> Code<'a> {
         ensures memory { OnErr result (result ≡ Err CapturesFault.Memory) }
     {
         while let Some(task) = unread.stack.pop() {
-            self.read(unread, found, task)?;
+            match task {
+                Task::Expr(id) => self.read_expr(unread, found, id)?,
+                Task::Pat(id) => self.read_pat(unread, found, id, None)?,
+                Task::Target(id, assignment) => self.read_pat(unread, found, id, Some(assignment))?,
+            }
         }
         Ok(())
     }
