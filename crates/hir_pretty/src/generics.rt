@@ -10,7 +10,7 @@ use hir_base::Name;
 use hir_defs::{GenericParams, TypeOrConstParamData, WherePredicate};
 use hir_pretty_nodes::{Part, Token, Tokens};
 
-/// Adds a type or a constant in its place, with its default.
+/// Adds a type, by its name or its place, or a constant with its type, and then the default.
 fn add_type_or_const<'a>(tokens: &mut Tokens<'a>, at: u32, param: &'a TypeOrConstParamData)
     ensures { Adds tokens.old.stack (λ s. generic_param_docs s at param.now) tokens.new.stack }
 {
