@@ -9,7 +9,7 @@ use Rattle.std.specs.{List.filter, List.list_any}
 use Rattle.std.specs.Ordering.{nat_cmp, eq_by_cmp, is_eq, MatchOrdering}
 use Rattle.std.specs.{Option.unwrap_or, Prelude.not, Prelude.is_some, Prelude.◌||◌, declared.cmp.Ordering.Ordering}
 use Rattle.hir_captures.specs.Captures.{with_new}
-use Rattle.hir_usages.specs.Usages.{FoundUsages, resolves_to, is_binding, usages_of, unresolved_in, is_unused, unused_among}
+use Rattle.hir_usages.specs.Usages.{resolves_to, usages_of, unresolved_in, is_unused, unused_among}
 use Rattle.hir_usages.specs.declared.usage.Usage.{Usage}
 use Rattle.hir_usages.specs.Groups.{AreGroups, or_none}
 use Rattle.std.proofs.lemmas.Grind.{common_steps}

@@ -12,7 +12,7 @@ use Rattle.hir_collections.specs.Stacks.{Defers}
 use Rattle.hir_collections.proofs.DeferredLemmas.{defers_none, defers_two}
 use Rattle.hir_scope.specs.ScopingForms.{form_of, form_at, expr_form, pat_form, type_form}
 use Rattle.hir_scope.specs.{Order.met_in_form, Scopes.Scopes}
-use Rattle.hir_scope.specs.PathResolution.{local_name, resolve_path, resolved_by_expr, binding_at, target_binding_at}
+use Rattle.hir_scope.specs.PathResolution.{local_name, resolve_path, binding_at, target_binding_at}
 use Rattle.hir_store_core.specs.SideTables.{hygiene_of}
 use Rattle.hir_captures.specs.Uses.{Spot, spot, if_assignment, assignment_at}
 use Rattle.hir_path.specs.declared.path.Path.{Path}

@@ -1,4 +1,4 @@
-use Rattle.std.proofs.Common.{true, false, arith, rules}
+use Rattle.std.proofs.Common.{arith, rules}
 use Rattle.std.proofs.lemmas.Grind.{common_steps}
 use Rattle.hir_usages.proofs.GroupLemmas.{is_unused_where, is_used_where, unused_more}
 use Rattle.hir_usages.proofs.groups.Groups.unused.Goals as goal
