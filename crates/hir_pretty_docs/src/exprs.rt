@@ -6,9 +6,11 @@ ghost use Rattle.hir_node.specs.declared.expr.Expr.TheVariants as of_expr;
 ghost use Rattle.hir_pretty_docs.specs.Prelude.{text, operand, arguments, ending_docs, exprs_docs, array_docs, expr_docs, Adds};
 
 use crate::{Ending, Part, Token, Tokens};
-use hir_base::ExprPrecedence;
+use hir_base::{ExprPrecedence, Name};
 use hir_collections::Boxed;
-use hir_node::{Array, Expr, ExprId, Path, Rawness, RecordLitField, RecordSpread, Unsafe};
+use hir_node::{
+    Array, Expr, ExprId, GenericArgs, MatchArm, Path, Rawness, RecordLitField, RecordSpread, Unsafe,
+};
 
 impl<'a> Tokens<'a> {
     /// Adds what comes after a keyword such as `return`.
@@ -61,6 +63,42 @@ impl<'a> Tokens<'a> {
         self.add(&[Token::Text("("), Token::Indent]);
         self.add_exprs(Ending::Line, args);
         self.add(&[Token::Outdent, Token::Text(")")])
+    }
+
+    // This and `add_match` are called once, for speed: within `add_expr` they make its frame larger, and a print
+    // takes 3 % more instructions.
+    fn add_method_call(
+        &mut self,
+        receiver: ExprId,
+        name: &'a Name,
+        args: &'a [ExprId],
+        generic_args: &'a Option<Boxed<GenericArgs>>,
+    )
+        ensures { Adds self.old.stack
+            (λ s. expr_docs s (of_expr.MethodCall receiver name.now args.now generic_args.now))
+            self.new.stack }
+    {
+        self.add(&[
+            Token::ExprIn(receiver, ExprPrecedence::Postfix),
+            Token::Text("."),
+            Token::Name(name.as_str()),
+        ]);
+        self.add_turbofish(generic_args.as_ref().map(Boxed::get));
+        self.add_arguments(args)
+    }
+
+    fn add_match(&mut self, expr: ExprId, arms: &'a [MatchArm])
+        ensures { Adds self.old.stack
+            (λ s. expr_docs s (of_expr.Match expr arms.now)) self.new.stack }
+    {
+        self.add(&[
+            Token::Text("match "),
+            Token::Expr(expr),
+            Token::Text(" {"),
+            Token::Indent,
+        ]);
+        self.add_each(arms, &[]);
+        self.add(&[Token::Outdent, Token::Text("}"), Token::Break])
     }
 
     fn add_record_lit(&mut self, path: &'a Path, fields: &'a [RecordLitField], spread: RecordSpread)
@@ -161,25 +199,8 @@ impl<'a> Tokens<'a> {
                 method_name,
                 args,
                 generic_args,
-            } => {
-                self.add(&[
-                    Token::ExprIn(*receiver, ExprPrecedence::Postfix),
-                    Token::Text("."),
-                    Token::Name(method_name.as_str()),
-                ]);
-                self.add_turbofish(generic_args.as_ref().map(Boxed::get));
-                self.add_arguments(args.as_slice())
-            }
-            Expr::Match { expr, arms } => {
-                self.add(&[
-                    Token::Text("match "),
-                    Token::Expr(*expr),
-                    Token::Text(" {"),
-                    Token::Indent,
-                ]);
-                self.add_each(arms.as_slice(), &[]);
-                self.add(&[Token::Outdent, Token::Text("}"), Token::Break])
-            }
+            } => self.add_method_call(*receiver, method_name, args.as_slice(), generic_args),
+            Expr::Match { expr, arms } => self.add_match(*expr, arms.as_slice()),
             Expr::Continue { label } => {
                 self.add(&[Token::Text("continue")]);
                 self.add_after(" ", label)

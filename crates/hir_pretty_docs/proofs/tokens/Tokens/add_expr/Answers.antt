@@ -16,15 +16,8 @@ returns-in-Loop c = rw c.in-Loop.is (adds_more c.add_before.ensures c.add-in-Loo
 pub returns-in-Call : goal.returns-in-Call
 returns-in-Call c = rw c.in-Call.is (adds_then (adds c.add-in-Call.ensures (λ s. refl)) (rw c.as_slice-in-Call.ensures at c.add_arguments.ensures))
 
-pub returns-in-MethodCall : goal.returns-in-MethodCall
-returns-in-MethodCall c =
-    let args : option_copied c.map.result ≡ c.in-MethodCall.generic_args = search rules in
-    rw c.in-MethodCall.is (adds_then (adds_then (adds (rw c.as_str.ensures at c.add-in-MethodCall.ensures) (λ s. refl))
-    (rw args at c.add_turbofish.ensures)) (rw c.as_slice-in-MethodCall.ensures at c.add_arguments-in-MethodCall.ensures))
-
 pub returns-in-Match : goal.returns-in-Match
-returns-in-Match c = rw c.in-Match.is (adds_more (adds_then (adds c.add-in-Match.ensures (λ s. refl))
-    (rw c.as_slice-in-Match.ensures at c.add_each.ensures)) c.add-in-Match-2.ensures)
+returns-in-Match c = rw c.in-Match.is (rw c.as_slice-in-Match.ensures at c.add_match.ensures)
 
 pub returns-in-Continue : goal.returns-in-Continue
 returns-in-Continue c = rw c.in-Continue.is (adds_then (adds c.add-in-Continue.ensures (λ s. refl)) c.add_after-in-Continue.ensures)
