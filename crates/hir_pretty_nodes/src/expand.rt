@@ -2,13 +2,14 @@
 
 ghost use Rattle.std.specs.Prelude.{◌≡◌, true, OnOk, slice_get};
 ghost use Rattle.hir_node.specs.declared.node_id.NodeId.TheVariants as node;
+ghost use Rattle.hir_pretty_docs.specs.declared.token.Token.TheVariants as tokens;
 ghost use Rattle.hir_pretty_nodes.specs.Prelude.{PrintEnv, docs_of, stands_in_parentheses, precedence_found, coroutine_body, is_short, DocsDecrease, is_node, env_of, stacked, ExpandsToken, AddsIn};
 
 use crate::names::{is_printed, write_name};
 use crate::{Printer, Token, Tokens};
 use hir_base::ExprPrecedence;
 use hir_collections::Text;
-use hir_node::{BindingAnnotation, ClosureKind, Expr, ExprId, Pat, RecordFieldPat};
+use hir_node::{BindingAnnotation, ClosureKind, Expr, ExprId, GenericArgs, Pat, RecordFieldPat};
 use hir_pretty_layout::PieceWriter;
 use hir_store_core::ExpressionStore;
 use std::alloc::AllocError;
@@ -75,8 +76,20 @@ fn add_expr<'a>(tokens: &mut Tokens<'a>, store: &'a ExpressionStore, id: ExprId)
 }
 
 impl<'a, W: PieceWriter> Printer<'a, W> {
-    /// Adds what a node expands to. The name of a field and the first text of generic arguments are written
-    /// at once, so that less is added than they are.
+    /// Adds generic arguments in `::<` and `>`. The first text is written at once, so that less is added than
+    /// they are.
+    // Called once, for speed: within `expand` it makes each node that is printed take more instructions.
+    fn add_generic_args(&mut self, args: &'a GenericArgs) -> Result<(), AllocError>
+        ensures { OnOk result (ExpandsToken W.step (tokens.GenericArgs args.entry)
+            (stacked self.old) (stacked self.new)) }
+    {
+        self.writer.text("::<")?;
+        self.tokens.add_args(args);
+        self.tokens.add(&[Token::Text(">")]);
+        Ok(())
+    }
+
+    /// Adds what a node expands to. The name of a field is written at once, so that less is added than it is.
     pub(crate) fn expand(&mut self, token: &Token<'a>) -> Result<(), AllocError>
         requires node { is_node token.now ≡ true }
         requires fall { DocsDecrease (env_of self.old) }
@@ -111,11 +124,7 @@ impl<'a, W: PieceWriter> Printer<'a, W> {
                 let pattern = Token::Pattern(field.pat);
                 Ok(self.tokens.add(&[Token::Text(": "), pattern]))
             }
-            Token::GenericArgs(args) => {
-                self.writer.text("::<")?;
-                self.tokens.add_args(*args);
-                Ok(self.tokens.add(&[Token::Text(">")]))
-            }
+            Token::GenericArgs(args) => self.add_generic_args(*args),
             _ => unreachable!(),
         }
     }

@@ -1,6 +1,6 @@
-use Rattle.hir_pretty_nodes.proofs.Common.{◌∷◌, [], ◌++◌, map, ap, sym, ◌∙◌, refl, arith, codes, slice_get, ExprDoc, text, p}
+use Rattle.hir_pretty_nodes.proofs.Common.{◌∷◌, [], ◌++◌, map, ap, sym, ◌∙◌, refl, codes, slice_get, ExprDoc, text, p}
 use Rattle.hir_pretty_nodes.proofs.Common.{when, name_docs, name_parts, pat_docs, type_docs, docs_of, enclose, env_of, lookups_of}
-use Rattle.hir_pretty_nodes.proofs.Common.{adds, adds_more, adds_at, at_none, at_as, at_then, at_found, at_absent, not_there}
+use Rattle.hir_pretty_nodes.proofs.Common.{adds, adds_at, at_none, at_as, at_then, at_found, at_absent, not_there}
 use Rattle.hir_pretty_nodes.proofs.Common.{written_then, name_printed, name_size, expr_gives, first_gives, under_gives}
 use Rattle.hir_pretty_nodes.proofs.Common.{pattern_gives, type_gives}
 use Rattle.std.proofs.Common.{not}
@@ -76,8 +76,3 @@ returns-else-is_short g c =
     (rw c.as_str.ensures at c.in_ok-write_name-in-FieldPat.ensures) refl
     (adds_at (adds {is = λ t. text (codes ": ") ++ p f.pat} c.add.ensures (λ t. refl)) s)
     (ap (λ b. name_docs s f.name ++ when (not b) (text (codes ": ") ++ p f.pat)) (sym (c.is_short.ensures s refl refl) ∙ c.if-is_short.false)) (name_size s f.name))
-
-pub returns-in_ok-text-in-GenericArgs : goal.returns-in_ok-text-in-GenericArgs
-returns-in_ok-text-in-GenericArgs g c =
-    rw c.in-GenericArgs.is (written_then (text (codes "::<")) (Text (codes "::<") ∷ []) refl c.in_ok-text-in-GenericArgs.ensures.ok refl
-    (adds_at (adds_more c.add_args.ensures c.add-in-GenericArgs.ensures) (env_of c.args.self.now)) refl (omega arith))
